@@ -1,0 +1,37 @@
+-- A buffer with a new beginning (`overwrite`): its length, its elements, and one more element written.
+use mathlib.Core.Path.{_≡_, refl, sym, _∙_, ap}
+use mathlib.Core.List.{List, [], _∷_, _++_}
+use Prim.Native.Nat.{ℕ, zero, suc, _+_, _<_, _≤_}
+use native.Mathlib.Omega.{arith}
+use lib.ListN.{length, getD, drop, set}
+use Rattle.terms.specs.Calls.{overwrite}
+
+pub overwrite-length : (new old : List ℕ) → length (overwrite new old) ≡ length old
+unfolding overwrite
+overwrite-length [] old = refl
+overwrite-length (x ∷ new) [] = refl
+overwrite-length (x ∷ new) (y ∷ old) = ap suc (overwrite-length new old)
+
+-- where there is room, the new beginning stands before the rest
+pub overwrite-fits : (new old : List ℕ) → length new ≤ length old → overwrite new old ≡ new ++ drop (length new) old
+unfolding overwrite
+overwrite-fits [] old h = refl
+overwrite-fits (x ∷ new) [] h = absurd (omega arith)
+overwrite-fits (x ∷ new) (y ∷ old) h = ap (λ (l : List ℕ). x ∷ l) (overwrite-fits new old (omega arith))
+
+pub overwrite-read : (new old : List ℕ) (i : ℕ) → i < length new → i < length old → getD (overwrite new old) i 0 ≡ getD new i 0
+unfolding overwrite
+overwrite-read [] old i h l = absurd (omega arith)
+overwrite-read (x ∷ new) [] i h l = absurd (omega arith)
+overwrite-read (x ∷ new) (y ∷ old) zero h l = refl
+overwrite-read (x ∷ new) (y ∷ old) (suc i) h l = overwrite-read new old i (omega arith) (omega arith)
+
+-- one element more is a store behind the beginning
+pub overwrite-more : (new old : List ℕ) (x : ℕ) (n : ℕ) → length new ≡ n → set (overwrite new old) n x ≡ overwrite (new ++ (x ∷ [])) old
+unfolding overwrite
+overwrite-more [] [] x zero e = refl
+overwrite-more [] (y ∷ old) x zero e = refl
+overwrite-more [] old x (suc n) e = absurd (omega arith)
+overwrite-more (z ∷ new) old x zero e = absurd (omega arith)
+overwrite-more (z ∷ new) [] x (suc n) e = refl
+overwrite-more (z ∷ new) (y ∷ old) x (suc n) e = ap (λ (l : List ℕ). z ∷ l) (overwrite-more new old x n (omega arith))

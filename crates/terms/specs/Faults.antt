@@ -1,0 +1,157 @@
+-- Which rule of document 01's table ("Where a call stops", numbers 11 to 18) a term table breaks first.
+-- Each number is one definition, over the rows t of the table and the number r of a row.
+use mathlib.Core.Bool.{Bool, true, false, not, _||_, cond}
+use mathlib.Core.List.{List}
+use Prim.Native.Nat.{ℕ, zero, suc, _%_}
+use lib.Dec.{eqb, ltb}
+use lib.ListN.{length, take}
+use Rattle.terms.specs.declared.Row.{Row}
+use Rattle.terms.specs.declared.Fault.{Fault}
+use Rattle.terms.specs.declared.Fault.the-variants.{Accepted, Shape, Kind, Unused, Named, Width, Bounds, Count, Sides}
+use Rattle.terms.specs.Table.{rowsOf, rowAt, byKind, widthOf, countKind, bitsOf}
+
+abbrev pub nonzero : ℕ → Bool
+nonzero n = not (eqb n 0)
+
+-- 11: over 512 rows, or lent as numbers that are not whole rows
+unfoldable pub breaks11 : List ℕ → Bool
+breaks11 numbers = nonzero (length numbers % 4) || ltb 512 (length (rowsOf numbers))
+
+-- 12: kind above 4
+unfoldable pub breaks12 : List Row → ℕ → Bool
+breaks12 t r = ltb 4 (rowAt t r .kind)
+
+-- 13: unused column not 0
+unfoldable pub unusedColumn : Row → Bool
+unusedColumn row =
+    byKind (row .kind)
+    (nonzero (row .b) || nonzero (row .c))
+    (nonzero (row .c))
+    (nonzero (row .c))
+    false
+    (nonzero (row .c))
+
+unfoldable pub breaks13 : List Row → ℕ → Bool
+breaks13 t r = unusedColumn (rowAt t r)
+
+-- 14: a named row is not earlier, or is an equation
+unfoldable pub notTerm : List Row → ℕ → ℕ → Bool
+notTerm t r x = not (ltb x r) || eqb (rowAt t x .kind) 4
+
+unfoldable pub misnamed : List Row → ℕ → Row → Bool
+misnamed t r row =
+    byKind (row .kind)
+    false
+    false
+    (notTerm t r (row .a) || notTerm t r (row .b))
+    (notTerm t r (row .a))
+    (notTerm t r (row .a) || notTerm t r (row .b))
+
+unfoldable pub breaks14 : List Row → ℕ → Bool
+breaks14 t r = misnamed t r (rowAt t r)
+
+-- 15: width of any row but a cut outside 1 to 1,024, or a fill's bit above 1
+unfoldable pub outside : ℕ → Bool
+outside width = eqb width 0 || ltb 1024 width
+
+unfoldable pub wrongWidth : Row → ℕ → Bool
+wrongWidth row width =
+    byKind (row .kind)
+    (outside width)
+    (outside width || ltb 1 (row .a))
+    (outside width)
+    false
+    false
+
+unfoldable pub breaks15 : List Row → ℕ → Bool
+breaks15 t r = wrongWidth (rowAt t r) (widthOf t r)
+
+-- 16: cut: high not below the width, or low above high
+unfoldable pub wrongBounds : Row → ℕ → Bool
+wrongBounds row width =
+    byKind (row .kind)
+    false
+    false
+    false
+    (not (ltb (row .b) width) || ltb (row .b) (row .c))
+    false
+
+unfoldable pub breaks16 : List Row → ℕ → Bool
+breaks16 t r = wrongBounds (rowAt t r) (widthOf t (rowAt t r .a))
+
+-- 17: variable or equation beyond its maximum, or variable bits beyond 4,096, counting the rows up to r
+unfoldable pub tooMany : ℕ → ℕ → ℕ → Bool
+tooMany variables bits equations = ltb 64 variables || ltb 4096 bits || ltb 64 equations
+
+unfoldable pub breaks17 : List Row → ℕ → Bool
+breaks17 t r = tooMany (countKind 0 (take (suc r) t)) (bitsOf (take (suc r) t)) (countKind 4 (take (suc r) t))
+
+-- 18: sides of unequal width
+unfoldable pub unequalSides : Row → ℕ → ℕ → Bool
+unequalSides row left right = byKind (row .kind) false false false false (not (eqb left right))
+
+unfoldable pub breaks18 : List Row → ℕ → Bool
+breaks18 t r = unequalSides (rowAt t r) (widthOf t (rowAt t r .a)) (widthOf t (rowAt t r .b))
+
+-- The fault of row r, in document 01's order, where each test says whether the row breaks that rule.
+unfoldable pub firstRule : ℕ → Bool → Bool → Bool → Bool → Bool → Bool → Bool → Fault
+firstRule r b12 b13 b14 b15 b16 b17 b18 =
+    cond b12 (Kind r)
+    (cond b13 (Unused r)
+    (cond b14 (Named r)
+    (cond b15 (Width r)
+    (cond b16 (Bounds r)
+    (cond b17 (Count r)
+    (cond b18 (Sides r)
+    Accepted))))))
+
+unfoldable pub faultAt : List Row → ℕ → Fault
+faultAt t r =
+    firstRule r
+    (breaks12 t r)
+    (breaks13 t r)
+    (breaks14 t r)
+    (breaks15 t r)
+    (breaks16 t r)
+    (breaks17 t r)
+    (breaks18 t r)
+
+abbrev pub isAccepted : Fault → Bool
+isAccepted Accepted = true
+isAccepted Shape = false
+isAccepted (Kind r) = false
+isAccepted (Unused r) = false
+isAccepted (Named r) = false
+isAccepted (Width r) = false
+isAccepted (Bounds r) = false
+isAccepted (Count r) = false
+isAccepted (Sides r) = false
+
+-- The fault of the lowest row that breaks a rule, of n rows from row r on.
+unfoldable pub lowestFault : List Row → ℕ → ℕ → Fault
+lowestFault t r zero = Accepted
+lowestFault t r (suc n) = cond (isAccepted (faultAt t r)) (lowestFault t (suc r) n) (faultAt t r)
+
+-- The first fault of a table: 11, else that of the lowest row that breaks a rule.
+unfoldable pub firstFault : List ℕ → Fault
+firstFault numbers = cond (breaks11 numbers) Shape (lowestFault (rowsOf numbers) 0 (length (rowsOf numbers)))
+
+-- What the check finds with room for so many widths: below 512 it takes no table.
+unfoldable pub faultIn : ℕ → List ℕ → Fault
+faultIn room numbers = cond (ltb room 512) Shape (firstFault numbers)
+
+-- How many of n rows stand before a fault. A table of the wrong shape has none.
+abbrev pub rowsBefore : Fault → ℕ → ℕ
+rowsBefore Accepted n = n
+rowsBefore Shape n = 0
+rowsBefore (Kind r) n = r
+rowsBefore (Unused r) n = r
+rowsBefore (Named r) n = r
+rowsBefore (Width r) n = r
+rowsBefore (Bounds r) n = r
+rowsBefore (Count r) n = r
+rowsBefore (Sides r) n = r
+
+-- The rows that the check passes: all of them, or those before the fault.
+unfoldable pub rowsPassed : ℕ → List ℕ → List Row
+rowsPassed room numbers = take (rowsBefore (faultIn room numbers) (length (rowsOf numbers))) (rowsOf numbers)

@@ -1,0 +1,4 @@
+pub mod Table
+pub mod Faults
+pub mod Assignments
+pub mod Calls

@@ -1,0 +1,128 @@
+-- What a term table means (document 01, "The term table"): its rows, their widths and values, and when an
+-- assignment satisfies it. The bits of a word stand high end first.
+use mathlib.Core.Bool.{Bool, true, false, _&&_, cond}
+use mathlib.Core.List.{List, [], _∷_, _++_}
+use Prim.Native.Nat.{ℕ, zero, suc, _+_, _-_}
+use lib.Dec.{eqb}
+use lib.ListN.{length, getD, take, drop, replicate}
+use Rattle.terms.specs.declared.Row.{Row}
+
+-- The numbers of a table as rows of kind, a, b, c.
+unfoldable pub rowsOf : List ℕ → List Row
+rowsOf [] = []
+rowsOf (k ∷ []) = []
+rowsOf (k ∷ a ∷ []) = []
+rowsOf (k ∷ a ∷ b ∷ []) = []
+rowsOf (k ∷ a ∷ b ∷ c ∷ t) = record { kind = k; a = a; b = b; c = c } ∷ rowsOf t
+
+-- What is read past the end of a table.
+abbrev pub noRow : Row
+noRow = record { kind = 0; a = 0; b = 0; c = 0 }
+
+-- Row r of a table.
+abbrev pub rowAt : List Row → ℕ → Row
+rowAt t r = getD t r noRow
+
+-- What goes with a kind: 0 a variable, 1 a constant (fill), 2 a concatenation (join), 3 an extraction (cut),
+-- 4 an equation.
+unfoldable pub byKind : {A : Type 0} → ℕ → A → A → A → A → A → A
+byKind zero variable constant concat extraction equation = variable
+byKind (suc zero) variable constant concat extraction equation = constant
+byKind (suc (suc zero)) variable constant concat extraction equation = concat
+byKind (suc (suc (suc zero))) variable constant concat extraction equation = extraction
+byKind (suc (suc (suc (suc k)))) variable constant concat extraction equation = equation
+
+-- A list with one element for each row, from the first row on: `next` makes the element of the rows before the
+-- row, of their elements, and of the row.
+unfoldable pub byRows : {A : Type 0} → (List Row → List A → Row → A) → List Row → List A → List Row → List A
+byRows next before made [] = made
+byRows next before made (r ∷ rs) = byRows next (before ++ (r ∷ [])) (made ++ (next before made r ∷ [])) rs
+
+-- A row's width, from the widths ws of the rows before it. An equation has none.
+unfoldable pub widthIn : List ℕ → Row → ℕ
+widthIn ws r =
+    byKind (r .kind)
+    (r .a)
+    (r .b)
+    (getD ws (r .a) 0 + getD ws (r .b) 0)
+    (r .b + 1 - r .c)
+    0
+
+-- The widths of the rows of a table.
+unfoldable pub widthsOf : List Row → List ℕ
+widthsOf t = byRows (λ before ws r. widthIn ws r) [] [] t
+
+abbrev pub widthOf : List Row → ℕ → ℕ
+widthOf t r = getD (widthsOf t) r 0
+
+-- The variable bits of one row, and of rows together. An assignment (pattern) of a table has so many bits.
+unfoldable pub bitsIn : Row → ℕ
+bitsIn r = byKind (r .kind) (r .a) 0 0 0 0
+
+unfoldable pub bitsOf : List Row → ℕ
+bitsOf [] = 0
+bitsOf (r ∷ rs) = bitsIn r + bitsOf rs
+
+-- For each row, how many variable bits the rows before it have. That is a variable's first place in an assignment.
+unfoldable pub startsOf : List Row → List ℕ
+startsOf t = byRows (λ before starts r. bitsOf before) [] [] t
+
+-- How many rows are of one kind.
+unfoldable pub countKind : ℕ → List Row → ℕ
+countKind k [] = 0
+countKind k (r ∷ rs) = cond (eqb (r .kind) k) 1 0 + countKind k rs
+
+-- Bits high down to low of a word.
+unfoldable pub extract : List ℕ → ℕ → ℕ → List ℕ
+extract word high low = take (high + 1 - low) (drop (length word - (high + 1)) word)
+
+-- A row's value under the assignment p, from the rows before it and their values vs: a variable gives its bits, a
+-- constant its copies, a concatenation sets two values side by side, an extraction keeps bits b down to c.
+unfoldable pub valueIn : List ℕ → List Row → List (List ℕ) → Row → List ℕ
+valueIn p before vs r =
+    byKind (r .kind)
+    (take (r .a) (drop (bitsOf before) p))
+    (replicate (r .b) (r .a))
+    (getD vs (r .a) [] ++ getD vs (r .b) [])
+    (extract (getD vs (r .a) []) (r .b) (r .c))
+    []
+
+-- The values of the rows of a table under the assignment p.
+unfoldable pub valuesOf : List Row → List ℕ → List (List ℕ)
+valuesOf t p = byRows (valueIn p) [] [] t
+
+abbrev pub valueOf : List Row → List ℕ → ℕ → List ℕ
+valueOf t p r = getD (valuesOf t p) r []
+
+-- A source is where a bit comes from: 0 and 1 are the constants, i + 2 is place i of an assignment.
+-- The bit of source s under p:
+unfoldable pub bitOf : List ℕ → ℕ → ℕ
+bitOf p s = getD (0 ∷ 1 ∷ p) s 0
+
+-- k, k + 1, .., n numbers in all.
+unfoldable pub countUp : ℕ → ℕ → List ℕ
+countUp k zero = []
+countUp k (suc n) = k ∷ countUp (suc k) n
+
+-- Each row's bits as sources: its value where each place has its own source for a bit.
+unfoldable pub sourcesOf : List Row → List (List ℕ)
+sourcesOf t = valuesOf t (countUp 2 (bitsOf t))
+
+-- Whether two words are equal bit for bit.
+unfoldable pub sameWord : List ℕ → List ℕ → Bool
+sameWord [] [] = true
+sameWord [] (y ∷ ys) = false
+sameWord (x ∷ xs) [] = false
+sameWord (x ∷ xs) (y ∷ ys) = eqb x y && sameWord xs ys
+
+-- Whether a row, if it is an equation, has equal sides, where vs are the values of the rows.
+unfoldable pub sidesAgree : List (List ℕ) → Row → Bool
+sidesAgree vs r = byKind (r .kind) true true true true (sameWord (getD vs (r .a) []) (getD vs (r .b) []))
+
+unfoldable pub allRows : (Row → Bool) → List Row → Bool
+allRows f [] = true
+allRows f (r ∷ rs) = f r && allRows f rs
+
+-- Whether an assignment satisfies (meets) a table: in each equation both sides have equal values.
+unfoldable pub satisfies : List Row → List ℕ → Bool
+satisfies t p = allRows (sidesAgree (valuesOf t p)) t

@@ -1,0 +1,174 @@
+/* reference.c -- a second evaluator of term tables: see reference.h */
+
+#include "reference.h"
+
+#include <stdbool.h>
+#include <string.h>
+
+enum { VARIABLE = 0, FILL = 1, JOIN = 2, CUT = 3, EQUATION = 4 };
+
+typedef struct {
+    unsigned kind, a, b, c;
+} row_numbers;
+
+static row_numbers row_of(const uint16_t *table, size_t r)
+{
+    const uint16_t *n = table + 4 * r;
+    return (row_numbers){n[0], n[1], n[2], n[3]};
+}
+
+static lw_record refusal(unsigned number, size_t row)
+{
+    return (lw_record){.outcome = number, .row = (uint32_t)row};
+}
+
+/* How many rows of a kind there are among rows 0 to r. */
+static size_t count_to(const uint16_t *table, size_t r, unsigned kind)
+{
+    size_t count = 0;
+    for (size_t i = 0; i <= r; i++)
+        if (row_of(table, i).kind == kind)
+            count++;
+    return count;
+}
+
+/* The variable bits of rows 0 to r. */
+static size_t bits_to(const uint16_t *table, size_t r)
+{
+    size_t bits = 0;
+    for (size_t i = 0; i <= r; i++)
+        if (row_of(table, i).kind == VARIABLE)
+            bits += row_of(table, i).a;
+    return bits;
+}
+
+/* Whether row r may not name row n. */
+static bool bad_name(const uint16_t *table, size_t r, size_t n)
+{
+    return n >= r || row_of(table, n).kind == EQUATION;
+}
+
+/* The width of row r, which breaks none of the rules 12 to 14, nor 16 if it is a cut. */
+static size_t width_of(const uint16_t *table, size_t r, const size_t width[])
+{
+    row_numbers w = row_of(table, r);
+    switch (w.kind) {
+    case VARIABLE: return w.a;
+    case FILL:     return w.b;
+    case JOIN:     return width[w.a] + width[w.b];
+    case CUT:      return (size_t)w.b - w.c + 1;
+    default:       return 0;
+    }
+}
+
+/* Whether row r breaks the rule of this number. It breaks none before that, and earlier rows break none. */
+static bool breaks(const uint16_t *table, size_t r, unsigned rule, const size_t width[])
+{
+    row_numbers w = row_of(table, r);
+    size_t own;
+
+    switch (rule) {
+    case 12: /* kind above 4 */
+        return w.kind > 4;
+    case 13: /* unused column not 0 */
+        switch (w.kind) {
+        case VARIABLE: return w.b != 0 || w.c != 0;
+        case CUT:      return false;
+        default:       return w.c != 0;
+        }
+    case 14: /* a named row is not earlier, or is an equation */
+        switch (w.kind) {
+        case JOIN:
+        case EQUATION: return bad_name(table, r, w.a) || bad_name(table, r, w.b);
+        case CUT:      return bad_name(table, r, w.a);
+        default:       return false;
+        }
+    case 15: /* width of any row but a cut outside 1 to 1,024, or a fill's bit above 1 */
+        if (w.kind == CUT || w.kind == EQUATION)
+            return false;
+        own = width_of(table, r, width);
+        return own < 1 || own > 1024 || (w.kind == FILL && w.a > 1);
+    case 16: /* cut: high not below the width, or low above high */
+        return w.kind == CUT && (w.b >= width[w.a] || w.c > w.b);
+    case 17: /* variable or equation beyond its maximum, or variable bits beyond 4,096 */
+        switch (w.kind) {
+        case VARIABLE: return count_to(table, r, VARIABLE) > 64 || bits_to(table, r) > 4096;
+        case EQUATION: return count_to(table, r, EQUATION) > 64;
+        default:       return false;
+        }
+    case 18: /* sides of unequal width */
+        return w.kind == EQUATION && width[w.a] != width[w.b];
+    default:
+        return false;
+    }
+}
+
+lw_record ref_check(const uint16_t *table, size_t table_len, ref_table *facts)
+{
+    if (table_len % 4 != 0 || table_len / 4 > 512)
+        return refusal(11, 512);
+    facts->rows = table_len / 4;
+    facts->bits = 0;
+    for (size_t r = 0; r < facts->rows; r++) {
+        for (unsigned rule = 12; rule <= 18; rule++)
+            if (breaks(table, r, rule, facts->width))
+                return refusal(rule, r);
+        facts->width[r] = width_of(table, r, facts->width);
+        facts->place[r] = facts->bits;
+        if (row_of(table, r).kind == VARIABLE)
+            facts->bits += facts->width[r];
+    }
+    return refusal(0, 0);
+}
+
+void ref_values(const uint16_t *table, const ref_table *facts, size_t count,
+                const uint8_t *pattern, uint8_t values[][REF_WIDTH])
+{
+    const size_t *width = facts->width;
+
+    for (size_t r = 0; r < count; r++) {
+        row_numbers w = row_of(table, r);
+        switch (w.kind) {
+        case VARIABLE:
+            memcpy(values[r], pattern + facts->place[r], width[r]);
+            break;
+        case FILL:
+            memset(values[r], (int)w.a, width[r]);
+            break;
+        case JOIN: /* side by side, the left part high */
+            memcpy(values[r], values[w.a], width[w.a]);
+            memcpy(values[r] + width[w.a], values[w.b], width[w.b]);
+            break;
+        case CUT: /* bit j of a word of n bits stands at n - 1 - j */
+            memcpy(values[r], values[w.a] + (width[w.a] - 1 - w.b), width[r]);
+            break;
+        default:
+            break;
+        }
+    }
+}
+
+lw_record ref_value(const uint16_t *table, size_t table_len, size_t row,
+                    const uint8_t *pattern, size_t pattern_len,
+                    uint8_t *value, size_t value_len)
+{
+    static ref_table facts;
+    static uint8_t values[REF_ROWS][REF_WIDTH];
+
+    lw_record record = ref_check(table, table_len, &facts);
+    if (record.outcome != 0)
+        return record;
+    if (row >= facts.rows || row_of(table, row).kind == EQUATION)
+        return refusal(30, 0);
+    if (pattern_len != facts.bits)
+        return refusal(31, 0);
+    for (size_t i = 0; i < pattern_len; i++)
+        if (pattern[i] > 1)
+            return refusal(31, 0);
+    if (value_len < facts.width[row])
+        return refusal(32, 0);
+
+    ref_values(table, &facts, row + 1, pattern, values);
+    memcpy(value, values[row], facts.width[row]);
+    return (lw_record){.outcome = 0, .free = (uint32_t)facts.width[row]};
+}

@@ -1,0 +1,44 @@
+/*
+  reference.h -- a second evaluator of term tables, to compare the library with
+
+  It is written from the specification's text alone, as plainly as it can be,
+  and shares no code with the library. The record is the only thing that it
+  takes from linkwords.h: it has the specification's numbers written out, so
+  that a wrong constant in the header is found too.
+*/
+
+#ifndef REFERENCE_H
+#define REFERENCE_H
+
+#include "linkwords.h"
+
+enum { REF_ROWS = 512, REF_WIDTH = 1024 };
+
+/* What the check finds out about a table. */
+typedef struct {
+    size_t rows;
+    size_t bits;             /* variable bits, that is the length of a pattern */
+    size_t width[REF_ROWS];  /* of each row; 0 for an equation */
+    size_t place[REF_ROWS];  /* of a variable row: where its bits start in a pattern */
+} ref_table;
+
+/*
+  Tests a table: outcome 0, or the first of the refusals 11 to 18 with its row.
+  If it is accepted, *facts holds what is known of it; else *facts is undefined.
+*/
+lw_record ref_check(const uint16_t *table, size_t table_len, ref_table *facts);
+
+/*
+  The values of rows 0 to count - 1 of an accepted table under a pattern of as
+  many bits as the table has: the first width bytes of values[r] are row r's.
+  An equation has none.
+*/
+void ref_values(const uint16_t *table, const ref_table *facts, size_t count,
+                const uint8_t *pattern, uint8_t values[][REF_WIDTH]);
+
+/* What lw_value yields and writes. Not reentrant. */
+lw_record ref_value(const uint16_t *table, size_t table_len, size_t row,
+                    const uint8_t *pattern, size_t pattern_len,
+                    uint8_t *value, size_t value_len);
+
+#endif /* REFERENCE_H */

@@ -1,0 +1,845 @@
+/*
+  test_value.c -- tests of lw_value
+
+      test_value [TABLES]
+
+  First values and refusals worked by hand, then TABLES random tables (20000 if
+  not given), on which the library is compared with the evaluator of
+  reference.c. Every call is made on guarded buffers, and its record and every
+  byte of every buffer are compared.
+*/
+
+#include "guard.h"
+#include "linkwords.h"
+#include "reference.h"
+
+/* Tables. */
+
+#define VARIABLE(width)    LW_VARIABLE, (width), 0, 0
+#define FILL(bit, width)   LW_FILL, (bit), (width), 0
+#define JOIN(a, b)         LW_JOIN, (a), (b), 0
+#define CUT(a, high, low)  LW_CUT, (a), (high), (low)
+#define EQUATION(a, b)     LW_EQUATION, (a), (b), 0
+
+/* A small table as two arguments: its numbers and their count. */
+#define TABLE(...) \
+    (const uint16_t[]){__VA_ARGS__}, sizeof((const uint16_t[]){__VA_ARGS__}) / sizeof(uint16_t)
+
+/* A table that grows; there is room for a few rows more than are allowed. */
+typedef struct {
+    uint16_t numbers[4 * (512 + 8)];
+    size_t len;
+} table;
+
+static void add(table *t, size_t kind, size_t a, size_t b, size_t c)
+{
+    uint16_t *n = t->numbers + t->len;
+    n[0] = (uint16_t)kind, n[1] = (uint16_t)a, n[2] = (uint16_t)b, n[3] = (uint16_t)c;
+    t->len += 4;
+}
+
+#define ALL(t) (t).numbers, (t).len
+
+/* Calls and what they are compared with. */
+
+static const uint8_t zeros[8192];
+
+static void print_table(const uint16_t *numbers, size_t len)
+{
+    printf("  kind a b c, %zu numbers:\n", len);
+    for (size_t i = 0; i < len; i++)
+        printf("%s%u%s", i % 4 == 0 ? "  " : " ", numbers[i], i % 4 == 3 || i + 1 == len ? "\n" : "");
+}
+
+static bool check_record(int line, const char *name, lw_record got, lw_record want)
+{
+    return check(got.outcome == want.outcome && got.pieces == want.pieces && got.fresh == want.fresh &&
+                 got.free == want.free && got.ties == want.ties && got.row == want.row, __FILE__, line,
+                 "%s: record %u %u %u %u %u %u, expected %u %u %u %u %u %u", name,
+                 got.outcome, got.pieces, got.fresh, got.free, got.ties, got.row,
+                 want.outcome, want.pieces, want.fresh, want.free, want.ties, want.row);
+}
+
+/* One call: the record; table and pattern unchanged; want_value as the first want.free bytes of the output. */
+static void call(int line, const char *name, const uint16_t *numbers, size_t len, size_t row,
+                 const uint8_t *pattern, size_t pattern_len, size_t value_len,
+                 lw_record want, const uint8_t *want_value)
+{
+    unsigned long failed = checks_failed;
+    guarded t = guard(numbers, len * sizeof *numbers);
+    guarded p = guard(pattern, pattern_len);
+    guarded v = guard(NULL, value_len);
+
+    lw_record got = lw_value(guarded_buffer(&t), len, row, guarded_buffer(&p), pattern_len,
+                             guarded_buffer(&v), value_len);
+    guard_expect(&v, want_value, want.free);
+    check_record(line, name, got, want);
+    guard_check(&t, __FILE__, line, "table");
+    guard_check(&p, __FILE__, line, "pattern");
+    guard_check(&v, __FILE__, line, "value");
+    if (checks_failed != failed && failed == 0)
+        print_table(numbers, len);
+}
+
+/* The row has this value; with an output of just its width, and with a longer one. */
+static void accept_bytes(int line, const uint16_t *numbers, size_t len, size_t row,
+                         const uint8_t *pattern, size_t pattern_len, const uint8_t *value, size_t width)
+{
+    lw_record want = {.free = (uint32_t)width};
+    call(line, "accepted", numbers, len, row, pattern, pattern_len, width, want, value);
+    call(line, "accepted, longer output", numbers, len, row, pattern, pattern_len, width + 9, want, value);
+}
+
+/* The bytes of a text of 0 and 1; any other digit stands for itself. */
+static size_t bytes_of(const char *text, uint8_t *bytes)
+{
+    size_t n = strlen(text);
+    for (size_t i = 0; i < n; i++)
+        bytes[i] = (uint8_t)(text[i] - '0');
+    return n;
+}
+
+static void accept_text(int line, const uint16_t *numbers, size_t len, size_t row,
+                        const char *pattern, const char *value)
+{
+    uint8_t p[64], v[64];
+    size_t pattern_len = bytes_of(pattern, p), width = bytes_of(value, v);
+    accept_bytes(line, numbers, len, row, p, pattern_len, v, width);
+}
+
+/* The table is refused, whether or not the row, the pattern and the output are wrong as well. */
+static void refuse_table(int line, const uint16_t *numbers, size_t len, uint32_t number, uint32_t row)
+{
+    lw_record want = {.outcome = number, .row = row};
+    size_t bits = 0;
+    for (size_t i = 0; i + 3 < len; i += 4)
+        if (numbers[i] == 0 && bits + numbers[i + 1] <= sizeof zeros)
+            bits += numbers[i + 1];
+    call(line, "refused", numbers, len, 0, zeros, bits, 1024, want, NULL);
+    call(line, "refused, all else wrong too", numbers, len, SIZE_MAX, (const uint8_t[]){7}, 1, 0, want, NULL);
+}
+
+/* The call is refused for its row, its pattern or its output. */
+static void refuse_text(int line, const uint16_t *numbers, size_t len, size_t row,
+                        const char *pattern, size_t value_len, uint32_t number)
+{
+    uint8_t p[64];
+    size_t pattern_len = bytes_of(pattern, p);
+    call(line, "refused", numbers, len, row, p, pattern_len, value_len, (lw_record){.outcome = number}, NULL);
+}
+
+#define ACCEPT_BYTES(...) accept_bytes(__LINE__, __VA_ARGS__)
+#define ACCEPT(...)       accept_text(__LINE__, __VA_ARGS__)
+#define REFUSE_TABLE(...) refuse_table(__LINE__, __VA_ARGS__)
+#define REFUSE(...)       refuse_text(__LINE__, __VA_ARGS__)
+
+/* The header's numbers are those of the specification. */
+static void test_constants(void)
+{
+    static const struct { int got, want; } same[] = {
+        {LW_VARIABLE, 0}, {LW_FILL, 1}, {LW_JOIN, 2}, {LW_CUT, 3}, {LW_EQUATION, 4},
+        {LW_ROW_NUMBERS, 4}, {LW_MAX_ROWS, 512}, {LW_MAX_WIDTH, 1024}, {LW_MAX_VARIABLES, 64},
+        {LW_MAX_VARIABLE_BITS, 4096}, {LW_MAX_EQUATIONS, 64}, {LW_ACCEPTED, 0},
+        {LW_REFUSED_TABLE, 11}, {LW_REFUSED_KIND, 12}, {LW_REFUSED_UNUSED, 13}, {LW_REFUSED_NAME, 14},
+        {LW_REFUSED_WIDTH, 15}, {LW_REFUSED_CUT, 16}, {LW_REFUSED_MAXIMUM, 17}, {LW_REFUSED_SIDES, 18},
+        {LW_REFUSED_ROW, 30}, {LW_REFUSED_PATTERN, 31}, {LW_REFUSED_OUTPUT, 32},
+    };
+    for (size_t i = 0; i < sizeof same / sizeof same[0]; i++)
+        check(same[i].got == same[i].want, __FILE__, __LINE__, "constant %zu is %d, expected %d",
+              i, same[i].got, same[i].want);
+    check(sizeof(lw_record) == 24, __FILE__, __LINE__, "a record has %zu bytes", sizeof(lw_record));
+    group_done("the header's constants");
+}
+
+static void test_values(void)
+{
+    /* Variables and fills. */
+    ACCEPT(TABLE(VARIABLE(8)), 0, "10110010", "10110010");
+    ACCEPT(TABLE(VARIABLE(1)), 0, "0", "0");
+    ACCEPT(TABLE(VARIABLE(1)), 0, "1", "1");
+    ACCEPT(TABLE(FILL(1, 5)), 0, "", "11111");
+    ACCEPT(TABLE(FILL(0, 3)), 0, "", "000");
+
+    /* Variables are numbered as they appear, whatever stands between them. */
+    ACCEPT(TABLE(VARIABLE(3), VARIABLE(2)), 0, "11001", "110");
+    ACCEPT(TABLE(VARIABLE(3), VARIABLE(2)), 1, "11001", "01");
+    static const uint16_t between[] = {
+        FILL(1, 2), VARIABLE(2), EQUATION(0, 1), VARIABLE(3), CUT(3, 0, 0), VARIABLE(1),
+    };
+    ACCEPT(between, 24, 1, "101100", "10");
+    ACCEPT(between, 24, 3, "101100", "110");
+    ACCEPT(between, 24, 4, "101100", "0");
+    ACCEPT(between, 24, 5, "101101", "1");
+
+    /* Joins: the left part is high. */
+    ACCEPT(TABLE(VARIABLE(3), FILL(0, 2), JOIN(0, 1)), 2, "101", "10100");
+    ACCEPT(TABLE(VARIABLE(3), FILL(0, 2), JOIN(1, 0)), 2, "101", "00101");
+    ACCEPT(TABLE(VARIABLE(3), VARIABLE(2), JOIN(1, 0)), 2, "11001", "01110");
+    ACCEPT(TABLE(VARIABLE(2), JOIN(0, 0)), 1, "01", "0101");
+    ACCEPT(TABLE(VARIABLE(1), FILL(1, 1), JOIN(0, 1), JOIN(2, 2), JOIN(3, 0)), 4, "0", "01010");
+
+    /* Cuts: bits 7 to 0 are 1 0 1 1 0 0 1 0. */
+    ACCEPT(TABLE(VARIABLE(8), CUT(0, 6, 3)), 1, "10110010", "0110");
+    ACCEPT(TABLE(VARIABLE(8), CUT(0, 7, 5)), 1, "10110010", "101");
+    ACCEPT(TABLE(VARIABLE(8), CUT(0, 4, 0)), 1, "10110010", "10010");
+    ACCEPT(TABLE(VARIABLE(8), CUT(0, 7, 7)), 1, "10110010", "1");
+    ACCEPT(TABLE(VARIABLE(8), CUT(0, 1, 1)), 1, "10110010", "1");
+    ACCEPT(TABLE(VARIABLE(8), CUT(0, 0, 0)), 1, "10110010", "0");
+    ACCEPT(TABLE(VARIABLE(8), CUT(0, 7, 0)), 1, "10110010", "10110010");
+    ACCEPT(TABLE(FILL(1, 8), CUT(0, 6, 3)), 1, "", "1111");
+
+    /* A cut of the second variable, whose bits are 0 0 1 1 1. */
+    ACCEPT(TABLE(VARIABLE(2), VARIABLE(5), CUT(1, 3, 1)), 2, "1100111", "011");
+
+    /* A cut of a cut: 6 to 1 is 0 1 1 0 0 1, and 4 to 2 of that is 1 1 0. */
+    ACCEPT(TABLE(VARIABLE(8), CUT(0, 6, 1), CUT(1, 4, 2)), 2, "10110010", "110");
+
+    /* Cuts of a join 1 1 0, 0 1: on the right, on the left, through the seam. */
+    ACCEPT(TABLE(VARIABLE(3), VARIABLE(2), JOIN(0, 1), CUT(2, 1, 0)), 3, "11001", "01");
+    ACCEPT(TABLE(VARIABLE(3), VARIABLE(2), JOIN(0, 1), CUT(2, 4, 2)), 3, "11001", "110");
+    ACCEPT(TABLE(VARIABLE(3), VARIABLE(2), JOIN(0, 1), CUT(2, 3, 1)), 3, "11001", "100");
+    ACCEPT(TABLE(VARIABLE(3), VARIABLE(2), JOIN(0, 1), CUT(2, 2, 2)), 3, "11001", "0");
+    ACCEPT(TABLE(VARIABLE(3), VARIABLE(2), JOIN(0, 1), CUT(2, 1, 1)), 3, "11001", "0");
+    ACCEPT(TABLE(VARIABLE(3), VARIABLE(2), JOIN(0, 1), CUT(2, 0, 0)), 3, "11001", "1");
+
+    /* Two halves joined again, in order and crossed. */
+    ACCEPT(TABLE(VARIABLE(8), CUT(0, 7, 4), CUT(0, 3, 0), JOIN(1, 2)), 3, "10110010", "10110010");
+    ACCEPT(TABLE(VARIABLE(8), CUT(0, 7, 4), CUT(0, 3, 0), JOIN(2, 1)), 3, "10110010", "00101011");
+
+    /* Equations do not bear on values: the sides may differ under the pattern. */
+    ACCEPT(TABLE(VARIABLE(8), CUT(0, 6, 3), CUT(0, 4, 1), EQUATION(1, 2)), 1, "10110010", "0110");
+    ACCEPT(TABLE(VARIABLE(8), CUT(0, 6, 3), CUT(0, 4, 1), EQUATION(1, 2)), 2, "10110010", "1001");
+    ACCEPT(TABLE(FILL(0, 1), FILL(1, 1), EQUATION(0, 1)), 1, "", "1");
+    group_done("values worked by hand");
+}
+
+/* Bits without a period or a symmetry that a slip could hide in. */
+static void uneven_bits(uint8_t *bits, size_t n)
+{
+    uint32_t x = 1;
+    for (size_t i = 0; i < n; i++) {
+        x = x * 1664525 + 1013904223;
+        bits[i] = (uint8_t)(x >> 31);
+    }
+}
+
+/* Every width: a variable, a fill, and the cuts of all bits, of each end bit and of one bit too many. */
+static void test_widths(void)
+{
+    uint8_t bits[1024], ones[1024];
+    memset(ones, 1, sizeof ones);
+    for (size_t w = 1; w <= 1024; w++) {
+        uneven_bits(bits, w);
+        table t = {.len = 0};
+        add(&t, VARIABLE(w));
+        add(&t, FILL(1, w));
+        add(&t, CUT(0, w - 1, 0));
+        add(&t, CUT(0, w - 1, w - 1));
+        add(&t, CUT(0, 0, 0));
+        ACCEPT_BYTES(ALL(t), 0, bits, w, bits, w);
+        ACCEPT_BYTES(ALL(t), 1, bits, w, ones, w);
+        ACCEPT_BYTES(ALL(t), 2, bits, w, bits, w);
+        ACCEPT_BYTES(ALL(t), 3, bits, w, bits, 1);
+        ACCEPT_BYTES(ALL(t), 4, bits, w, bits + w - 1, 1);
+        add(&t, CUT(0, w, 0));
+        REFUSE_TABLE(ALL(t), 16, 5);
+    }
+    group_done("widths 1 to 1024");
+}
+
+/* Tables at their limits, and one beyond. */
+static void test_limits(void)
+{
+    uint8_t bits[4096];
+    uneven_bits(bits, sizeof bits);
+
+    /* 512 rows, that is 2048 numbers; then 2049 to 2052. */
+    table t = {.len = 0};
+    add(&t, VARIABLE(5));
+    while (t.len < 2048)
+        add(&t, FILL(1, 2));
+    add(&t, FILL(0, 1)); /* behind the table until its length takes it in */
+    t.len = 2048;
+    ACCEPT(ALL(t), 0, "10010", "10010");
+    ACCEPT(ALL(t), 511, "10010", "11");
+    for (t.len = 2049; t.len <= 2052; t.len++)
+        REFUSE_TABLE(ALL(t), 11, 512);
+
+    /* 64 variables of 64 bits are 4096 variable bits. */
+    t.len = 0;
+    for (size_t i = 0; i < 64; i++)
+        add(&t, VARIABLE(64));
+    for (size_t i = 0; i < 64; i++)
+        ACCEPT_BYTES(ALL(t), i, bits, 4096, bits + 64 * i, 64);
+    add(&t, CUT(63, 0, 0));
+    ACCEPT_BYTES(ALL(t), 64, bits, 4096, bits + 4095, 1);
+
+    /* The 65th variable. */
+    t.len = 0;
+    for (size_t i = 0; i < 64; i++)
+        add(&t, VARIABLE(1));
+    ACCEPT_BYTES(ALL(t), 63, bits, 64, bits + 63, 1);
+    add(&t, FILL(0, 1));
+    add(&t, VARIABLE(1));
+    REFUSE_TABLE(ALL(t), 17, 65);
+
+    /* 4096 and 4097 variable bits, in few variables. */
+    t.len = 0;
+    for (size_t i = 0; i < 4; i++)
+        add(&t, VARIABLE(1024));
+    ACCEPT_BYTES(ALL(t), 3, bits, 4096, bits + 3072, 1024);
+    add(&t, VARIABLE(1));
+    REFUSE_TABLE(ALL(t), 17, 4);
+    t.len = 0;
+    for (size_t i = 0; i < 3; i++)
+        add(&t, VARIABLE(1024));
+    add(&t, VARIABLE(1000));
+    add(&t, VARIABLE(24));
+    ACCEPT_BYTES(ALL(t), 4, bits, 4096, bits + 4072, 24);
+    t.numbers[4 * 4 + 1] = 25;
+    REFUSE_TABLE(ALL(t), 17, 4);
+    t.numbers[4 * 4 + 1] = 1024;
+    REFUSE_TABLE(ALL(t), 17, 4);
+
+    /* 64 and 65 equations. */
+    t.len = 0;
+    add(&t, VARIABLE(2));
+    for (size_t i = 0; i < 64; i++)
+        add(&t, EQUATION(0, 0));
+    add(&t, CUT(0, 1, 1));
+    ACCEPT(ALL(t), 65, "10", "1");
+    add(&t, EQUATION(0, 0));
+    REFUSE_TABLE(ALL(t), 17, 66);
+
+    /* Widths add up to 1024 and beyond: a word joined with itself ten times, and once more. */
+    t.len = 0;
+    add(&t, VARIABLE(1));
+    for (size_t i = 0; i < 10; i++)
+        add(&t, JOIN(i, i));
+    uint8_t ones[1024];
+    memset(ones, 1, sizeof ones);
+    ACCEPT_BYTES(ALL(t), 10, ones, 1, ones, 1024);
+    add(&t, JOIN(10, 10));
+    REFUSE_TABLE(ALL(t), 15, 11);
+
+    group_done("limits");
+}
+
+/* Deep tables: each row is made of the one before it. */
+static void test_chains(void)
+{
+    uint8_t bits[1024], grown[512];
+    uneven_bits(bits, sizeof bits);
+
+    /* 500 cuts, of one bit each, in turn at the high and at the low end. */
+    table t = {.len = 0};
+    add(&t, VARIABLE(1024));
+    for (size_t i = 0; i < 500; i++)
+        if (i % 2 == 0)
+            add(&t, CUT(i, 1024 - i - 2, 0));
+        else
+            add(&t, CUT(i, 1024 - i - 1, 1));
+    ACCEPT_BYTES(ALL(t), 500, bits, 1024, bits + 250, 524);
+    ACCEPT_BYTES(ALL(t), 499, bits, 1024, bits + 250, 525);
+    ACCEPT_BYTES(ALL(t), 1, bits, 1024, bits + 1, 1023);
+
+    /* 511 cuts of the whole word. */
+    t.len = 0;
+    add(&t, VARIABLE(1024));
+    for (size_t i = 0; i < 511; i++)
+        add(&t, CUT(i, 1023, 0));
+    ACCEPT_BYTES(ALL(t), 511, bits, 1024, bits, 1024);
+
+    /* 510 joins, with one bit more each, in turn a 1 on the right and the variable on the left. */
+    t.len = 0;
+    add(&t, VARIABLE(1));
+    add(&t, FILL(1, 1));
+    for (size_t i = 2; i < 512; i++)
+        if (i % 2 == 0)
+            add(&t, JOIN(i - 1, 1));
+        else
+            add(&t, JOIN(0, i - 1));
+    memset(grown, 1, sizeof grown);
+    memset(grown, 0, 255); /* rows 3, 5, .., 511 have put a 0 in front */
+    ACCEPT_BYTES(ALL(t), 511, zeros, 1, grown, 511);
+
+    group_done("chains of 500 rows and more");
+}
+
+/* Every cause of the refusals 11 to 16 and 18 by itself. (17 is among the limits.) */
+static void test_table_refusals(void)
+{
+    /* 11: lengths that are no whole rows. */
+    static const uint16_t good[] = {VARIABLE(1), FILL(0, 1)};
+    for (size_t len = 1; len < 8; len++)
+        if (len % 4 != 0)
+            REFUSE_TABLE(good, len, 11, 512);
+
+    /* 12 */
+    REFUSE_TABLE(TABLE(5, 0, 0, 0), 12, 0);
+    REFUSE_TABLE(TABLE(VARIABLE(1), 5, 1, 0, 0), 12, 1);
+    REFUSE_TABLE(TABLE(VARIABLE(1), 256, 1, 0, 0), 12, 1);
+    REFUSE_TABLE(TABLE(VARIABLE(1), 65535, 0, 0, 0), 12, 1);
+
+    /* 13: each column that is not used. */
+    REFUSE_TABLE(TABLE(LW_VARIABLE, 1, 1, 0), 13, 0);
+    REFUSE_TABLE(TABLE(LW_VARIABLE, 1, 0, 1), 13, 0);
+    REFUSE_TABLE(TABLE(LW_VARIABLE, 1, 0, 65535), 13, 0);
+    REFUSE_TABLE(TABLE(LW_FILL, 1, 1, 1), 13, 0);
+    REFUSE_TABLE(TABLE(VARIABLE(1), VARIABLE(1), LW_JOIN, 0, 1, 1), 13, 2);
+    REFUSE_TABLE(TABLE(VARIABLE(1), VARIABLE(1), LW_EQUATION, 0, 1, 1), 13, 2);
+
+    /* 14: row 3 names itself, a later row, rows past the table or an equation, in each column that names a row. */
+    static const uint16_t kinds[] = {LW_JOIN, LW_CUT, LW_EQUATION};
+    static const uint16_t wrong[] = {3, 4, 5, 512, 65535, 2};
+    for (size_t k = 0; k < 3; k++)
+        for (size_t n = 0; n < 6; n++) {
+            table t = {.len = 0};
+            add(&t, VARIABLE(4));
+            add(&t, VARIABLE(4));
+            add(&t, EQUATION(0, 1));
+            add(&t, kinds[k], wrong[n], 0, 0);
+            add(&t, VARIABLE(4));
+            REFUSE_TABLE(ALL(t), 14, 3);
+            if (kinds[k] != LW_CUT) {
+                t.numbers[4 * 3 + 1] = 0;
+                t.numbers[4 * 3 + 2] = wrong[n];
+                REFUSE_TABLE(ALL(t), 14, 3);
+            }
+        }
+    REFUSE_TABLE(TABLE(JOIN(0, 0)), 14, 0);
+    REFUSE_TABLE(TABLE(CUT(0, 0, 0)), 14, 0);
+    REFUSE_TABLE(TABLE(EQUATION(0, 0)), 14, 0);
+
+    /* 15 */
+    REFUSE_TABLE(TABLE(VARIABLE(0)), 15, 0);
+    REFUSE_TABLE(TABLE(VARIABLE(1025)), 15, 0);
+    REFUSE_TABLE(TABLE(VARIABLE(65535)), 15, 0);
+    REFUSE_TABLE(TABLE(FILL(0, 0)), 15, 0);
+    REFUSE_TABLE(TABLE(FILL(1, 1025)), 15, 0);
+    REFUSE_TABLE(TABLE(FILL(1, 65535)), 15, 0);
+    REFUSE_TABLE(TABLE(FILL(2, 1)), 15, 0);
+    REFUSE_TABLE(TABLE(FILL(65535, 1)), 15, 0);
+    REFUSE_TABLE(TABLE(VARIABLE(1024), FILL(0, 1), JOIN(0, 1)), 15, 2);
+    REFUSE_TABLE(TABLE(VARIABLE(1024), FILL(0, 1), JOIN(1, 0)), 15, 2);
+    REFUSE_TABLE(TABLE(VARIABLE(1024), JOIN(0, 0)), 15, 1);
+    REFUSE_TABLE(TABLE(VARIABLE(512), VARIABLE(513), JOIN(0, 1)), 15, 2);
+
+    /* 16: also of a cut and of a join, whose widths are their own. */
+    REFUSE_TABLE(TABLE(VARIABLE(8), CUT(0, 8, 0)), 16, 1);
+    REFUSE_TABLE(TABLE(VARIABLE(8), CUT(0, 8, 8)), 16, 1);
+    REFUSE_TABLE(TABLE(VARIABLE(8), CUT(0, 65535, 0)), 16, 1);
+    REFUSE_TABLE(TABLE(VARIABLE(8), CUT(0, 3, 4)), 16, 1);
+    REFUSE_TABLE(TABLE(VARIABLE(8), CUT(0, 0, 65535)), 16, 1);
+    REFUSE_TABLE(TABLE(VARIABLE(8), CUT(0, 6, 3), CUT(1, 4, 0)), 16, 2);
+    REFUSE_TABLE(TABLE(VARIABLE(3), VARIABLE(2), JOIN(0, 1), CUT(2, 5, 0)), 16, 3);
+    REFUSE_TABLE(TABLE(VARIABLE(5), FILL(0, 3), CUT(1, 3, 0)), 16, 2);
+
+    /* 18 */
+    REFUSE_TABLE(TABLE(VARIABLE(2), VARIABLE(3), EQUATION(0, 1)), 18, 2);
+    REFUSE_TABLE(TABLE(VARIABLE(3), VARIABLE(2), EQUATION(0, 1)), 18, 2);
+    REFUSE_TABLE(TABLE(VARIABLE(3), CUT(0, 1, 0), EQUATION(0, 1)), 18, 2);
+    REFUSE_TABLE(TABLE(VARIABLE(2), JOIN(0, 0), EQUATION(1, 0)), 18, 2);
+
+    group_done("refusals 11 to 18, one by one");
+}
+
+/* Two faults: which of them is told. */
+static void test_table_order(void)
+{
+    table t;
+
+    /* 11 before anything in the rows. */
+    REFUSE_TABLE(TABLE(9, 9, 9, 9, 9, 9), 11, 512);
+    REFUSE_TABLE(TABLE(9), 11, 512);
+    t.len = 0;
+    while (t.len < 2052)
+        add(&t, 9, 9, 9, 9);
+    REFUSE_TABLE(ALL(t), 11, 512);
+
+    /* Within a row, in the order of the numbers. */
+    REFUSE_TABLE(TABLE(5, 65535, 65535, 65535), 12, 0);
+    REFUSE_TABLE(TABLE(LW_VARIABLE, 0, 1, 0), 13, 0);
+    REFUSE_TABLE(TABLE(LW_VARIABLE, 1025, 0, 1), 13, 0);
+    REFUSE_TABLE(TABLE(LW_FILL, 2, 0, 1), 13, 0);
+    REFUSE_TABLE(TABLE(LW_JOIN, 0, 0, 1), 13, 0);
+    REFUSE_TABLE(TABLE(VARIABLE(1024), LW_JOIN, 0, 0, 1), 13, 1);
+    REFUSE_TABLE(TABLE(LW_EQUATION, 0, 0, 1), 13, 0);
+    REFUSE_TABLE(TABLE(VARIABLE(1), VARIABLE(2), LW_EQUATION, 0, 1, 1), 13, 2);
+    REFUSE_TABLE(TABLE(VARIABLE(1024), JOIN(0, 2), VARIABLE(1024)), 14, 1);
+    REFUSE_TABLE(TABLE(VARIABLE(1), CUT(2, 0, 1), VARIABLE(1)), 14, 1);
+    REFUSE_TABLE(TABLE(VARIABLE(1), CUT(1, 9, 9)), 14, 1);
+    REFUSE_TABLE(TABLE(VARIABLE(1), EQUATION(0, 2), VARIABLE(2)), 14, 1);
+    REFUSE_TABLE(TABLE(VARIABLE(1), EQUATION(0, 0), EQUATION(0, 1)), 14, 2);
+
+    /* A 65th variable, and variable bits beyond 4096: 13 and 15 come before 17. */
+    static const uint16_t variables[][4] = {
+        {LW_VARIABLE, 1, 1, 0}, {LW_VARIABLE, 1, 0, 1}, {VARIABLE(0)}, {VARIABLE(1025)},
+    };
+    static const uint32_t told[] = {13, 13, 15, 15};
+    for (size_t i = 0; i < 4; i++) {
+        t.len = 0;
+        while (t.len < 4 * 64)
+            add(&t, VARIABLE(64));
+        add(&t, variables[i][0], variables[i][1], variables[i][2], variables[i][3]);
+        REFUSE_TABLE(ALL(t), told[i], 64);
+    }
+
+    /* A 65th equation: 13 and 14 come before 17, and 17 before 18. */
+    static const uint16_t equations[][4] = {
+        {LW_EQUATION, 0, 0, 1}, {EQUATION(66, 0)}, {EQUATION(0, 65)}, {EQUATION(0, 1)},
+    };
+    static const uint32_t told_of_equation[] = {13, 14, 14, 17};
+    for (size_t i = 0; i < 4; i++) {
+        t.len = 0;
+        add(&t, VARIABLE(1));
+        add(&t, VARIABLE(2));
+        while (t.len < 4 * 66)
+            add(&t, EQUATION(1, 1));
+        add(&t, equations[i][0], equations[i][1], equations[i][2], equations[i][3]);
+        REFUSE_TABLE(ALL(t), told_of_equation[i], 66);
+    }
+
+    /* In two rows, the lower row, whatever the two numbers are. Rows 0 to 63 are variables, row 64 has width 2. */
+    static const struct { uint16_t row[4]; uint32_t number; } faults[] = {
+        {{5, 0, 0, 0}, 12},  {{LW_FILL, 0, 1, 7}, 13}, {{CUT(600, 0, 0)}, 14}, {{FILL(2, 1)}, 15},
+        {{CUT(0, 1, 0)}, 16}, {{VARIABLE(1)}, 17},      {{EQUATION(0, 64)}, 18},
+    };
+    for (size_t i = 0; i < 7; i++)
+        for (size_t j = 0; j < 7; j++) {
+            t.len = 0;
+            while (t.len < 4 * 64)
+                add(&t, VARIABLE(1));
+            add(&t, JOIN(0, 1));
+            add(&t, faults[i].row[0], faults[i].row[1], faults[i].row[2], faults[i].row[3]);
+            add(&t, FILL(0, 1));
+            add(&t, faults[j].row[0], faults[j].row[1], faults[j].row[2], faults[j].row[3]);
+            REFUSE_TABLE(ALL(t), faults[i].number, 65);
+        }
+    REFUSE_TABLE(TABLE(VARIABLE(1), VARIABLE(2), FILL(0, 1), EQUATION(0, 1), FILL(0, 1), 9, 9, 9, 9), 18, 3);
+
+    group_done("refusals 11 to 18, two at once");
+}
+
+/* Refusals 30 to 32, one by one and two at once. */
+static void test_call_refusals(void)
+{
+    static const uint16_t four[] = {VARIABLE(3), VARIABLE(2), CUT(0, 1, 0), EQUATION(1, 2)};
+    const size_t len = sizeof four / sizeof four[0];
+
+    /* 30: no such row, also where a product or a shorter number would wrap; or an equation. */
+    static const size_t absent[] = {
+        4, 5, 511, 512, 65535, 65536, (size_t)UINT32_MAX + 1,
+        SIZE_MAX / 4 + 1, SIZE_MAX / 2 + 1, SIZE_MAX - 3, SIZE_MAX,
+    };
+    for (size_t i = 0; i < sizeof absent / sizeof absent[0]; i++)
+        REFUSE(four, len, absent[i], "10110", 1024, 30);
+    REFUSE(four, len, 3, "10110", 1024, 30);
+    REFUSE(four, 0, 0, "", 1024, 30);
+
+    /* 31: a pattern of another length; a byte above 1, also of a variable that the row is not made of. */
+    REFUSE(four, len, 2, "1011", 2, 31);
+    REFUSE(four, len, 2, "101101", 2, 31);
+    REFUSE(four, len, 2, "", 2, 31);
+    REFUSE(TABLE(FILL(0, 2)), 0, "0", 2, 31);
+    REFUSE(four, len, 2, "20110", 2, 31);
+    REFUSE(four, len, 2, "10210", 2, 31);
+    REFUSE(four, len, 2, "10112", 2, 31);
+    for (size_t i = 0; i < 5; i++)
+        for (uint8_t byte = 2; byte != 0; byte++) {
+            uint8_t pattern[] = {1, 0, 1, 1, 0};
+            pattern[i] = byte;
+            call(__LINE__, "refused", four, len, 2, pattern, 5, 2, (lw_record){.outcome = 31}, NULL);
+        }
+
+    /* 32: an output below the row's width. */
+    REFUSE(four, len, 0, "10110", 2, 32);
+    REFUSE(four, len, 0, "10110", 0, 32);
+    REFUSE(four, len, 2, "10110", 1, 32);
+    for (size_t value_len = 0; value_len < 1024; value_len++)
+        REFUSE(TABLE(FILL(1, 1024)), 0, "", value_len, 32);
+
+    /* 30 before 31 before 32. */
+    REFUSE(four, len, 4, "1011", 1024, 30);
+    REFUSE(four, len, 3, "10112", 1024, 30);
+    REFUSE(four, len, 4, "10110", 0, 30);
+    REFUSE(four, len, 3, "2", 0, 30);
+    REFUSE(four, len, 0, "1011", 2, 31);
+    REFUSE(four, len, 0, "10112", 0, 31);
+
+    /* A fault of the table comes before all three, also behind the row asked for. */
+    REFUSE_TABLE(TABLE(VARIABLE(3), VARIABLE(2), CUT(0, 1, 0), 5, 0, 0, 0), 12, 3);
+
+    group_done("refusals 30 to 32");
+}
+
+/* NULL with length 0 for each buffer. */
+static void test_null(void)
+{
+    static const uint16_t fill[] = {FILL(1, 2)}, variable[] = {VARIABLE(2)};
+    static const uint8_t pattern[] = {1, 0};
+    uint8_t value[2] = {9, 9};
+
+#define REFUSE_NULL(name, number, at, ...) \
+    check_record(__LINE__, name, lw_value(__VA_ARGS__), (lw_record){.outcome = (number), .row = (at)})
+    REFUSE_NULL("all NULL", 30, 0, NULL, 0, 0, NULL, 0, NULL, 0);
+    REFUSE_NULL("all NULL, row SIZE_MAX", 30, 0, NULL, 0, SIZE_MAX, NULL, 0, NULL, 0);
+    REFUSE_NULL("table NULL", 30, 0, NULL, 0, 0, pattern, 2, value, 2);
+    REFUSE_NULL("pattern NULL", 31, 0, variable, 4, 0, NULL, 0, value, 2);
+    REFUSE_NULL("value NULL", 32, 0, variable, 4, 0, pattern, 2, NULL, 0);
+    REFUSE_NULL("pattern and value NULL", 32, 0, fill, 4, 0, NULL, 0, NULL, 0);
+    REFUSE_NULL("pattern and value NULL, table refused", 11, 512, fill, 3, 0, NULL, 0, NULL, 0);
+#undef REFUSE_NULL
+    check(value[0] == 9 && value[1] == 9, __FILE__, __LINE__, "value written by a refusal");
+    check_record(__LINE__, "pattern NULL", lw_value(fill, 4, 0, NULL, 0, value, 2), (lw_record){.free = 2});
+    check(value[0] == 1 && value[1] == 1, __FILE__, __LINE__, "value is %u %u, expected 1 1", value[0], value[1]);
+    group_done("NULL with length 0");
+}
+
+/* Random tables. */
+
+static uint64_t seed = 20240229;
+
+static uint64_t random_number(void) /* splitmix64 */
+{
+    uint64_t z = seed += 0x9E3779B97F4A7C15;
+    z = (z ^ (z >> 30)) * 0xBF58476D1CE4E5B9;
+    z = (z ^ (z >> 27)) * 0x94D049BB133111EB;
+    return z ^ (z >> 31);
+}
+
+static size_t below(size_t n)
+{
+    return (size_t)(random_number() % n);
+}
+
+static bool one_in(size_t n)
+{
+    return below(n) == 0;
+}
+
+/* A table in the making: what is known of its rows keeps the next row valid. */
+typedef struct {
+    table t;
+    size_t rows, variables, equations, bits;
+    size_t width[512]; /* 0 for an equation */
+    bool limited;      /* whether variables, equations and variable bits stay within their limits */
+} draft;
+
+static void add_row(draft *d, size_t width, size_t kind, size_t a, size_t b, size_t c)
+{
+    add(&d->t, kind, a, b, c);
+    d->width[d->rows++] = width;
+    if (kind == LW_VARIABLE) {
+        d->variables++;
+        d->bits += width;
+    } else if (kind == LW_EQUATION) {
+        d->equations++;
+    }
+}
+
+/* A row that may be named, often a late one; NONE if there is none. */
+enum { NONE = 512 };
+
+static size_t some_term(const draft *d)
+{
+    for (int i = 0; i < 8 && d->rows != 0; i++) {
+        size_t r = one_in(2) || d->rows < 4 ? below(d->rows) : d->rows - 1 - below(4);
+        if (d->width[r] != 0)
+            return r;
+    }
+    return NONE;
+}
+
+/* A row as wide as row a, or of another width; NONE if there is none. */
+static size_t partner(const draft *d, size_t a, bool equal)
+{
+    size_t start = below(d->rows);
+    for (size_t i = 0; i < d->rows; i++) {
+        size_t r = (start + i) % d->rows;
+        if (d->width[r] != 0 && (d->width[r] == d->width[a]) == equal)
+            return r;
+    }
+    return NONE;
+}
+
+/* Adds a row of the kind if a valid one is found, else a fill. */
+static void grow(draft *d, size_t kind, size_t widest)
+{
+    size_t w = 1 + below(widest), a = some_term(d), b = some_term(d), high, low;
+
+    switch (a == NONE || b == NONE ? LW_VARIABLE : kind) {
+    case LW_VARIABLE:
+        if (!d->limited || (d->variables < 64 && d->bits + w <= 4096)) {
+            add_row(d, w, VARIABLE(w));
+            return;
+        }
+        break;
+    case LW_JOIN:
+        if (d->width[a] + d->width[b] <= 1024) {
+            add_row(d, d->width[a] + d->width[b], JOIN(a, b));
+            return;
+        }
+        break;
+    case LW_CUT:
+        low = one_in(3) ? 0 : below(d->width[a]);
+        high = one_in(3) ? d->width[a] - 1 : low + below(d->width[a] - low);
+        add_row(d, high - low + 1, CUT(a, high, low));
+        return;
+    case LW_EQUATION:
+        if (!d->limited || d->equations < 64) {
+            add_row(d, 0, EQUATION(a, partner(d, a, true)));
+            return;
+        }
+        break;
+    default:
+        break;
+    }
+    add_row(d, w, FILL(below(2), w));
+}
+
+/* A valid table, unless its limits are lifted. */
+static void make_table(draft *d)
+{
+    static const size_t sizes[] = {3, 12, 40, 120, 512}, widths[] = {1, 3, 8, 60, 300, 1024};
+    size_t rows = one_in(100) ? 0 : 1 + below(sizes[one_in(12) ? 4 : below(4)]), widest = widths[below(6)];
+    size_t favoured = below(5);
+
+    d->t.len = d->rows = d->variables = d->equations = d->bits = 0;
+    d->limited = !one_in(8);
+    while (d->rows < rows)
+        grow(d, one_in(2) ? favoured : below(5), widest);
+}
+
+/* A row of one of two kinds; NONE if there is none. */
+static size_t some_row(const draft *d, size_t kind, size_t other)
+{
+    size_t start = d->rows == 0 ? 0 : below(d->rows);
+    for (size_t i = 0; i < d->rows; i++) {
+        size_t r = (start + i) % d->rows;
+        if (d->t.numbers[4 * r] == kind || d->t.numbers[4 * r] == other)
+            return r;
+    }
+    return NONE;
+}
+
+/* Makes one fault, which the given refusal mostly tells; or changes some number. */
+static void damage(draft *d, unsigned refusal)
+{
+    size_t r = NONE, a;
+    uint16_t *n = d->t.numbers;
+
+    switch (refusal) {
+    case 11:
+        d->t.len = d->rows < 2 || one_in(2) ? 2049 + below(8) : d->t.len - 1 - below(3);
+        return;
+    case 14: r = some_row(d, one_in(2) ? LW_JOIN : LW_EQUATION, LW_CUT); break;
+    case 15: r = some_row(d, one_in(2) ? LW_VARIABLE : LW_JOIN, LW_FILL); break;
+    case 16: r = some_row(d, LW_CUT, LW_CUT); break;
+    case 18: r = some_row(d, LW_EQUATION, LW_EQUATION); break;
+    default: r = d->rows == 0 ? NONE : below(d->rows); break;
+    }
+    if (r == NONE)
+        return;
+    n += 4 * r;
+    switch (refusal) {
+    case 12:
+        n[0] = (uint16_t)(5 + below(one_in(2) ? 3 : 65531));
+        break;
+    case 13:
+        n[n[0] == LW_VARIABLE && one_in(2) ? 2 : 3] = (uint16_t)(1 + below(9));
+        break;
+    case 14:
+        a = one_in(3) ? some_row(d, LW_EQUATION, LW_EQUATION) : r + below(one_in(2) ? 2 : 600);
+        n[n[0] != LW_CUT && one_in(2) ? 2 : 1] = (uint16_t)a;
+        break;
+    case 15:
+        if (n[0] == LW_JOIN)
+            n[1] = n[2] = (uint16_t)(r - 1); /* too wide now and then */
+        else if (n[0] == LW_FILL && one_in(3))
+            n[1] = (uint16_t)(2 + below(3));
+        else
+            n[n[0] == LW_FILL ? 2 : 1] = (uint16_t)(one_in(2) ? 0 : 1025 + below(3));
+        break;
+    case 16:
+        if (n[1] < r && one_in(2))
+            n[2] = (uint16_t)(d->width[n[1]] + below(2));
+        else
+            n[3] = (uint16_t)(n[2] + 1U);
+        break;
+    case 18:
+        a = n[1] < r ? partner(d, n[1], false) : NONE;
+        if (a < r)
+            n[2] = (uint16_t)a;
+        break;
+    default:
+        n[below(4)] = (uint16_t)below(one_in(2) ? 6 : 65536);
+        break;
+    }
+}
+
+/* The library against the reference on one random table and one random call. Gives the outcome. */
+static uint32_t test_random_call(unsigned long number)
+{
+    static draft d;
+    static uint8_t pattern[8192], value[1100];
+    char name[64];
+
+    make_table(&d);
+    size_t rows = d.rows, bits = d.bits < sizeof pattern ? d.bits : sizeof pattern - 1;
+    for (size_t i = one_in(3) ? 1 + below(2) : 0; i != 0; i--)
+        damage(&d, (unsigned)(11 + below(9)));
+
+    size_t row = rows == 0 ? 0 : below(rows);
+    if (one_in(20))
+        row = one_in(4) ? SIZE_MAX - below(3) : rows + below(3);
+    if (row < rows && d.width[row] == 0 && !one_in(4))
+        row = 0; /* an equation is asked for now and then only */
+    size_t width = row < rows ? d.width[row] : 0;
+
+    for (size_t i = 0; i < bits; i++)
+        pattern[i] = (uint8_t)below(2);
+    if (bits != 0 && one_in(20))
+        pattern[below(bits)] = (uint8_t)(2 + below(254));
+    size_t pattern_len = !one_in(20) ? bits : one_in(2) || bits == 0 ? bits + 1 : bits - 1;
+    size_t value_len = one_in(16) && width != 0 ? below(width) : width + (one_in(2) ? 0 : below(70));
+
+    lw_record want = ref_value(d.t.numbers, d.t.len, row, pattern, pattern_len, value, value_len);
+    snprintf(name, sizeof name, "random table %lu, row %zu", number, row);
+    call(__LINE__, name, d.t.numbers, d.t.len, row, pattern, pattern_len, value_len, want, value);
+    return want.outcome;
+}
+
+static void test_random(unsigned long tables)
+{
+    static const uint32_t outcomes[] = {0, 11, 12, 13, 14, 15, 16, 17, 18, 30, 31, 32};
+    unsigned long seen[33] = {0};
+
+    for (unsigned long i = 0; i < tables; i++)
+        seen[test_random_call(i)]++;
+    printf("%lu random tables:", tables);
+    for (size_t i = 0; i < sizeof outcomes / sizeof outcomes[0]; i++)
+        printf(" %s%u %lu", i == 0 ? "outcome " : "", outcomes[i], seen[outcomes[i]]);
+    printf("\n");
+    for (size_t i = 0; i < sizeof outcomes / sizeof outcomes[0]; i++)
+        check(seen[outcomes[i]] != 0, __FILE__, __LINE__, "no random table has outcome %u", outcomes[i]);
+    group_done("random tables against the reference");
+}
+
+int main(int argc, char **argv)
+{
+    unsigned long tables = argc > 1 ? strtoul(argv[1], NULL, 10) : 20000;
+
+    setvbuf(stdout, NULL, _IOLBF, BUFSIZ); /* a crash leaves the lines before it */
+    test_constants();
+    test_values();
+    test_widths();
+    test_limits();
+    test_chains();
+    test_table_refusals();
+    test_table_order();
+    test_call_refusals();
+    test_null();
+    test_random(tables);
+    return run_done("value");
+}

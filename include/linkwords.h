@@ -1,0 +1,184 @@
+/* linkwords.h -- words of fixed width, built by joins and cuts
+
+  A word is a sequence of bits. This library works on terms over such words: a
+  term is a variable, a fill (a constant whose bits are all alike), a join of
+  two words (concatenation) or a cut out of a word (extraction), and equations
+  stand between terms. The caller describes the terms in a table of numbers;
+  each call takes that table and leaves its results in buffers of the caller.
+
+  The library is proved: for every input each call yields the record and the
+  buffer contents that this header names, and it always returns. It is linked
+  as liblinkwords.a (x86-64).
+
+
+                                 The table
+
+  A table is a run of rows, numbered from 0. A row is four 16-bit numbers,
+  kind, a, b and c, in this order:
+
+     kind           meaning                 a           b         c
+     0 LW_VARIABLE  variable                width       0         0
+     1 LW_FILL      fill, all bits alike    bit 0 or 1  width     0
+     2 LW_JOIN      join, left part high    left row    right row 0
+     3 LW_CUT       bits b down to c of a   row         high      low
+     4 LW_EQUATION  a and b are equal       left row    right row 0
+
+  A row names only rows before it, and never an equation. Many rows may name
+  the same row. Columns that a kind does not use are 0.
+
+  Every row but an equation has a width of 1 to 1024 bits: a join has the sum
+  of the widths of its two sides, and a cut has high - low + 1. An equation has
+  no width, and its sides are equally wide.
+
+  A table has at most 512 rows, 64 variables, 4096 variable bits (the widths of
+  its variables together) and 64 equations. The variables are numbered from 0
+  in the order of their rows. A table of no rows is a table.
+
+
+                            Patterns and values
+
+  The bits of a word of width n are numbered n-1 (high, left) down to 0. Where
+  bits stand in a buffer, each is one byte, 0 or 1, and the high bit is first.
+
+  A pattern gives a bit to every variable bit of a table: variable 0 first, the
+  high bit of each variable first. So its length is the number of variable bits.
+
+  A row's value under a pattern is as many bits as the row is wide: a variable
+  has its bits of the pattern, a fill has copies of its bit, a join has the
+  value of a followed by the value of b, and a cut has the bits high down to
+  low of the value of a. Equations do not bear on the values of other rows: a
+  value is to be had under every pattern.
+
+
+                               Every call
+
+  Lengths count elements, not bytes: 16-bit numbers for a table, bytes for a
+  pattern and for a value. A table of R rows has length 4 * R.
+
+  Each pointer is to as many elements as its length says, aligned for their
+  type. The buffers of one call must not overlap. A pointer may be NULL where
+  its length is 0. Nothing else is asked of the arguments: a call refuses what
+  it cannot work on.
+
+  No state is kept from one call to the next, and no memory is allocated. All
+  calls are reentrant, and threads may call at the same time as long as no
+  buffer that one call writes is used by another.
+
+  The greatest stack use of each call:
+
+     lw_value  @STACK@ bytes
+*/
+
+#ifndef LINKWORDS_H
+#define LINKWORDS_H
+
+#include <stddef.h>
+#include <stdint.h>
+
+#ifdef __cplusplus
+extern "C" {
+#endif
+
+/* constants */
+
+/* Kinds of a row. */
+#define LW_VARIABLE 0
+#define LW_FILL     1
+#define LW_JOIN     2
+#define LW_CUT      3
+#define LW_EQUATION 4
+
+/* Limits. */
+#define LW_ROW_NUMBERS          4 /* numbers of a row: kind, a, b, c */
+#define LW_MAX_ROWS           512
+#define LW_MAX_WIDTH         1024
+#define LW_MAX_VARIABLES       64
+#define LW_MAX_VARIABLE_BITS 4096
+#define LW_MAX_EQUATIONS       64
+
+/* Outcomes. Anything but LW_ACCEPTED is a refusal. */
+#define LW_ACCEPTED 0
+
+#define LW_REFUSED_TABLE     11 /* length no multiple of 4, or over 512 rows */
+#define LW_REFUSED_KIND      12 /* kind above 4 */
+#define LW_REFUSED_UNUSED    13 /* a column that the kind does not use is not 0 */
+#define LW_REFUSED_NAME      14 /* a named row is not earlier, or is an equation */
+#define LW_REFUSED_WIDTH     15 /* width outside 1 to 1024, or a fill's bit above 1 */
+#define LW_REFUSED_CUT       16 /* high not below the width, or low above high */
+#define LW_REFUSED_MAXIMUM   17 /* a 65th variable or equation, or over 4096 variable bits */
+#define LW_REFUSED_SIDES     18 /* an equation's sides are of unequal width */
+#define LW_REFUSED_ROW       30 /* the row asked for is absent, or is an equation */
+#define LW_REFUSED_PATTERN   31 /* pattern of another length, or a byte above 1 */
+#define LW_REFUSED_OUTPUT    32 /* output buffer too short */
+
+/* the record */
+
+/*
+  What each call yields. Every call says which fields it sets; the others
+  are 0. A refusal has its number as outcome, in row the place given at the
+  call, and 0 in all other fields.
+*/
+typedef struct {
+    uint32_t outcome; /* 0, or the number of the refusal */
+    uint32_t pieces;
+    uint32_t fresh;
+    uint32_t free;    /* a number of bits */
+    uint32_t ties;
+    uint32_t row;     /* of a refusal: its place, mostly a row of the table */
+} lw_record;
+
+/* calls */
+
+lw_record lw_value(const uint16_t *table, size_t table_len, size_t row,
+                   const uint8_t *pattern, size_t pattern_len,
+                   uint8_t *value, size_t value_len);
+/*
+     Writes the value of the given row of the table under the pattern.
+
+     If the call is accepted, outcome is LW_ACCEPTED, free is the width of the
+     row, and all other fields are 0. The first free bytes of value are then the
+     row's bits, high bit first; the bytes of value that follow keep their
+     content.
+
+     Otherwise outcome is the first refusal that applies, in the order below,
+     and nothing is written to value. The table is tested first, all of it,
+     also behind the row asked for; then the row, the pattern and the output.
+     The table's rows are tested from the lowest up, and each by all of 12 to 18
+     before the next row, so that the refusal is about the lowest row at fault.
+
+     outcome                 cause                               field row
+     11 LW_REFUSED_TABLE     table_len is no multiple of 4, or   512
+                             is above 2048 (over 512 rows)
+     12 LW_REFUSED_KIND      the kind is above 4                 that row
+     13 LW_REFUSED_UNUSED    b or c of a variable is not 0, or   that row
+                             c of a fill, a join or an equation
+     14 LW_REFUSED_NAME      a or b of a join or an equation,    that row
+                             or a of a cut, is not the number
+                             of an earlier row, or is the number
+                             of an equation
+     15 LW_REFUSED_WIDTH     the width of a variable, a fill or  that row
+                             a join is outside 1 to 1024, or the
+                             bit of a fill is above 1
+     16 LW_REFUSED_CUT       high of a cut is not below the      that row
+                             width of the row it cuts, or low is
+                             above high
+     17 LW_REFUSED_MAXIMUM   the row is the 65th variable or the that row
+                             65th equation, or a variable with
+                             which the variable bits exceed 4096
+     18 LW_REFUSED_SIDES     the sides of an equation have       that row
+                             unequal widths
+     30 LW_REFUSED_ROW       the table has no such row, or it is 0
+                             an equation
+     31 LW_REFUSED_PATTERN   pattern_len is not the number of    0
+                             the table's variable bits, or a
+                             byte of the pattern is above 1
+     32 LW_REFUSED_OUTPUT    value_len is below the row's width  0
+
+     The table and the pattern are only read.
+*/
+
+#ifdef __cplusplus
+}
+#endif
+
+#endif /* LINKWORDS_H */
