@@ -72,3 +72,11 @@ lt-or-le i r = go (ltb i r) refl
     go : (b : Bool) → ltb i r ≡ b → (i < r) ⊎ (r ≤ i)
     go true e = inl (ltb-true i r e)
     go false e = inr (ltb-false i r e)
+
+-- what holds of a number if it holds of all below it, holds of all
+pub by-strong : (P : ℕ → Type 0) → ((r : ℕ) → ((i : ℕ) → i < r → P i) → P r) → (r : ℕ) → P r
+by-strong P step r = step r (below r)
+  where
+    below : (r : ℕ) → (i : ℕ) → i < r → P i
+    below zero i h = absurd (omega arith)
+    below (suc r) i h = step i (λ j l. below r j (omega arith))

@@ -149,10 +149,10 @@ module _ (table ws₀ ws : List ℕ) (variables bits equations r : ℕ) (k : Che
 
     pub checking-answer : (row : Row) (v b e : ℕ) (f : Fault) → row ≡ rowAt rows r
         → v ≡ variables + cond (eqb (row .kind) 0) 1 0 → b ≡ bits + bitsIn row → e ≡ equations + cond (eqb (row .kind) 4) 1 0
-        → f ≡ firstRule r (ltb 4 (row .kind)) (unusedColumn row) (misnamed rows r row) (wrongWidth row (widthIn ws row))
+        → f ≡ firstRule (r % 65536) (ltb 4 (row .kind)) (unusedColumn row) (misnamed rows r row) (wrongWidth row (widthIn ws row))
         (wrongBounds row (getD ws (row .a) 0)) (tooMany v b e) (unequalSides row (getD ws (row .a) 0) (getD ws (row .b) 0))
         → f ≡ faultAt rows r
-    checking-answer row v b e f er ev eb ee ef = ef ∙ rw (ev, eb, ee, er) checking-fault
+    checking-answer row v b e f er ev eb ee ef = let small : r % 65536 ≡ r = omega (arith, few) in ef ∙ rw (small, ev, eb, ee, er) checking-fault
 
     -- one more row passed
     pub checking-more : isAccepted (faultAt rows r) ≡ true → (row : Row) (v b e w : ℕ) → row ≡ rowAt rows r

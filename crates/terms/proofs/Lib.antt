@@ -6,3 +6,9 @@ pub mod Widths
 pub mod Faults
 pub mod Checking
 pub mod Placing
+pub mod Words
+pub mod Values
+pub mod Sources
+pub mod Assignments
+pub mod Bounds
+pub mod AcceptedTable

@@ -8,15 +8,15 @@ use Rattle.terms.specs.declared.Fault.{Fault}
 use Rattle.terms.specs.declared.Fault.the-variants.{Accepted, Shape, Kind, Unused, Named, Width, Bounds, Count, Sides}
 
 -- A refusal's number stands as outcome; other fields are 0 but row.
-unfoldable pub refusal : ℕ → ℕ → Record
+abbrev pub refusal : ℕ → ℕ → Record
 refusal number row = record { outcome = number; pieces = 0; fresh = 0; free = 0; ties = 0; row = row }
 
 -- An accepted reading of a sheet, value, normal form or pattern: pieces, and the width as free.
-unfoldable pub completed : ℕ → ℕ → Record
+abbrev pub completed : ℕ → ℕ → Record
 completed pieces width = record { outcome = 0; pieces = pieces; fresh = 0; free = width; ties = 0; row = 0 }
 
 -- The number and the row of each fault of a table.
-unfoldable pub faultNumber : Fault → ℕ
+abbrev pub faultNumber : Fault → ℕ
 faultNumber Accepted = 0
 faultNumber Shape = 11
 faultNumber (Kind r) = 12
@@ -27,7 +27,7 @@ faultNumber (Bounds r) = 16
 faultNumber (Count r) = 17
 faultNumber (Sides r) = 18
 
-unfoldable pub faultRow : Fault → ℕ
+abbrev pub faultRow : Fault → ℕ
 faultRow Accepted = 0
 faultRow Shape = 512
 faultRow (Kind r) = r
@@ -38,8 +38,13 @@ faultRow (Bounds r) = r
 faultRow (Count r) = r
 faultRow (Sides r) = r
 
-unfoldable pub faultRecord : Fault → Record
+abbrev pub faultRecord : Fault → Record
 faultRecord f = refusal (faultNumber f) (faultRow f)
+
+-- The record of the first condition that is met, from the top down; a call that meets none is accepted.
+unfoldable pub stopAt : List (Bool × Record) → Record → Record
+stopAt [] accepted = accepted
+stopAt (s ∷ stops) accepted = cond (s .0) (s .1) (stopAt stops accepted)
 
 -- A buffer after `new` was written to its beginning, as far as it reaches: what follows keeps its content.
 unfoldable pub overwrite : List ℕ → List ℕ → List ℕ

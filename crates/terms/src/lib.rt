@@ -8,7 +8,7 @@ ghost use lib.Dec.{eqb, ltb};
 ghost use lib.ListN.{getD, length, set, take};
 ghost use Rattle.terms.specs.Table.{rowsOf, rowAt, widthIn, widthsOf, bitsIn, bitsOf, startsOf};
 ghost use Rattle.terms.specs.Faults.{unusedColumn, notTerm, misnamed, wrongWidth, wrongBounds, tooMany, unequalSides, firstRule, isAccepted, faultIn, rowsPassed};
-ghost use Rattle.terms.specs.Calls.{overwrite};
+ghost use Rattle.terms.specs.Calls.{overwrite, refusal, completed, faultNumber, faultRow, faultRecord};
 
 // The kinds of a row.
 pub const VARIABLE: u16 = 0;
@@ -57,13 +57,80 @@ pub struct Row {
 pub enum Fault {
     Accepted,
     Shape,
-    Kind(usize),
-    Unused(usize),
-    Named(usize),
-    Width(usize),
-    Bounds(usize),
-    Count(usize),
-    Sides(usize),
+    Kind(u16),
+    Unused(u16),
+    Named(u16),
+    Width(u16),
+    Bounds(u16),
+    Count(u16),
+    Sides(u16),
+}
+
+// A refusal: its number and its row.
+pub fn refuse(number: u32, row: u32) -> Record
+    ensures { λ r. ⌜ r ≡ refusal number row ⌝ }
+{
+    Record {
+        outcome: number,
+        pieces: 0,
+        fresh: 0,
+        free: 0,
+        ties: 0,
+        row: row,
+    }
+}
+
+// An accepted call that counts pieces and a width.
+pub fn complete(pieces: u32, width: u32) -> Record
+    ensures { λ r. ⌜ r ≡ completed pieces width ⌝ }
+{
+    Record {
+        outcome: 0,
+        pieces: pieces,
+        fresh: 0,
+        free: width,
+        ties: 0,
+        row: 0,
+    }
+}
+
+fn fault_number(f: Fault) -> u32
+    ensures { λ r. ⌜ r ≡ faultNumber f ⌝ }
+{
+    match f {
+        Fault::Accepted => 0,
+        Fault::Shape => 11,
+        Fault::Kind(_) => 12,
+        Fault::Unused(_) => 13,
+        Fault::Named(_) => 14,
+        Fault::Width(_) => 15,
+        Fault::Bounds(_) => 16,
+        Fault::Count(_) => 17,
+        Fault::Sides(_) => 18,
+    }
+}
+
+fn fault_row(f: Fault) -> u32
+    ensures { λ r. ⌜ r ≡ faultRow f ⌝ }
+{
+    match f {
+        Fault::Accepted => 0,
+        Fault::Shape => 512,
+        Fault::Kind(r) => r as u32,
+        Fault::Unused(r) => r as u32,
+        Fault::Named(r) => r as u32,
+        Fault::Width(r) => r as u32,
+        Fault::Bounds(r) => r as u32,
+        Fault::Count(r) => r as u32,
+        Fault::Sides(r) => r as u32,
+    }
+}
+
+// The record of what the check found.
+pub fn fault_record(f: Fault) -> Record
+    ensures { λ r. ⌜ r ≡ faultRecord f ⌝ }
+{
+    refuse(fault_number(f), fault_row(f))
 }
 
 pub fn wide(x: u16) -> usize
@@ -131,14 +198,13 @@ fn unused(row: Row) -> bool
 }
 
 // Whether x names no term before row r.
-fn not_term(table: &[u16], r: usize, x: u16) -> bool
+pub fn not_term(table: &[u16], r: usize, x: usize) -> bool
     ensures { λ n. ⌜ n ≡ notTerm (rowsOf (now (table .entry))) r x ⌝ }
 {
-    let i = wide(x);
-    if r <= i {
+    if r <= x {
         return true;
     }
-    let named = row_at(table, i);
+    let named = row_at(table, x);
     let kind = named.kind;
     if kind == EQUATION {
         return true;
@@ -154,13 +220,13 @@ fn bad_names(table: &[u16], r: usize, row: Row) -> bool
     if kind < CONCAT {
         return false;
     }
-    if not_term(table, r, row.a) {
+    if not_term(table, r, wide(row.a)) {
         return true;
     }
     if kind == EXTRACT {
         return false;
     }
-    not_term(table, r, row.b)
+    not_term(table, r, wide(row.b))
 }
 
 fn width_at(widths: &[u16], x: u16) -> usize
@@ -276,7 +342,7 @@ fn row_fault(
     bits: usize,
     equations: usize,
 ) -> Fault
-    ensures { λ f. ⌜ f ≡ firstRule r
+    ensures { λ f. ⌜ f ≡ firstRule (r % 65536)
         (ltb 4 (row .kind))
         (unusedColumn row)
         (misnamed (rowsOf (now (table .entry))) r row)
@@ -285,28 +351,29 @@ fn row_fault(
         (tooMany variables bits equations)
         (unequalSides row (getD (now (widths .entry)) (row .a) 0) (getD (now (widths .entry)) (row .b) 0)) ⌝ }
 {
+    let at = narrow(r);
     let kind = row.kind;
     if EQUATION < kind {
-        return Fault::Kind(r);
+        return Fault::Kind(at);
     }
     if unused(row) {
-        return Fault::Unused(r);
+        return Fault::Unused(at);
     }
     if bad_names(table, r, row) {
-        return Fault::Named(r);
+        return Fault::Named(at);
     }
     if bad_width(row, row_width(widths, row)) {
-        return Fault::Width(r);
+        return Fault::Width(at);
     }
     let left = width_at(widths, row.a);
     if bad_bounds(row, left) {
-        return Fault::Bounds(r);
+        return Fault::Bounds(at);
     }
     if too_many(variables, bits, equations) {
-        return Fault::Count(r);
+        return Fault::Count(at);
     }
     if bad_sides(row, left, width_at(widths, row.b)) {
-        return Fault::Sides(r);
+        return Fault::Sides(at);
     }
     Fault::Accepted
 }

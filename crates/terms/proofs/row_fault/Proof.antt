@@ -6,6 +6,7 @@ use lib.Dec.{ltb}
 use lib.ListN.{getD}
 use denote.Ref.{now}
 use borrow.Author.Tests.{lt-ltb, le-ltb}
+use Rattle.terms.specs.declared.Fault.the-variants.{Kind, Unused, Named, Width, Bounds, Count, Sides}
 use Rattle.terms.specs.Table.{rowsOf, widthIn}
 use Rattle.terms.specs.Faults.{unusedColumn, misnamed, wrongWidth, wrongBounds, tooMany, unequalSides, firstRule}
 use borrow.Author.Needs.{needs}
@@ -23,32 +24,35 @@ use Rattle.terms.proofs.unused.Reads as unused-reads
 use Rattle.terms.proofs.width_at.Reads as width-at-reads
 
 -- what the answer of each rule says of the row
-kept-12 : (d : tie.Else1) → ltb 4 (d .before .before .before .args .row .kind) ≡ false
+kept-12 : (d : tie.Else1) → ltb 4 (d .before .before .before .before .args .row .kind) ≡ false
 kept-12 d = le-ltb _ _ (d .if1 .left)
 
-said-13 : (d : tie.After-unused) → unusedColumn (d .before .before .before .before .args .row) ≡ d .unused .result
+said-13 : (d : tie.After-unused) → unusedColumn (d .before .before .before .before .before .args .row) ≡ d .unused .result
 said-13 d = sym (d .unused .ensures)
 
-said-14 : (d : tie.After-bad-names) → misnamed (rowsOf (now (d .before .before .before .before .before .before .args .table))) (d .before .before .before .before .before .before .args .r) (d .before .before .before .before .before .before .args .row) ≡ d .bad-names .result
+said-14 : (d : tie.After-bad-names) → misnamed (rowsOf (now (d .before .before .before .before .before .before .before .args .table))) (d .before .before .before .before .before .before .before .args .r) (d .before .before .before .before .before .before .before .args .row) ≡ d .bad-names .result
 said-14 d = sym (d .bad-names .ensures)
 
 said-15 : (d : tie.After-bad-width)
-    → wrongWidth (d .before .before .before .before .before .before .before .before .before .args .row) (widthIn (now (d .before .before .before .before .before .before .before .before .before .args .widths)) (d .before .before .before .before .before .before .before .before .before .args .row)) ≡ d .bad-width .result
-said-15 d = ap (wrongWidth (d .before .before .before .before .before .before .before .before .before .args .row)) (sym (d .before .row-width .ensures .0)) ∙ sym (d .bad-width .ensures)
+    → wrongWidth (d .before .before .before .before .before .before .before .before .before .before .args .row) (widthIn (now (d .before .before .before .before .before .before .before .before .before .before .args .widths)) (d .before .before .before .before .before .before .before .before .before .before .args .row)) ≡ d .bad-width .result
+said-15 d = ap (wrongWidth (d .before .before .before .before .before .before .before .before .before .before .args .row)) (sym (d .before .row-width .ensures .0)) ∙ sym (d .bad-width .ensures)
 
 said-16 : (d : tie.After-bad-bounds)
-    → wrongBounds (d .before .before .before .before .before .before .before .before .before .before .before .before .args .row) (getD (now (d .before .before .before .before .before .before .before .before .before .before .before .before .args .widths)) (d .before .before .before .before .before .before .before .before .before .before .before .before .args .row .a) 0) ≡ d .bad-bounds .result
-said-16 d = ap (wrongBounds (d .before .before .before .before .before .before .before .before .before .before .before .before .args .row)) (sym (d .before .width-at .ensures .0)) ∙ sym (d .bad-bounds .ensures)
+    → wrongBounds (d .before .before .before .before .before .before .before .before .before .before .before .before .before .args .row) (getD (now (d .before .before .before .before .before .before .before .before .before .before .before .before .before .args .widths)) (d .before .before .before .before .before .before .before .before .before .before .before .before .before .args .row .a) 0) ≡ d .bad-bounds .result
+said-16 d = ap (wrongBounds (d .before .before .before .before .before .before .before .before .before .before .before .before .before .args .row)) (sym (d .before .width-at .ensures .0)) ∙ sym (d .bad-bounds .ensures)
 
-said-17 : (d : tie.After-too-many) → tooMany (d .before .before .before .before .before .before .before .before .before .before .before .before .before .before .args .variables) (d .before .before .before .before .before .before .before .before .before .before .before .before .before .before .args .bits) (d .before .before .before .before .before .before .before .before .before .before .before .before .before .before .args .equations) ≡ d .too-many .result
+said-17 : (d : tie.After-too-many) → tooMany (d .before .before .before .before .before .before .before .before .before .before .before .before .before .before .before .args .variables) (d .before .before .before .before .before .before .before .before .before .before .before .before .before .before .before .args .bits) (d .before .before .before .before .before .before .before .before .before .before .before .before .before .before .before .args .equations) ≡ d .too-many .result
 said-17 d = sym (d .too-many .ensures)
 
 said-18 : (d : tie.After-bad-sides)
-    → unequalSides (d .before .before .before .before .before .before .before .before .before .before .before .before .before .before .before .before .before .args .row) (getD (now (d .before .before .before .before .before .before .before .before .before .before .before .before .before .before .before .before .before .args .widths)) (d .before .before .before .before .before .before .before .before .before .before .before .before .before .before .before .before .before .args .row .a) 0) (getD (now (d .before .before .before .before .before .before .before .before .before .before .before .before .before .before .before .before .before .args .widths)) (d .before .before .before .before .before .before .before .before .before .before .before .before .before .before .before .before .before .args .row .b) 0)
+    → unequalSides (d .before .before .before .before .before .before .before .before .before .before .before .before .before .before .before .before .before .before .args .row) (getD (now (d .before .before .before .before .before .before .before .before .before .before .before .before .before .before .before .before .before .before .args .widths)) (d .before .before .before .before .before .before .before .before .before .before .before .before .before .before .before .before .before .before .args .row .a) 0) (getD (now (d .before .before .before .before .before .before .before .before .before .before .before .before .before .before .before .before .before .before .args .widths)) (d .before .before .before .before .before .before .before .before .before .before .before .before .before .before .before .before .before .before .args .row .b) 0)
     ≡ d .bad-sides .result
 said-18 d =
-    ap₂ (unequalSides (d .before .before .before .before .before .before .before .before .before .before .before .before .before .before .before .before .before .args .row)) (sym (d .before .before .before .before .before .before .width-at .ensures .0)) (sym (d .before .width-at2 .ensures .0))
+    ap₂ (unequalSides (d .before .before .before .before .before .before .before .before .before .before .before .before .before .before .before .before .before .before .args .row)) (sym (d .before .before .before .before .before .before .width-at .ensures .0)) (sym (d .before .width-at2 .ensures .0))
     ∙ sym (d .bad-sides .ensures)
+
+narrow-requires : tie.Need-narrow-requires
+narrow-requires c κs = tt
 
 unused-requires : tie.Need-unused-requires
 unused-requires c κs = search needs
@@ -81,6 +85,7 @@ returns : tie.Need-returns
 unfolding firstRule
 returns c =
     rw (lt-ltb _ _ (c .if1 .taken))
+    (ap Kind (c .before .narrow .ensures))
 
 returns-2 : tie.Need-returns-2
 unfolding firstRule
@@ -89,6 +94,7 @@ returns-2 c =
       kept-12 (c .before .before),
       said-13 (c .before) ∙ (c) .if2 .taken,
     )
+    (ap Unused (c .before .before .before .narrow .ensures))
 
 returns-3 : tie.Need-returns-3
 unfolding firstRule
@@ -98,6 +104,7 @@ returns-3 c =
       said-13 (c .before .before .before) ∙ (c .before .before) .if2 .left,
       said-14 (c .before) ∙ (c) .if3 .taken,
     )
+    (ap Named (c .before .before .before .before .before .narrow .ensures))
 
 returns-4 : tie.Need-returns-4
 unfolding firstRule
@@ -108,6 +115,7 @@ returns-4 c =
       said-14 (c .before .before .before .before) ∙ (c .before .before .before) .if3 .left,
       said-15 (c .before) ∙ (c) .if4 .taken,
     )
+    (ap Width (c .before .before .before .before .before .before .before .before .narrow .ensures))
 
 returns-5 : tie.Need-returns-5
 unfolding firstRule
@@ -119,6 +127,7 @@ returns-5 c =
       said-15 (c .before .before .before .before) ∙ (c .before .before .before) .if4 .left,
       said-16 (c .before) ∙ (c) .if5 .taken,
     )
+    (ap Bounds (c .before .before .before .before .before .before .before .before .before .before .before .narrow .ensures))
 
 returns-6 : tie.Need-returns-6
 unfolding firstRule
@@ -131,6 +140,7 @@ returns-6 c =
       said-16 (c .before .before .before) ∙ (c .before .before) .if5 .left,
       said-17 (c .before) ∙ (c) .if6 .taken,
     )
+    (ap Count (c .before .before .before .before .before .before .before .before .before .before .before .before .before .narrow .ensures))
 
 returns-7 : tie.Need-returns-7
 unfolding firstRule
@@ -144,6 +154,7 @@ returns-7 c =
       said-17 (c .before .before .before .before) ∙ (c .before .before .before) .if6 .left,
       said-18 (c .before) ∙ (c) .if7 .taken,
     )
+    (ap Sides (c .before .before .before .before .before .before .before .before .before .before .before .before .before .before .before .before .narrow .ensures))
 
 returns-8 : tie.Need-returns-8
 unfolding firstRule
@@ -162,6 +173,7 @@ pub row-fault-spec : {M : Type 1} → statement M
 row-fault-spec =
     tie.close
     (tie.spec
+    narrow-requires
     returns
     unused-requires
     returns-2

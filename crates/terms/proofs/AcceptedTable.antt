@@ -1,0 +1,55 @@
+-- What an accepted table is: at most 512 whole rows, none of which breaks a rule.
+use mathlib.Core.Path.{_≡_, refl, sym, _∙_, ap}
+use mathlib.Core.Bool.{Bool, true, false, cond}
+use mathlib.Core.List.{List}
+use Prim.Native.Nat.{ℕ, _+_, _*_, _/_, _%_, _<_, _≤_}
+use native.Mathlib.Omega.{arith}
+use lib.Dec.{eqb, ltb}
+use lib.ListN.{length}
+use borrow.Author.Tests.{ltb-false, eqb-true, not-false}
+use Rattle.terms.specs.declared.Row.{Row}
+use Rattle.terms.specs.declared.Fault.{Fault}
+use Rattle.terms.specs.declared.Fault.the-variants.{Accepted, Shape, Kind, Unused, Named, Width, Bounds, Count, Sides}
+use Rattle.terms.specs.Table.{rowsOf, rowAt}
+use Rattle.terms.specs.Faults.{nonzero, breaks11, isAccepted, lowestFault, firstFault, notTerm}
+use Rattle.terms.proofs.Cases.{not-both, or-first, or-second}
+use Rattle.terms.proofs.Faults.{Kept, kept, passed-from, term, Term}
+use Rattle.terms.proofs.Values.{Sound}
+
+pub fault-none : (f : Fault) → isAccepted f ≡ true → f ≡ Accepted
+fault-none Accepted h = refl
+fault-none Shape h = absurd (not-both h refl)
+fault-none (Kind r) h = absurd (not-both h refl)
+fault-none (Unused r) h = absurd (not-both h refl)
+fault-none (Named r) h = absurd (not-both h refl)
+fault-none (Width r) h = absurd (not-both h refl)
+fault-none (Bounds r) h = absurd (not-both h refl)
+fault-none (Count r) h = absurd (not-both h refl)
+fault-none (Sides r) h = absurd (not-both h refl)
+
+pub record Table (numbers : List ℕ) : Type 0 where
+  pub few : length (rowsOf numbers) ≤ 512
+  pub whole : length numbers % 4 ≡ 0
+  pub sound : Sound (rowsOf numbers)
+
+shaped : (numbers : List ℕ) → breaks11 numbers ≡ false → Sound (rowsOf numbers) → Table numbers
+unfolding breaks11
+shaped numbers b sound =
+    let odd = nonzero (length numbers % 4) in
+    let long = ltb 512 (length (rowsOf numbers)) in
+    record {
+      few = ltb-false 512 (length (rowsOf numbers)) (or-second odd long b);
+      whole = eqb-true (length numbers % 4) 0 (not-false (eqb (length numbers % 4) 0) (or-first odd long b));
+      sound = sound;
+    }
+
+pub accepted-table : (numbers : List ℕ) → firstFault numbers ≡ Accepted → Table numbers
+unfolding firstFault
+accepted-table numbers e = go (breaks11 numbers) refl e
+  where
+    n : ℕ
+    n = length (rowsOf numbers)
+
+    go : (b : Bool) → breaks11 numbers ≡ b → cond b Shape (lowestFault (rowsOf numbers) 0 n) ≡ Accepted → Table numbers
+    go true b f = absurd (not-both (ap isAccepted f) refl)
+    go false b f = shaped numbers b (λ r h. passed-from (rowsOf numbers) 0 n f r (omega arith) (omega arith))

@@ -1,0 +1,100 @@
+-- A row's value under an assignment is the bits of its sources.
+use mathlib.Core.Path.{_≡_, refl, sym, _∙_, ap, ap₂}
+use mathlib.Core.List.{List, [], _∷_, _++_, map, append-assoc}
+use Prim.Native.Nat.{ℕ, zero, suc, _+_, _-_, _<_, _≤_}
+use native.Mathlib.Omega.{arith}
+use lib.ListN.{length, getD, take, drop, replicate, length-append}
+use lib.Seq.{getD-append-seam}
+use Rattle.terms.specs.declared.Row.{Row}
+use Rattle.terms.specs.Table.{rowAt, bitsOf, extract, valuesOf, valueOf, bitOf, countUp, sourcesOf}
+use Rattle.terms.proofs.Cases.{KindOf, is-variable, is-constant, is-concat, is-extract, is-equation, kind-of, by-strong}
+use Rattle.terms.proofs.Faults.{Kept, kept, kept-names, kept-bit, concat-names, extract-names}
+use Rattle.terms.proofs.Values.{Sound, value-variable, value-constant, value-concat, value-extract, value-equation}
+use Rattle.terms.proofs.Words.{extract-map}
+
+map-append : (f : ℕ → ℕ) (xs ys : List ℕ) → map f (xs ++ ys) ≡ map f xs ++ map f ys
+map-append f [] ys = refl
+map-append f (x ∷ xs) ys = ap (λ (l : List ℕ). f x ∷ l) (map-append f xs ys)
+
+map-take : (f : ℕ → ℕ) (n : ℕ) (xs : List ℕ) → map f (take n xs) ≡ take n (map f xs)
+map-take f zero xs = refl
+map-take f (suc n) [] = refl
+map-take f (suc n) (x ∷ xs) = ap (λ (l : List ℕ). f x ∷ l) (map-take f n xs)
+
+map-drop : (f : ℕ → ℕ) (n : ℕ) (xs : List ℕ) → map f (drop n xs) ≡ drop n (map f xs)
+map-drop f zero xs = refl
+map-drop f (suc n) [] = refl
+map-drop f (suc n) (x ∷ xs) = map-drop f n xs
+
+map-replicate : (f : ℕ → ℕ) (n b : ℕ) → f b ≡ b → map f (replicate n b) ≡ replicate n b
+map-replicate f zero b e = refl
+map-replicate f (suc n) b e = ap₂ (λ (x : ℕ) (l : List ℕ). x ∷ l) e (map-replicate f n b e)
+
+places-bits : (before p : List ℕ) → map (bitOf (before ++ p)) (countUp (suc (suc (length before))) (length p)) ≡ p
+unfolding bitOf countUp
+places-bits before [] = refl
+places-bits before (x ∷ p) =
+    let e : (before ++ (x ∷ [])) ++ p ≡ before ++ x ∷ p = append-assoc before (x ∷ []) p in
+    let n : length (before ++ (x ∷ [])) ≡ suc (length before) = omega (arith, length-append before (x ∷ [])) in
+    ap₂ (λ (y : ℕ) (l : List ℕ). y ∷ l) (getD-append-seam before x p 0)
+    (ap₂ (λ (q : List ℕ) (k : ℕ). map (bitOf q) (countUp (suc (suc k)) (length p))) (sym e) (sym n) ∙ places-bits (before ++ (x ∷ [])) p)
+
+-- the places of an assignment have its bits
+pub all-places : (p : List ℕ) (n : ℕ) → length p ≡ n → map (bitOf p) (countUp 2 n) ≡ p
+all-places p n e = ap (λ (k : ℕ). map (bitOf p) (countUp 2 k)) (sym e) ∙ places-bits [] p
+
+-- a constant's bit is its source
+constant-bit : (p : List ℕ) (b : ℕ) → b ≤ 1 → bitOf p b ≡ b
+unfolding bitOf
+constant-bit p zero h = refl
+constant-bit p (suc zero) h = refl
+constant-bit p (suc (suc b)) h = absurd (omega arith)
+
+-- the value of a row of an accepted table is its sources' bits
+pub value-sources : (t : List Row) (p : List ℕ) → Sound t → length p ≡ bitsOf t → (r : ℕ) → r < length t
+    → valueOf t p r ≡ map (bitOf p) (getD (sourcesOf t) r [])
+unfolding sourcesOf
+value-sources t p sound whole = by-strong (λ (r : ℕ). r < length t → valueOf t p r ≡ map (bitOf p) (valueOf t places r)) step
+  where
+    places : List ℕ
+    places = countUp 2 (bitsOf t)
+
+    step : (r : ℕ) → ((i : ℕ) → i < r → i < length t → valueOf t p i ≡ map (bitOf p) (valueOf t places i)) → r < length t
+        → valueOf t p r ≡ map (bitOf p) (valueOf t places r)
+    step r before h = go (kind-of (rowAt t r .kind))
+      where
+        k : Kept t r
+        k = kept t r (sound r h)
+
+        row : Row
+        row = rowAt t r
+
+        start : ℕ
+        start = bitsOf (take r t)
+
+        go : KindOf (rowAt t r .kind) → valueOf t p r ≡ map (bitOf p) (valueOf t places r)
+        go (is-variable e) =
+            value-variable t p r h e
+            ∙ ap (λ (q : List ℕ). take (row .a) (drop start q)) (sym (all-places p (bitsOf t) whole))
+            ∙ ap (take (row .a)) (sym (map-drop (bitOf p) start places))
+            ∙ sym (map-take (bitOf p) (row .a) (drop start places))
+            ∙ ap (map (bitOf p)) (sym (value-variable t places r h e))
+        go (is-constant e) =
+            value-constant t p r h e
+            ∙ sym (map-replicate (bitOf p) (row .b) (row .a) (constant-bit p (row .a) (kept-bit t r k e)))
+            ∙ ap (map (bitOf p)) (sym (value-constant t places r h e))
+        go (is-concat e) =
+            let names = concat-names t r (rowAt t r) (kept-names t r k) e in
+            value-concat t p r h k e
+            ∙ ap₂ (λ (x y : List ℕ). x ++ y)
+            (before (row .a) (names .0 .earlier) (omega (arith, names .0 .earlier)))
+            (before (row .b) (names .1 .earlier) (omega (arith, names .1 .earlier)))
+            ∙ sym (map-append (bitOf p) (valueOf t places (row .a)) (valueOf t places (row .b)))
+            ∙ ap (map (bitOf p)) (sym (value-concat t places r h k e))
+        go (is-extract e) =
+            let named = extract-names t r (rowAt t r) (kept-names t r k) e in
+            value-extract t p r h k e
+            ∙ ap (λ (w : List ℕ). extract w (row .b) (row .c)) (before (row .a) (named .earlier) (omega (arith, named .earlier)))
+            ∙ extract-map (bitOf p) (valueOf t places (row .a)) (row .b) (row .c)
+            ∙ ap (map (bitOf p)) (sym (value-extract t places r h k e))
+        go (is-equation e) = value-equation t p r h e ∙ ap (map (bitOf p)) (sym (value-equation t places r h e))

@@ -1,0 +1,127 @@
+-- The values of the rows of a table under an assignment: each kind's value from the values of the rows that it names,
+-- their lengths, and their bits as sources.
+use mathlib.Core.Path.{_≡_, refl, sym, _∙_, ap, ap₂}
+use mathlib.Core.List.{List, [], _∷_, _++_, map}
+use Prim.Native.Nat.{ℕ, zero, suc, _+_, _-_, _<_, _≤_, min}
+use native.Mathlib.Omega.{arith}
+use lib.ListN.{length, getD, take, drop, replicate, length-append, length-take, length-drop, length-replicate, length-map}
+use lib.Seq.{take-all, length-take-le}
+use Rattle.terms.specs.declared.Row.{Row}
+use Rattle.terms.specs.Table.{rowAt, byKind, byRows, widthIn, widthsOf, widthOf, bitsIn, bitsOf, extract, valueIn, valuesOf, valueOf, bitOf, countUp, sourcesOf}
+use Rattle.terms.proofs.Cases.{else-kind, KindOf, is-variable, is-constant, is-concat, is-extract, is-equation, kind-of, by-strong}
+use Rattle.terms.proofs.ByRows.{rows-count, rows-early, rows-at}
+use Rattle.terms.proofs.Widths.{width-row, width-early, bits-more}
+use Rattle.terms.proofs.Faults.{Term, Kept, kept, Passed, kept-names, kept-bit, kept-bounds, concat-names, extract-names}
+use Rattle.terms.proofs.Words.{extract-length, extract-map}
+
+pub values-count : (t : List Row) (p : List ℕ) → length (valuesOf t p) ≡ length t
+unfolding valuesOf
+values-count t p = rows-count (valueIn p) t
+
+value-row : (t : List Row) (p : List ℕ) (r : ℕ) → r < length t
+    → valueOf t p r ≡ valueIn p (take r t) (valuesOf (take r t) p) (rowAt t r)
+unfolding valuesOf
+value-row t p r h = rows-at (valueIn p) t r [] h
+
+value-early : (t : List Row) (p : List ℕ) (r i : ℕ) → r ≤ length t → i < r → getD (valuesOf (take r t) p) i [] ≡ valueOf t p i
+unfolding valuesOf
+value-early t p r i h l = rows-early (valueIn p) t r [] i h l
+
+module _ (t : List Row) (p : List ℕ) (r : ℕ) (h : r < length t) where
+  pub value-variable : rowAt t r .kind ≡ 0 → valueOf t p r ≡ take (rowAt t r .a) (drop (bitsOf (take r t)) p)
+  unfolding valueIn byKind
+  value-variable e = value-row t p r h ∙ rw e
+
+  pub value-constant : rowAt t r .kind ≡ 1 → valueOf t p r ≡ replicate (rowAt t r .b) (rowAt t r .a)
+  unfolding valueIn byKind
+  value-constant e = value-row t p r h ∙ rw e
+
+  pub value-concat : Kept t r → rowAt t r .kind ≡ 2 → valueOf t p r ≡ valueOf t p (rowAt t r .a) ++ valueOf t p (rowAt t r .b)
+  unfolding valueIn byKind
+  value-concat k e =
+      let names = concat-names t r (rowAt t r) (kept-names t r k) e in
+      value-row t p r h
+      ∙ rw (e, value-early t p r (rowAt t r .a) (omega arith) (names .0 .earlier), value-early t p r (rowAt t r .b) (omega arith) (names .1 .earlier))
+
+  pub value-extract : Kept t r → rowAt t r .kind ≡ 3 → valueOf t p r ≡ extract (valueOf t p (rowAt t r .a)) (rowAt t r .b) (rowAt t r .c)
+  unfolding valueIn byKind
+  value-extract k e =
+      let named = extract-names t r (rowAt t r) (kept-names t r k) e in
+      value-row t p r h ∙ rw (e, value-early t p r (rowAt t r .a) (omega arith) (named .earlier))
+
+  pub value-equation : 4 ≤ rowAt t r .kind → valueOf t p r ≡ []
+  unfolding valueIn
+  value-equation e = value-row t p r h ∙ rw else-kind
+
+bits-part : (t : List Row) (r : ℕ) → bitsOf (take r t) ≤ bitsOf t
+unfolding bitsOf
+bits-part [] zero = omega arith
+bits-part [] (suc r) = omega arith
+bits-part (x ∷ t) zero = omega arith
+bits-part (x ∷ t) (suc r) = omega (arith, bits-part t r)
+
+-- a variable's bits lie within the assignment
+pub variable-fits : (t : List Row) (r : ℕ) → r < length t → rowAt t r .kind ≡ 0 → bitsOf (take r t) + rowAt t r .a ≤ bitsOf t
+unfolding bitsIn byKind
+variable-fits t r h e =
+    let b : bitsIn (rowAt t r) ≡ rowAt t r .a = rw e in
+    omega (arith, bits-more t r h, bits-part t (suc r))
+
+-- widths, kind by kind
+module _ (t : List Row) (r : ℕ) (h : r < length t) where
+  pub width-variable : rowAt t r .kind ≡ 0 → widthOf t r ≡ rowAt t r .a
+  unfolding widthIn byKind
+  width-variable e = width-row t r h ∙ rw e
+
+  pub width-constant : rowAt t r .kind ≡ 1 → widthOf t r ≡ rowAt t r .b
+  unfolding widthIn byKind
+  width-constant e = width-row t r h ∙ rw e
+
+  pub width-concat : Kept t r → rowAt t r .kind ≡ 2 → widthOf t r ≡ widthOf t (rowAt t r .a) + widthOf t (rowAt t r .b)
+  unfolding widthIn byKind
+  width-concat k e =
+      let names = concat-names t r (rowAt t r) (kept-names t r k) e in
+      width-row t r h
+      ∙ rw (e, width-early t r (rowAt t r .a) (omega arith) (names .0 .earlier), width-early t r (rowAt t r .b) (omega arith) (names .1 .earlier))
+
+  pub width-extract : rowAt t r .kind ≡ 3 → widthOf t r ≡ rowAt t r .b + 1 - rowAt t r .c
+  unfolding widthIn byKind
+  width-extract e = width-row t r h ∙ rw e
+
+  pub width-equation : 4 ≤ rowAt t r .kind → widthOf t r ≡ 0
+  unfolding widthIn
+  width-equation e = width-row t r h ∙ rw else-kind
+
+-- each row of an accepted table breaks no rule
+abbrev pub Sound : List Row → Type 0
+Sound t = Passed t (length t)
+
+-- the value of a row of an accepted table is as long as the row is wide
+pub value-length : (t : List Row) (p : List ℕ) → Sound t → length p ≡ bitsOf t → (r : ℕ) → r < length t → length (valueOf t p r) ≡ widthOf t r
+value-length t p sound whole = by-strong (λ (r : ℕ). r < length t → length (valueOf t p r) ≡ widthOf t r) step
+  where
+    step : (r : ℕ) → ((i : ℕ) → i < r → i < length t → length (valueOf t p i) ≡ widthOf t i) → r < length t → length (valueOf t p r) ≡ widthOf t r
+    step r before h = go (kind-of (rowAt t r .kind))
+      where
+        k : Kept t r
+        k = kept t r (sound r h)
+
+        go : KindOf (rowAt t r .kind) → length (valueOf t p r) ≡ widthOf t r
+        go (is-variable e) =
+            ap length (value-variable t p r h e)
+            ∙ length-take-le (rowAt t r .a) (drop (bitsOf (take r t)) p) (omega (arith, length-drop (bitsOf (take r t)) p, variable-fits t r h e))
+            ∙ sym (width-variable t r h e)
+        go (is-constant e) = ap length (value-constant t p r h e) ∙ length-replicate (rowAt t r .b) (rowAt t r .a) ∙ sym (width-constant t r h e)
+        go (is-concat e) =
+            let names = concat-names t r (rowAt t r) (kept-names t r k) e in
+            let la = before (rowAt t r .a) (names .0 .earlier) (omega (arith, names .0 .earlier)) in
+            let lb = before (rowAt t r .b) (names .1 .earlier) (omega (arith, names .1 .earlier)) in
+            ap length (value-concat t p r h k e) ∙ length-append (valueOf t p (rowAt t r .a)) (valueOf t p (rowAt t r .b)) ∙ ap₂ _+_ la lb ∙ sym (width-concat t r h k e)
+        go (is-extract e) =
+            let named = extract-names t r (rowAt t r) (kept-names t r k) e in
+            let la = before (rowAt t r .a) (named .earlier) (omega (arith, named .earlier)) in
+            let bounds = kept-bounds t r k e in
+            ap length (value-extract t p r h k e)
+            ∙ extract-length (valueOf t p (rowAt t r .a)) (rowAt t r .b) (rowAt t r .c) (bounds .1) (omega (arith, la, bounds .0))
+            ∙ sym (width-extract t r h e)
+        go (is-equation e) = ap length (value-equation t p r h e) ∙ sym (width-equation t r h e)
