@@ -35,6 +35,9 @@ module _ (table widths starts pattern : List ℕ) (ready : Ready table widths st
   lengths : (x : ℕ) → x < length rows → length (valueOf rows pattern x) ≡ widthOf rows x
   lengths x h = value-length rows pattern (sound .sound) (ready .whole) x h
 
+  pub value-wide : length (valueOf rows pattern row) ≡ widthOf rows row
+  value-wide = lengths row (is .there)
+
   pub row-small : row < 512
   row-small = omega (arith, is .there, sound .few)
 

@@ -37,3 +37,68 @@ fn bit(table: &[u16], widths: &[u16], starts: &[u32], pattern: &[u8], row: usize
     }
     bit(table, widths, starts, pattern, a, width - (b + 1) + i)
 }
+
+// Whether each byte is 0 or 1.
+fn all_bits(pattern: &[u8]) -> bool
+    ensures { λ r. ⌜ r ≡ allBits (now (pattern .entry)) ⌝ }
+{
+    let mut i = 0;
+    while i < pattern.len() {
+        if 1 < pattern[i] {
+            return false;
+        }
+        i += 1;
+    }
+    true
+}
+
+// Writes the row's value to the beginning of the output.
+fn write_value(
+    table: &[u16],
+    widths: &[u16],
+    starts: &[u32],
+    pattern: &[u8],
+    row: usize,
+    output: &mut [u8],
+)
+    requires { ⌜ Ready (now table) (now widths) (now starts) (now pattern) ⌝ }
+    requires { ⌜ IsTerm (now table) row ⌝ }
+    requires { ⌜ widthOf (rowsOf (now table)) row ≤ length (now output) ⌝ }
+    ensures { λ _. ⌜ now (output .exit) ≡ overwrite (valueOf (rowsOf (now (table .entry))) (now (pattern .entry)) row) (now (output .entry)) ⌝ }
+{
+    let width = terms::wide(widths[row]);
+    let mut i = 0;
+    while i < width {
+        output[i] = bit(table, widths, starts, pattern, row, i);
+        i += 1;
+    }
+}
+
+// A row's value under a pattern, as bytes 0 and 1, high bit first.
+pub fn value(table: &[u16], row: usize, pattern: &[u8], output: &mut [u8]) -> Record
+    ensures record { λ r. ⌜ r ≡ valueRecord (now (table .entry)) row (now (pattern .entry)) (length (now (output .entry))) ⌝ }
+    ensures output { λ r. ⌜ now (output .exit) ≡ valueAfter (now (table .entry)) row (now (pattern .entry)) (now (output .entry)) ⌝ }
+{
+    let mut widths = [0u16; 512];
+    let fault = terms::check(table, &mut widths[..]);
+    if !terms::accepted(fault) {
+        return terms::fault_record(fault);
+    }
+    if terms::not_term(table, table.len() / 4, row) {
+        return terms::refuse(30, 0);
+    }
+    let mut starts = [0u32; 512];
+    let bits = terms::place(table, &mut starts[..]);
+    if bits != pattern.len() {
+        return terms::refuse(31, 0);
+    }
+    if !all_bits(pattern) {
+        return terms::refuse(31, 0);
+    }
+    let width = widths[row] as u32;
+    if output.len() < width as usize {
+        return terms::refuse(32, 0);
+    }
+    write_value(table, &widths[..], &starts[..], pattern, row, output);
+    terms::complete(0, width)
+}

@@ -1,0 +1,125 @@
+-- The value call's record and output, for each way in which the call ends.
+use mathlib.Core.Path.{_≡_, refl, sym, _∙_, ap}
+use mathlib.Core.Bool.{Bool, true, false, not, _||_, cond}
+use mathlib.Core.List.{List, [], _∷_}
+use Prim.Native.Nat.{ℕ, _<_, _≤_}
+use native.Mathlib.Omega.{arith}
+use lib.Dec.{eqb, ltb}
+use lib.ListN.{length, getD, take}
+use lib.Seq.{take-all}
+use borrow.Author.Tests.{lt-ltb, le-ltb, eq-eqb, ne-eqb}
+use Rattle.terms.specs.declared.Record.{Record}
+use Rattle.terms.specs.declared.Row.{Row}
+use Rattle.terms.specs.declared.Fault.{Fault}
+use Rattle.terms.specs.declared.Fault.the-variants.{Accepted, Shape, Kind, Unused, Named, Width, Bounds, Count, Sides}
+use Rattle.terms.specs.Table.{rowsOf, rowAt, widthsOf, widthOf, bitsOf, startsOf, valueOf}
+use Rattle.terms.specs.Faults.{isAccepted, firstFault, faultIn, rowsBefore, rowsPassed, notTerm}
+use Rattle.terms.specs.Calls.{refusal, completed, faultRecord, faultNumber, stopAt, overwrite}
+use Rattle.terms.proofs.AcceptedTable.{Table, accepted-table, fault-none}
+use Rattle.terms.proofs.Buffers.{overwrite-read, overwrite-length}
+use Rattle.terms.proofs.Cases.{not-both, or-true}
+use Rattle.terms.proofs.Faults.{Term, term}
+use Rattle.terms.proofs.Rows.{rows-length}
+use Rattle.terms.proofs.Widths.{widths-count, starts-count, start-row}
+use Rattle.values.specs.Value.{absent, allBits, wrongPattern, valueRecord, valueAfter}
+use Rattle.values.specs.Ready.{Ready, IsTerm}
+
+-- a fault's number is not 0
+fault-numbered : (f : Fault) → isAccepted f ≡ false → eqb (faultNumber f) 0 ≡ false
+fault-numbered Accepted h = absurd (not-both refl h)
+fault-numbered Shape h = refl
+fault-numbered (Kind r) h = refl
+fault-numbered (Unused r) h = refl
+fault-numbered (Named r) h = refl
+fault-numbered (Width r) h = refl
+fault-numbered (Bounds r) h = refl
+fault-numbered (Count r) h = refl
+fault-numbered (Sides r) h = refl
+
+module _ (table : List ℕ) (row : ℕ) (p old : List ℕ) where
+  abbrev rows : List Row
+  rows = rowsOf table
+
+  -- what the call promises of its record and its output
+  abbrev pub Answer : Record → List ℕ → Type 0
+  Answer r out = (r ≡ valueRecord table row p (length old)) × (out ≡ valueAfter table row p old)
+
+  refused : (r : Record) → r ≡ valueRecord table row p (length old) → eqb (r .outcome) 0 ≡ false → Answer r old
+  unfolding valueAfter
+  refused r e z = (e, rw (← e, z))
+
+  pub stop-fault : isAccepted (firstFault table) ≡ false → (r : Record) → r ≡ faultRecord (firstFault table) → Answer r old
+  unfolding valueRecord stopAt
+  stop-fault f r e = refused r (e ∙ rw f) (rw e (fault-numbered (firstFault table) f))
+
+  module _ (f : isAccepted (firstFault table) ≡ true) where
+    pub stop-absent : absent rows row ≡ true → (r : Record) → r ≡ refusal 30 0 → Answer r old
+    unfolding valueRecord stopAt
+    stop-absent a r e = refused r (e ∙ rw (f, a)) (rw e)
+
+    module _ (a : absent rows row ≡ false) where
+      pub stop-pattern : wrongPattern rows p ≡ true → (r : Record) → r ≡ refusal 31 0 → Answer r old
+      unfolding valueRecord stopAt
+      stop-pattern w r e = refused r (e ∙ rw (f, a, w)) (rw e)
+
+      module _ (w : wrongPattern rows p ≡ false) where
+        pub stop-room : length old < widthOf rows row → (r : Record) → r ≡ refusal 32 0 → Answer r old
+        unfolding valueRecord stopAt
+        stop-room l r e = refused r (e ∙ rw (f, a, w, lt-ltb (length old) (widthOf rows row) l)) (rw e)
+
+        pub written : widthOf rows row ≤ length old → (r : Record) (out : List ℕ) → r ≡ completed 0 (widthOf rows row) → out ≡ overwrite (valueOf rows p row) old → Answer r out
+        unfolding valueRecord stopAt valueAfter
+        written l r out e o =
+            let n = le-ltb (length old) (widthOf rows row) l in
+            (e ∙ rw (f, a, w, n), o ∙ rw (f, a, w, n))
+
+-- the check with room for 512 widths
+pub fault-found : (room : ℕ) (table : List ℕ) → room ≡ 512 → faultIn room table ≡ firstFault table
+unfolding faultIn
+fault-found room table e = rw e
+
+-- the widths that an accepted table leaves
+pub widths-left : (table old : List ℕ) → length old ≡ 512 → firstFault table ≡ Accepted → (r : ℕ) → r < length (rowsOf table)
+    → getD (overwrite (widthsOf (rowsPassed (length old) table)) old) r 0 ≡ widthOf (rowsOf table) r
+unfolding rowsPassed
+widths-left table old n f r h =
+    let t = accepted-table table f in
+    let all : take (rowsBefore (faultIn (length old) table) (length (rowsOf table))) (rowsOf table) ≡ rowsOf table =
+    ap (λ (g : Fault). take (rowsBefore g (length (rowsOf table))) (rowsOf table)) (fault-found (length old) table n ∙ f)
+    ∙ take-all (length (rowsOf table)) (rowsOf table) (omega arith) in
+    ap (λ (l : List Row). getD (overwrite (widthsOf l) old) r 0) all
+    ∙ overwrite-read (widthsOf (rowsOf table)) old r (omega (arith, widths-count (rowsOf table))) (omega (arith, t .few))
+
+first-rows : (table : List ℕ) → firstFault table ≡ Accepted → take 512 (rowsOf table) ≡ rowsOf table
+first-rows table f = take-all 512 (rowsOf table) (accepted-table table f .few)
+
+-- the starts and the bits that an accepted table has
+pub starts-left : (table old : List ℕ) → length old ≡ 512 → firstFault table ≡ Accepted → (r : ℕ) → r < length (rowsOf table)
+    → getD (overwrite (startsOf (take 512 (rowsOf table))) old) r 0 ≡ bitsOf (take r (rowsOf table))
+starts-left table old n f r h =
+    ap (λ (l : List Row). getD (overwrite (startsOf l) old) r 0) (first-rows table f)
+    ∙ overwrite-read (startsOf (rowsOf table)) old r (omega (arith, starts-count (rowsOf table))) (omega (arith, accepted-table table f .few))
+    ∙ start-row (rowsOf table) r h
+
+pub bits-found : (table : List ℕ) → firstFault table ≡ Accepted → bitsOf (take 512 (rowsOf table)) ≡ bitsOf (rowsOf table)
+bits-found table f = ap bitsOf (first-rows table f)
+
+-- a pattern's length and bytes
+pub pattern-short : (t : List Row) (p : List ℕ) → (bitsOf t ≡ length p → ⊥) → wrongPattern t p ≡ true
+unfolding wrongPattern
+pattern-short t p h = rw (ne-eqb (length p) (bitsOf t) (λ e. h (sym e)))
+
+pub pattern-broken : (t : List Row) (p : List ℕ) → allBits p ≡ false → wrongPattern t p ≡ true
+unfolding wrongPattern
+pattern-broken t p h = rw (h, or-true)
+
+pub pattern-right : (t : List Row) (p : List ℕ) → bitsOf t ≡ length p → allBits p ≡ true → wrongPattern t p ≡ false
+unfolding wrongPattern
+pattern-right t p e h = rw (eq-eqb (length p) (bitsOf t) (sym e), h)
+
+-- a row that is there
+pub row-there : (table : List ℕ) (row : ℕ) → absent (rowsOf table) row ≡ false → IsTerm table row
+unfolding absent
+row-there table row a =
+    let found = term (rowsOf table) (length (rowsOf table)) row a in
+    record { there = found .earlier; no-equation = found .no-equation }
