@@ -1,3 +1,4 @@
+pub mod Lists
 pub mod Cases
 pub mod Rows
 pub mod ByRows
@@ -12,3 +13,5 @@ pub mod Sources
 pub mod Assignments
 pub mod Bounds
 pub mod AcceptedTable
+pub mod Equations
+pub mod Satisfies

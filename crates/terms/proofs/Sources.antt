@@ -1,47 +1,21 @@
 -- A row's value under an assignment is the bits of its sources.
 use mathlib.Core.Path.{_≡_, refl, sym, _∙_, ap, ap₂}
-use mathlib.Core.List.{List, [], _∷_, _++_, map, append-assoc}
+use mathlib.Core.List.{List, [], _∷_, _++_, map}
 use Prim.Native.Nat.{ℕ, zero, suc, _+_, _-_, _<_, _≤_}
 use native.Mathlib.Omega.{arith}
-use lib.ListN.{length, getD, take, drop, replicate, length-append}
-use lib.Seq.{getD-append-seam}
+use lib.ListN.{length, getD, take, drop, replicate}
 use Rattle.terms.specs.declared.Row.{Row}
-use Rattle.terms.specs.Table.{rowAt, bitsOf, extract, valuesOf, valueOf, bitOf, countUp, sourcesOf}
+use Rattle.terms.specs.Table.{rowAt, bitsOf, extract, valuesOf, valueOf, bitOf, countUp, sourcesOf, sourceOf, widthOf}
 use Rattle.terms.proofs.Cases.{KindOf, is-variable, is-constant, is-concat, is-extract, is-equation, kind-of, by-strong}
 use Rattle.terms.proofs.Faults.{Kept, kept, kept-names, kept-bit, concat-names, extract-names}
-use Rattle.terms.proofs.Values.{Sound, value-variable, value-constant, value-concat, value-extract, value-equation}
+use Rattle.terms.proofs.Values.{Sound, value-length, value-variable, value-constant, value-concat, value-extract, value-equation}
+use Rattle.terms.proofs.Lists.{map-append, map-take, map-drop, map-replicate, read-places}
 use Rattle.terms.proofs.Words.{extract-map}
-
-map-append : (f : ℕ → ℕ) (xs ys : List ℕ) → map f (xs ++ ys) ≡ map f xs ++ map f ys
-map-append f [] ys = refl
-map-append f (x ∷ xs) ys = ap (λ (l : List ℕ). f x ∷ l) (map-append f xs ys)
-
-map-take : (f : ℕ → ℕ) (n : ℕ) (xs : List ℕ) → map f (take n xs) ≡ take n (map f xs)
-map-take f zero xs = refl
-map-take f (suc n) [] = refl
-map-take f (suc n) (x ∷ xs) = ap (λ (l : List ℕ). f x ∷ l) (map-take f n xs)
-
-map-drop : (f : ℕ → ℕ) (n : ℕ) (xs : List ℕ) → map f (drop n xs) ≡ drop n (map f xs)
-map-drop f zero xs = refl
-map-drop f (suc n) [] = refl
-map-drop f (suc n) (x ∷ xs) = map-drop f n xs
-
-map-replicate : (f : ℕ → ℕ) (n b : ℕ) → f b ≡ b → map f (replicate n b) ≡ replicate n b
-map-replicate f zero b e = refl
-map-replicate f (suc n) b e = ap₂ (λ (x : ℕ) (l : List ℕ). x ∷ l) e (map-replicate f n b e)
-
-places-bits : (before p : List ℕ) → map (bitOf (before ++ p)) (countUp (suc (suc (length before))) (length p)) ≡ p
-unfolding bitOf countUp
-places-bits before [] = refl
-places-bits before (x ∷ p) =
-    let e : (before ++ (x ∷ [])) ++ p ≡ before ++ x ∷ p = append-assoc before (x ∷ []) p in
-    let n : length (before ++ (x ∷ [])) ≡ suc (length before) = omega (arith, length-append before (x ∷ [])) in
-    ap₂ (λ (y : ℕ) (l : List ℕ). y ∷ l) (getD-append-seam before x p 0)
-    (ap₂ (λ (q : List ℕ) (k : ℕ). map (bitOf q) (countUp (suc (suc k)) (length p))) (sym e) (sym n) ∙ places-bits (before ++ (x ∷ [])) p)
 
 -- the places of an assignment have its bits
 pub all-places : (p : List ℕ) (n : ℕ) → length p ≡ n → map (bitOf p) (countUp 2 n) ≡ p
-all-places p n e = ap (λ (k : ℕ). map (bitOf p) (countUp 2 k)) (sym e) ∙ places-bits [] p
+unfolding bitOf
+all-places p n e = read-places 0 1 0 p n e
 
 -- a constant's bit is its source
 constant-bit : (p : List ℕ) (b : ℕ) → b ≤ 1 → bitOf p b ≡ b
@@ -81,7 +55,7 @@ value-sources t p sound whole = by-strong (λ (r : ℕ). r < length t → valueO
             ∙ ap (map (bitOf p)) (sym (value-variable t places r h e))
         go (is-constant e) =
             value-constant t p r h e
-            ∙ sym (map-replicate (bitOf p) (row .b) (row .a) (constant-bit p (row .a) (kept-bit t r k e)))
+            ∙ sym (map-replicate (bitOf p) (row .b) (row .a) ∙ ap (replicate (row .b)) (constant-bit p (row .a) (kept-bit t r k e)))
             ∙ ap (map (bitOf p)) (sym (value-constant t places r h e))
         go (is-concat e) =
             let names = concat-names t r (rowAt t r) (kept-names t r k) e in
@@ -98,3 +72,13 @@ value-sources t p sound whole = by-strong (λ (r : ℕ). r < length t → valueO
             ∙ extract-map (bitOf p) (valueOf t places (row .a)) (row .b) (row .c)
             ∙ ap (map (bitOf p)) (sym (value-extract t places r h k e))
         go (is-equation e) = value-equation t p r h e ∙ ap (map (bitOf p)) (sym (value-equation t places r h e))
+
+pub count-up : (k n : ℕ) → length (countUp k n) ≡ n
+unfolding countUp
+count-up k zero = refl
+count-up k (suc n) = ap suc (count-up (suc k) n)
+
+-- a row of an accepted table has as many sources as it is wide
+pub source-length : (t : List Row) → Sound t → (r : ℕ) → r < length t → length (sourceOf t r) ≡ widthOf t r
+unfolding sourcesOf
+source-length t sound r h = value-length t (countUp 2 (bitsOf t)) sound (count-up 2 (bitsOf t)) r h

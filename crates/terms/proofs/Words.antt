@@ -7,21 +7,12 @@ use native.Mathlib.Omega.{arith}
 use lib.ListN.{length, getD, take, drop, replicate, length-append, length-take, length-drop, length-map, length-replicate, getD-replicate}
 use lib.Seq.{take-all, take-nil, take-append-le, take-append-add, drop-append-le, drop-append-add, take-add, take-take, drop-drop, getD-take, getD-drop, ext-getD}
 use Rattle.terms.specs.Table.{extract}
+use Rattle.terms.proofs.Lists.{map-take, map-drop}
 
 drop-take : (m n : ℕ) (w : List ℕ) → drop m (take (n + m) w) ≡ take n (drop m w)
 drop-take zero n w = let all : n + 0 ≡ n = omega arith in rw all
 drop-take (suc m) n [] = simp take-nil
 drop-take (suc m) n (x ∷ w) = let more : n + suc m ≡ suc (n + m) = omega arith in rw more (drop-take m n w)
-
-take-map : (f : ℕ → ℕ) (n : ℕ) (w : List ℕ) → take n (map f w) ≡ map f (take n w)
-take-map f zero w = refl
-take-map f (suc n) [] = refl
-take-map f (suc n) (x ∷ w) = ap (λ (l : List ℕ). f x ∷ l) (take-map f n w)
-
-drop-map : (f : ℕ → ℕ) (n : ℕ) (w : List ℕ) → drop n (map f w) ≡ map f (drop n w)
-drop-map f zero w = refl
-drop-map f (suc n) [] = refl
-drop-map f (suc n) (x ∷ w) = drop-map f n w
 
 -- Bits high down to low of a word are high + 1 - low bits.
 pub extract-length : (w : List ℕ) (high low : ℕ) → low ≤ high → high < length w → length (extract w high low) ≡ high + 1 - low
@@ -105,7 +96,7 @@ extract-extract w i j k l h m n o = extract-skip w i j k l (i - j - k) h (omega 
 -- Bits may be changed one by one before an extraction or after it.
 pub extract-map : (f : ℕ → ℕ) (w : List ℕ) (i j : ℕ) → extract (map f w) i j ≡ map f (extract w i j)
 unfolding extract
-extract-map f w i j = rw (length-map, drop-map, take-map)
+extract-map f w i j = rw (length-map, ← map-drop f, ← map-take f)
 
 -- An extraction of copies of one bit is fewer copies of it.
 pub extract-replicate : (n b high low : ℕ) → low ≤ high → high < n → extract (replicate n b) high low ≡ replicate (high + 1 - low) b

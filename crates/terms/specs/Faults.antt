@@ -155,3 +155,7 @@ rowsBefore (Sides r) n = r
 -- The rows that the check passes: all of them, or those before the fault.
 unfoldable pub rowsPassed : ℕ → List ℕ → List Row
 rowsPassed room numbers = take (rowsBefore (faultIn room numbers) (length (rowsOf numbers))) (rowsOf numbers)
+
+-- 30: row absent or an equation
+unfoldable pub absent : List Row → ℕ → Bool
+absent t row = notTerm t (length t) row

@@ -108,6 +108,9 @@ countUp k (suc n) = k ∷ countUp (suc k) n
 unfoldable pub sourcesOf : List Row → List (List ℕ)
 sourcesOf t = valuesOf t (countUp 2 (bitsOf t))
 
+abbrev pub sourceOf : List Row → ℕ → List ℕ
+sourceOf t r = getD (sourcesOf t) r []
+
 -- Whether two words are equal bit for bit.
 unfoldable pub sameWord : List ℕ → List ℕ → Bool
 sameWord [] [] = true

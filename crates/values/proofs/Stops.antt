@@ -13,28 +13,16 @@ use Rattle.terms.specs.declared.Row.{Row}
 use Rattle.terms.specs.declared.Fault.{Fault}
 use Rattle.terms.specs.declared.Fault.the-variants.{Accepted, Shape, Kind, Unused, Named, Width, Bounds, Count, Sides}
 use Rattle.terms.specs.Table.{rowsOf, rowAt, widthsOf, widthOf, bitsOf, startsOf, valueOf}
-use Rattle.terms.specs.Faults.{isAccepted, firstFault, faultIn, rowsBefore, rowsPassed, notTerm}
+use Rattle.terms.specs.Faults.{absent, isAccepted, firstFault}
 use Rattle.terms.specs.Calls.{refusal, completed, faultRecord, faultNumber, stopAt, overwrite}
-use Rattle.terms.proofs.AcceptedTable.{Table, accepted-table, fault-none}
+use Rattle.terms.proofs.AcceptedTable.{Table, accepted-table, fault-numbered, term-there}
 use Rattle.terms.proofs.Buffers.{overwrite-read, overwrite-length}
 use Rattle.terms.proofs.Cases.{not-both, or-true}
 use Rattle.terms.proofs.Faults.{Term, term}
 use Rattle.terms.proofs.Rows.{rows-length}
 use Rattle.terms.proofs.Widths.{widths-count, starts-count, start-row}
-use Rattle.values.specs.Value.{absent, allBits, wrongPattern, valueRecord, valueAfter}
+use Rattle.values.specs.Value.{allBits, wrongPattern, valueRecord, valueAfter}
 use Rattle.values.specs.Ready.{Ready, IsTerm}
-
--- a fault's number is not 0
-fault-numbered : (f : Fault) → isAccepted f ≡ false → eqb (faultNumber f) 0 ≡ false
-fault-numbered Accepted h = absurd (not-both refl h)
-fault-numbered Shape h = refl
-fault-numbered (Kind r) h = refl
-fault-numbered (Unused r) h = refl
-fault-numbered (Named r) h = refl
-fault-numbered (Width r) h = refl
-fault-numbered (Bounds r) h = refl
-fault-numbered (Count r) h = refl
-fault-numbered (Sides r) h = refl
 
 module _ (table : List ℕ) (row : ℕ) (p old : List ℕ) where
   abbrev rows : List Row
@@ -73,23 +61,6 @@ module _ (table : List ℕ) (row : ℕ) (p old : List ℕ) where
             let n = le-ltb (length old) (widthOf rows row) l in
             (e ∙ rw (f, a, w, n), o ∙ rw (f, a, w, n))
 
--- the check with room for 512 widths
-pub fault-found : (room : ℕ) (table : List ℕ) → room ≡ 512 → faultIn room table ≡ firstFault table
-unfolding faultIn
-fault-found room table e = rw e
-
--- the widths that an accepted table leaves
-pub widths-left : (table old : List ℕ) → length old ≡ 512 → firstFault table ≡ Accepted → (r : ℕ) → r < length (rowsOf table)
-    → getD (overwrite (widthsOf (rowsPassed (length old) table)) old) r 0 ≡ widthOf (rowsOf table) r
-unfolding rowsPassed
-widths-left table old n f r h =
-    let t = accepted-table table f in
-    let all : take (rowsBefore (faultIn (length old) table) (length (rowsOf table))) (rowsOf table) ≡ rowsOf table =
-    ap (λ (g : Fault). take (rowsBefore g (length (rowsOf table))) (rowsOf table)) (fault-found (length old) table n ∙ f)
-    ∙ take-all (length (rowsOf table)) (rowsOf table) (omega arith) in
-    ap (λ (l : List Row). getD (overwrite (widthsOf l) old) r 0) all
-    ∙ overwrite-read (widthsOf (rowsOf table)) old r (omega (arith, widths-count (rowsOf table))) (omega (arith, t .few))
-
 first-rows : (table : List ℕ) → firstFault table ≡ Accepted → take 512 (rowsOf table) ≡ rowsOf table
 first-rows table f = take-all 512 (rowsOf table) (accepted-table table f .few)
 
@@ -117,9 +88,8 @@ pub pattern-right : (t : List Row) (p : List ℕ) → bitsOf t ≡ length p → 
 unfolding wrongPattern
 pattern-right t p e h = rw (eq-eqb (length p) (bitsOf t) (sym e), h)
 
--- a row that is there
+-- a row that is there, in the words of `Ready`
 pub row-there : (table : List ℕ) (row : ℕ) → absent (rowsOf table) row ≡ false → IsTerm table row
-unfolding absent
 row-there table row a =
-    let found = term (rowsOf table) (length (rowsOf table)) row a in
+    let found = term-there (rowsOf table) row a in
     record { there = found .earlier; no-equation = found .no-equation }

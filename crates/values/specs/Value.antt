@@ -7,12 +7,8 @@ use lib.ListN.{length}
 use Rattle.terms.specs.declared.Record.{Record}
 use Rattle.terms.specs.declared.Row.{Row}
 use Rattle.terms.specs.Table.{rowsOf, widthOf, bitsOf, valueOf}
-use Rattle.terms.specs.Faults.{notTerm, isAccepted, firstFault}
+use Rattle.terms.specs.Faults.{absent, isAccepted, firstFault}
 use Rattle.terms.specs.Calls.{refusal, completed, faultRecord, stopAt, overwrite}
-
--- 30: row absent or an equation
-unfoldable pub absent : List Row → ℕ → Bool
-absent t row = notTerm t (length t) row
 
 -- Whether each byte is 0 or 1.
 unfoldable pub allBits : List ℕ → Bool

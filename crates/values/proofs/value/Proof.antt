@@ -9,14 +9,14 @@ use denote.Ref.{now}
 use borrow.Author.Tests.{not-true, not-false}
 use Rattle.terms.specs.Table.{rowsOf, widthOf, bitsOf}
 use Rattle.terms.specs.declared.Fault.the-variants.{Accepted}
-use Rattle.terms.specs.Faults.{isAccepted, firstFault, notTerm}
+use Rattle.terms.specs.Faults.{absent, isAccepted, firstFault, notTerm}
 use Rattle.terms.specs.Calls.{faultRecord, completed}
-use Rattle.terms.proofs.AcceptedTable.{fault-none, accepted-table}
+use Rattle.terms.proofs.AcceptedTable.{fault-none, accepted-table, fault-found, widths-left}
 use Rattle.terms.proofs.Faults.{widths-small}
 use Rattle.terms.proofs.Rows.{rows-length}
-use Rattle.values.specs.Value.{absent, allBits, wrongPattern}
+use Rattle.values.specs.Value.{allBits, wrongPattern}
 use Rattle.values.specs.Ready.{Ready, IsTerm}
-use Rattle.values.proofs.Stops.{stop-fault, stop-absent, stop-pattern, stop-room, written, fault-found, widths-left, starts-left, bits-found, pattern-short, pattern-broken, pattern-right, row-there}
+use Rattle.values.proofs.Stops.{stop-fault, stop-absent, stop-pattern, stop-room, written, starts-left, bits-found, pattern-short, pattern-broken, pattern-right, row-there}
 use borrow.Author.Needs.{needs}
 use Rattle.values.proofs.value.Statement.{statement}
 use Rattle.values.proofs.value.Tie as tie

@@ -1,0 +1,72 @@
+-- What it is that an assignment satisfies a table: in each equation both sides have the same value.
+use mathlib.Core.Path.{_≡_, refl, sym, ap₂}
+use mathlib.Core.Bool.{Bool, true, false, _&&_}
+use mathlib.Core.List.{List, [], _∷_}
+use Prim.Native.Nat.{ℕ, zero, suc, _<_, _≤_}
+use native.Mathlib.Omega.{arith}
+use lib.Dec.{eqb}
+use lib.ListN.{length, getD}
+use borrow.Author.Tests.{eqb-true, eq-eqb}
+use Rattle.terms.specs.declared.Row.{Row}
+use Rattle.terms.specs.Table.{rowAt, valuesOf, valueOf, sameWord, sidesAgree, allRows, satisfies}
+use Rattle.terms.proofs.Cases.{each-kind, else-kind, not-both}
+
+both : (a b : Bool) → a && b ≡ true → (a ≡ true) × (b ≡ true)
+both true b h = (refl, h)
+both false b h = absurd (not-both h refl)
+
+-- Words that are found equal bit for bit are equal.
+pub same-word : (v w : List ℕ) → sameWord v w ≡ true → v ≡ w
+unfolding sameWord
+same-word [] [] h = refl
+same-word [] (y ∷ w) h = absurd (not-both h refl)
+same-word (x ∷ v) [] h = absurd (not-both h refl)
+same-word (x ∷ v) (y ∷ w) h =
+    let b = both (eqb x y) (sameWord v w) h in
+    ap₂ (λ (z : ℕ) (l : List ℕ). z ∷ l) (eqb-true x y (b .0)) (same-word v w (b .1))
+
+-- A word is found equal to itself bit for bit.
+pub word-same : (v : List ℕ) → sameWord v v ≡ true
+unfolding sameWord
+word-same [] = refl
+word-same (x ∷ v) = rw (eq-eqb x x refl) (word-same v)
+
+-- what is found of all rows holds of each, and the other way round
+all-at : (f : Row → Bool) (t : List Row) → allRows f t ≡ true → (r : ℕ) → r < length t → f (rowAt t r) ≡ true
+unfolding allRows
+all-at f [] h r l = absurd (omega arith)
+all-at f (x ∷ t) h zero l = both (f x) (allRows f t) h .0
+all-at f (x ∷ t) h (suc r) l = all-at f t (both (f x) (allRows f t) h .1) r (omega arith)
+
+all-of : (f : Row → Bool) (t : List Row) → ((r : ℕ) → r < length t → f (rowAt t r) ≡ true) → allRows f t ≡ true
+unfolding allRows
+all-of f [] h = refl
+all-of f (x ∷ t) h = rw (h 0 (omega arith)) (all-of f t (λ r l. h (suc r) (omega arith)))
+
+-- a row that is no equation agrees, and an equation agrees where its sides have the same value
+agree-at : (vs : List (List ℕ)) (r : Row) → 4 ≤ r .kind → sidesAgree vs r ≡ true → getD vs (r .a) [] ≡ getD vs (r .b) []
+unfolding sidesAgree
+agree-at vs r k h = same-word (getD vs (r .a) []) (getD vs (r .b) []) (rw else-kind at h)
+
+agree-of : (vs : List (List ℕ)) (r : Row) → (4 ≤ r .kind → getD vs (r .a) [] ≡ getD vs (r .b) []) → sidesAgree vs r ≡ true
+unfolding sidesAgree
+agree-of vs r h =
+    sym (each-kind (r .kind) true (λ e. refl) (λ e. refl) (λ e. refl) (λ e. refl)
+    (λ k. sym (rw (h k) (word-same (getD vs (r .b) [])))))
+
+module _ (t : List Row) (p : List ℕ) where
+  -- In a table that an assignment satisfies both sides of each equation have the same value.
+  pub satisfies-at : satisfies t p ≡ true → (r : ℕ) → r < length t → 4 ≤ rowAt t r .kind
+      → valueOf t p (rowAt t r .a) ≡ valueOf t p (rowAt t r .b)
+  unfolding satisfies
+  satisfies-at h r l k = agree-at (valuesOf t p) (rowAt t r) k (all-at (sidesAgree (valuesOf t p)) t h r l)
+
+  -- An assignment under which both sides of each equation have the same value satisfies the table.
+  pub satisfies-of : ((r : ℕ) → r < length t → 4 ≤ rowAt t r .kind → valueOf t p (rowAt t r .a) ≡ valueOf t p (rowAt t r .b))
+      → satisfies t p ≡ true
+  unfolding satisfies
+  satisfies-of h = all-of (sidesAgree (valuesOf t p)) t (λ r l. agree-of (valuesOf t p) (rowAt t r) (h r l))
+
+  -- A table without equations is satisfied by every assignment.
+  pub no-equations : ((r : ℕ) → r < length t → rowAt t r .kind < 4) → satisfies t p ≡ true
+  no-equations none = satisfies-of (λ r l k. absurd (omega (arith, none r l)))
