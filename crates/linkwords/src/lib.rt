@@ -3,6 +3,7 @@
 ghost use mathlib.Core.Path.{_≡_};
 ghost use lib.ListN.{length};
 ghost use Rattle.values.specs.Value.{valueRecord, valueAfter};
+ghost use Rattle.forms.specs.Call.{formRecord, formAfter};
 use terms::Record;
 
 // A row's value under a pattern.
@@ -12,4 +13,13 @@ pub extern "C" fn lw_value(table: &[u16], row: usize, pattern: &[u8], value: &mu
     ensures value { λ r. ⌜ now (value .exit) ≡ valueAfter (now (table .entry)) row (now (pattern .entry)) (now (value .entry)) ⌝ }
 {
     values::value(table, row, pattern, value)
+}
+
+// The normal form of a row, four numbers for each piece.
+#[no_mangle]
+pub extern "C" fn lw_normal_form(table: &[u16], row: usize, form: &mut [u16]) -> Record
+    ensures record { λ r. ⌜ r ≡ formRecord (now (table .entry)) row (length (now (form .entry))) ⌝ }
+    ensures form { λ r. ⌜ now (form .exit) ≡ formAfter (now (table .entry)) row (now (form .entry)) ⌝ }
+{
+    forms::normal_form(table, row, form)
 }

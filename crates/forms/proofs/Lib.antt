@@ -1,0 +1,10 @@
+pub mod Grouping
+pub mod Maximal
+pub mod PieceWidths
+pub mod Places
+pub mod Buffer
+pub mod Units
+pub mod Appending
+pub mod RowForms
+pub mod Numbering
+pub mod Stops
