@@ -172,3 +172,74 @@ lw_record ref_value(const uint16_t *table, size_t table_len, size_t row,
     memcpy(value, values[row], facts.width[row]);
     return (lw_record){.outcome = 0, .free = (uint32_t)facts.width[row]};
 }
+
+void ref_sources(const uint16_t *table, const ref_table *facts, size_t count,
+                 ref_source sources[][REF_WIDTH])
+{
+    const size_t *width = facts->width;
+    uint8_t variables = 0; /* those met so far */
+
+    for (size_t r = 0; r < count; r++) {
+        row_numbers w = row_of(table, r);
+        switch (w.kind) {
+        case VARIABLE: /* numbered from 0 as they appear */
+            for (size_t i = 0; i < width[r]; i++)
+                sources[r][i] = (ref_source){2, variables, (uint16_t)(width[r] - 1 - i)};
+            variables++;
+            break;
+        case FILL:
+            for (size_t i = 0; i < width[r]; i++)
+                sources[r][i] = (ref_source){(uint8_t)w.a, 0, 0};
+            break;
+        case JOIN:
+            memcpy(sources[r], sources[w.a], width[w.a] * sizeof(ref_source));
+            memcpy(sources[r] + width[w.a], sources[w.b], width[w.b] * sizeof(ref_source));
+            break;
+        case CUT:
+            memcpy(sources[r], sources[w.a] + (width[w.a] - 1 - w.b), width[r] * sizeof(ref_source));
+            break;
+        default:
+            break;
+        }
+    }
+}
+
+/* Whether a bit belongs to the piece of the bit on its left. */
+static bool one_piece(ref_source left, ref_source right)
+{
+    if (left.kind == 2 && right.kind == 2) /* bits i to j and j-1 to k of one variable */
+        return left.variable == right.variable && left.bit == right.bit + 1;
+    return left.kind == right.kind;        /* fills of one bit */
+}
+
+lw_record ref_normal_form(const uint16_t *table, size_t table_len, size_t row,
+                          uint16_t *form, size_t form_len)
+{
+    static ref_table facts;
+    static ref_source sources[REF_ROWS][REF_WIDTH];
+
+    lw_record record = ref_check(table, table_len, &facts);
+    if (record.outcome != 0)
+        return record;
+    if (row >= facts.rows || row_of(table, row).kind == EQUATION)
+        return refusal(30, 0);
+    if (form_len < 4096)
+        return refusal(32, 0);
+
+    ref_sources(table, &facts, row + 1, sources);
+    const ref_source *bits = sources[row];
+    size_t width = facts.width[row], pieces = 0, from = 0;
+    while (from < width) {
+        size_t to = from; /* the last bit of the piece */
+        while (to + 1 < width && one_piece(bits[to], bits[to + 1]))
+            to++;
+        uint16_t *piece = form + 4 * pieces;
+        piece[0] = bits[from].kind;
+        piece[1] = bits[from].variable;
+        piece[2] = bits[from].kind == 2 ? bits[from].bit : (uint16_t)(to - from);
+        piece[3] = bits[to].bit; /* 0 for a fill */
+        pieces++;
+        from = to + 1;
+    }
+    return (lw_record){.outcome = 0, .pieces = (uint32_t)pieces, .free = (uint32_t)width};
+}

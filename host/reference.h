@@ -41,4 +41,25 @@ lw_record ref_value(const uint16_t *table, size_t table_len, size_t row,
                     const uint8_t *pattern, size_t pattern_len,
                     uint8_t *value, size_t value_len);
 
+/*
+  Where a bit of a row comes from. A fixed bit has its value, 0 or 1, as kind,
+  and 0 in the other two; a bit of a variable has kind 2, the variable's number,
+  and its own number in the variable, the low bit's being 0.
+*/
+typedef struct {
+    uint8_t kind, variable;
+    uint16_t bit;
+} ref_source;
+
+/*
+  The sources of rows 0 to count - 1 of an accepted table: the first width
+  entries of sources[r] are those of row r's bits, high bit first.
+*/
+void ref_sources(const uint16_t *table, const ref_table *facts, size_t count,
+                 ref_source sources[][REF_WIDTH]);
+
+/* What lw_normal_form yields and writes. Not reentrant. */
+lw_record ref_normal_form(const uint16_t *table, size_t table_len, size_t row,
+                          uint16_t *form, size_t form_len);
+
 #endif /* REFERENCE_H */

@@ -50,10 +50,31 @@
   value is to be had under every pattern.
 
 
+                               Normal forms
+
+  A row's normal form tells where its bits come from: it is a list of pieces
+  that stand side by side, the high end of the row first. A piece is four 16-bit
+  numbers, in this order:
+
+     kind       meaning                     variable    high      low
+     0 or 1     fill, all bits are kind     0           width - 1 0
+     2 LW_PART  bits high down to low of a  its number  high      low
+                variable
+
+  So a piece has high - low + 1 bits, in either case. Pieces are as long as they
+  can be: neighbouring fills of one bit are one piece, and so are bits i down to
+  j and bits j-1 down to k of one variable. Nothing else is put together: not
+  parts of a variable that leave out a bit, overlap, or stand in reverse order,
+  nor parts of two variables.
+
+  Two rows of a table have the same value under every pattern exactly if their
+  normal forms are the same, piece by piece.
+
+
                                Every call
 
-  Lengths count elements, not bytes: 16-bit numbers for a table, bytes for a
-  pattern and for a value. A table of R rows has length 4 * R.
+  Lengths count elements, not bytes: 16-bit numbers for a table and for a normal
+  form, bytes for a pattern and for a value. A table of R rows has length 4 * R.
 
   Each pointer is to as many elements as its length says, aligned for their
   type. The buffers of one call must not overlap. A pointer may be NULL where
@@ -64,9 +85,10 @@
   calls are reentrant, and threads may call at the same time as long as no
   buffer that one call writes is used by another.
 
-  The greatest stack use of each call:
+  The greatest stack use of each call, measured (the return address counts):
 
-     lw_value  @STACK@ bytes
+     lw_value        44224 bytes
+     lw_normal_form  133184 bytes
 */
 
 #ifndef LINKWORDS_H
@@ -88,8 +110,13 @@ extern "C" {
 #define LW_CUT      3
 #define LW_EQUATION 4
 
+/* Kind of a piece that is a part of a variable; a fill has its bit as kind. */
+#define LW_PART 2
+
 /* Limits. */
 #define LW_ROW_NUMBERS          4 /* numbers of a row: kind, a, b, c */
+#define LW_PIECE_NUMBERS        4 /* of a piece: kind, variable, high, low */
+#define LW_FORM_NUMBERS      4096 /* least output of a normal form */
 #define LW_MAX_ROWS           512
 #define LW_MAX_WIDTH         1024
 #define LW_MAX_VARIABLES       64
@@ -175,6 +202,58 @@ lw_record lw_value(const uint16_t *table, size_t table_len, size_t row,
      32 LW_REFUSED_OUTPUT    value_len is below the row's width  0
 
      The table and the pattern are only read.
+*/
+
+lw_record lw_normal_form(const uint16_t *table, size_t table_len, size_t row,
+                         uint16_t *form, size_t form_len);
+/*
+     Writes the normal form of the given row of the table.
+
+     If the call is accepted, outcome is LW_ACCEPTED, pieces is the number of
+     pieces, which is at least 1 and at most the width of the row, free is the
+     width of the row, and all other fields are 0. The first 4 * pieces numbers
+     of form are then the pieces, the high end of the row first, each as kind,
+     variable, high and low; the numbers of form that follow keep their content.
+
+     A fill of w bits is its bit, 0, w - 1, 0. Bits i down to j of variable v
+     are 2, v, i, j; v is the variable's number, not that of its row.
+     Neighbouring pieces are put together where both are fills of one bit, or
+     where both are parts of one variable and the low of the left one is the
+     high of the right one plus 1, and nowhere else.
+
+     Otherwise outcome is the first refusal that applies, in the order below,
+     and nothing is written to form. The table is tested first, all of it, also
+     behind the row asked for; then the row, and then the output. The table's
+     rows are tested from the lowest up, and each by all of 12 to 18 before the
+     next row, so that the refusal is about the lowest row at fault.
+
+     outcome                 cause                               field row
+     11 LW_REFUSED_TABLE     table_len is no multiple of 4, or   512
+                             is above 2048 (over 512 rows)
+     12 LW_REFUSED_KIND      the kind is above 4                 that row
+     13 LW_REFUSED_UNUSED    b or c of a variable is not 0, or   that row
+                             c of a fill, a join or an equation
+     14 LW_REFUSED_NAME      a or b of a join or an equation,    that row
+                             or a of a cut, is not the number
+                             of an earlier row, or is the number
+                             of an equation
+     15 LW_REFUSED_WIDTH     the width of a variable, a fill or  that row
+                             a join is outside 1 to 1024, or the
+                             bit of a fill is above 1
+     16 LW_REFUSED_CUT       high of a cut is not below the      that row
+                             width of the row it cuts, or low is
+                             above high
+     17 LW_REFUSED_MAXIMUM   the row is the 65th variable or the that row
+                             65th equation, or a variable with
+                             which the variable bits exceed 4096
+     18 LW_REFUSED_SIDES     the sides of an equation have       that row
+                             unequal widths
+     30 LW_REFUSED_ROW       the table has no such row, or it is 0
+                             an equation
+     32 LW_REFUSED_OUTPUT    form_len is below LW_FORM_NUMBERS   0
+                             (4096), however few the pieces are
+
+     The table is only read.
 */
 
 #ifdef __cplusplus

@@ -8,3 +8,5 @@ pub mod Appending
 pub mod RowForms
 pub mod Numbering
 pub mod Stops
+pub mod FormValues
+pub mod Theorems

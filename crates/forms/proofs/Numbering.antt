@@ -28,7 +28,7 @@ numbers-more : (t : List Row) (r : ℕ) → r < length t → variablesIn (take (
 unfolding variablesIn
 numbers-more t r h = rows-more (λ before numbers r. countKind 0 before) t r h
 
-number-row : (t : List Row) (r : ℕ) → r < length t → getD (variablesIn t) r 0 ≡ countKind 0 (take r t)
+pub number-row : (t : List Row) (r : ℕ) → r < length t → getD (variablesIn t) r 0 ≡ countKind 0 (take r t)
 unfolding variablesIn
 number-row t r h = rows-at (λ before numbers r. countKind 0 before) t r 0 h
 

@@ -17,7 +17,7 @@ use Rattle.forms.specs.declared.Piece.{Piece}
 use Rattle.forms.specs.Form.{fill, part, bitsUp, placePieces, pieceOf, meets, merged, add, addAll, group, pieceWidth, formWidth}
 use Rattle.forms.proofs.PieceWidths.{Proper, AllProper, none, some}
 
-bits-count : (v low n : ℕ) → length (bitsUp v low n) ≡ n
+pub bits-count : (v low n : ℕ) → length (bitsUp v low n) ≡ n
 unfolding bitsUp
 bits-count v low zero = refl
 bits-count v low (suc n) = ap suc (bits-count v low n)

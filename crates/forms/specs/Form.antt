@@ -4,9 +4,9 @@ use mathlib.Core.Bool.{Bool, _&&_, _||_, cond}
 use mathlib.Core.List.{List, [], _∷_, _++_, map}
 use Prim.Native.Nat.{ℕ, zero, suc, _+_, _-_}
 use lib.Dec.{eqb, ltb}
-use lib.ListN.{getD}
+use lib.ListN.{getD, take, drop, replicate}
 use Rattle.terms.specs.declared.Row.{Row}
-use Rattle.terms.specs.Table.{byKind, sourceOf}
+use Rattle.terms.specs.Table.{byKind, extract, sourceOf}
 use Rattle.forms.specs.declared.Piece.{Piece}
 
 -- A fill (constant) of the bit b that is n + 1 wide.
@@ -65,6 +65,30 @@ formFrom t sources = group (map (pieceOf t) sources)
 
 unfoldable pub formOf : List Row → ℕ → List Piece
 formOf t r = formFrom t (sourceOf t r)
+
+-- The bits of each variable under the assignment p, variable 0 first.
+unfoldable pub variableBits : List Row → List ℕ → List (List ℕ)
+variableBits [] p = []
+variableBits (r ∷ rs) p =
+    byKind (r .kind)
+    (take (r .a) p ∷ variableBits rs (drop (r .a) p))
+    (variableBits rs p)
+    (variableBits rs p)
+    (variableBits rs p)
+    (variableBits rs p)
+
+-- The value of a piece, where vs are the variables' bits: a fill's copies, or bits high to low of its variable.
+unfoldable pub pieceValue : List (List ℕ) → Piece → List ℕ
+pieceValue vs p =
+    cond (ltb (p .kind) 2) (replicate (p .high + 1) (p .kind)) (extract (getD vs (p .variable) []) (p .high) (p .low))
+
+-- The value of a form under the assignment p: its pieces side by side.
+unfoldable pub piecesValue : List (List ℕ) → List Piece → List ℕ
+piecesValue vs [] = []
+piecesValue vs (p ∷ form) = pieceValue vs p ++ piecesValue vs form
+
+unfoldable pub formValue : List Row → List ℕ → List Piece → List ℕ
+formValue t p form = piecesValue (variableBits t p) form
 
 -- How many bits a piece has, and a form.
 unfoldable pub pieceWidth : Piece → ℕ

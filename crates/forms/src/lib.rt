@@ -51,6 +51,7 @@ fn at(numbers: &[u16], i: usize) -> u16
     0
 }
 
+// Whether two neighbours are one piece.
 fn meet(p: Piece, q: Piece) -> bool
     ensures { λ r. ⌜ r ≡ meets p q ⌝ }
 {
@@ -300,6 +301,7 @@ fn put_cut(
     put_cut(table, widths, variables, b, minus(right, 1), low, out, m)
 }
 
+// Writes one number, if there is room.
 fn put(buffer: &mut [u16], i: usize, x: u16)
     ensures { λ _. ⌜ now (buffer .exit) ≡ set (now (buffer .entry)) i x ⌝ }
 {

@@ -15,3 +15,4 @@ pub mod Bounds
 pub mod AcceptedTable
 pub mod Equations
 pub mod Satisfies
+pub mod Separation

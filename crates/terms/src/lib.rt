@@ -94,6 +94,7 @@ pub fn complete(pieces: u32, width: u32) -> Record
     }
 }
 
+// Document 01's number of a fault, and its row.
 fn fault_number(f: Fault) -> u32
     ensures { λ r. ⌜ r ≡ faultNumber f ⌝ }
 {
@@ -133,12 +134,14 @@ pub fn fault_record(f: Fault) -> Record
     refuse(fault_number(f), fault_row(f))
 }
 
+// x as an index.
 pub fn wide(x: u16) -> usize
     ensures { λ r. ⌜ (r ≡ x) × (r ≤ 65535) ⌝ }
 {
     x as usize
 }
 
+// Whether the check found no fault.
 pub fn accepted(f: Fault) -> bool
     ensures { λ r. ⌜ r ≡ isAccepted f ⌝ }
 {
@@ -176,7 +179,7 @@ pub fn row_at(table: &[u16], r: usize) -> Row
     }
 }
 
-// 13
+// Rule 13: an unused column is not 0.
 fn unused(row: Row) -> bool
     ensures { λ r. ⌜ r ≡ unusedColumn row ⌝ }
 {
@@ -212,7 +215,7 @@ pub fn not_term(table: &[u16], r: usize, x: usize) -> bool
     false
 }
 
-// 14
+// Rule 14: a named row is not earlier, or is an equation.
 fn bad_names(table: &[u16], r: usize, row: Row) -> bool
     ensures { λ n. ⌜ n ≡ misnamed (rowsOf (now (table .entry))) r row ⌝ }
 {
@@ -229,6 +232,7 @@ fn bad_names(table: &[u16], r: usize, row: Row) -> bool
     not_term(table, r, wide(row.b))
 }
 
+// The width of row x, 0 past the end.
 fn width_at(widths: &[u16], x: u16) -> usize
     ensures { λ r. ⌜ (r ≡ getD (now (widths .entry)) x 0) × (r ≤ 65535) ⌝ }
 {
@@ -261,7 +265,7 @@ fn row_width(widths: &[u16], row: Row) -> usize
     0
 }
 
-// 15
+// Rule 15: a width outside 1 to 1,024, or a constant's bit above 1.
 fn bad_width(row: Row, width: usize) -> bool
     ensures { λ r. ⌜ r ≡ wrongWidth row width ⌝ }
 {
@@ -284,7 +288,7 @@ fn bad_width(row: Row, width: usize) -> bool
     false
 }
 
-// 16
+// Rule 16: an extraction's high is not below the width of the row it is cut from, or low is above high.
 fn bad_bounds(row: Row, width: usize) -> bool
     ensures { λ r. ⌜ r ≡ wrongBounds row width ⌝ }
 {
@@ -302,7 +306,7 @@ fn bad_bounds(row: Row, width: usize) -> bool
     false
 }
 
-// 17
+// Rule 17: too many variables, variable bits or equations.
 fn too_many(variables: usize, bits: usize, equations: usize) -> bool
     ensures { λ r. ⌜ r ≡ tooMany variables bits equations ⌝ }
 {
@@ -318,7 +322,7 @@ fn too_many(variables: usize, bits: usize, equations: usize) -> bool
     false
 }
 
-// 18
+// Rule 18: an equation's sides have unequal widths.
 fn bad_sides(row: Row, left: usize, right: usize) -> bool
     ensures { λ r. ⌜ r ≡ unequalSides row left right ⌝ }
 {
@@ -378,6 +382,7 @@ fn row_fault(
     Fault::Accepted
 }
 
+// 1 if a row has the kind that is counted.
 fn one_if(kind: u16, wanted: u16) -> usize
     ensures { λ r. ⌜ (r ≡ cond (eqb kind wanted) 1 0) × (r ≤ 1) ⌝ }
 {
@@ -399,6 +404,7 @@ fn row_bits(row: Row) -> u32
     0
 }
 
+// x in 16 bits.
 fn narrow(x: usize) -> u16
     ensures { λ r. ⌜ r ≡ x % 65536 ⌝ }
 {
@@ -438,6 +444,7 @@ pub fn check(table: &[u16], widths: &mut [u16]) -> Fault
     Fault::Accepted
 }
 
+// Writes one number, if there is room.
 fn put(buffer: &mut [u32], i: usize, x: u32)
     ensures { λ _. ⌜ now (buffer .exit) ≡ set (now (buffer .entry)) i x ⌝ }
 {

@@ -1,0 +1,241 @@
+/*
+  random_table.h -- the tables of the C tests: written down in rows, or random
+
+  The random tables come from one sequence of numbers, always the same, so that
+  a run of a test can be had again.
+*/
+
+#ifndef RANDOM_TABLE_H
+#define RANDOM_TABLE_H
+
+#include <stdbool.h>
+#include <stdint.h>
+#include <stdio.h>
+
+#include "linkwords.h"
+
+/* Rows. */
+
+#define VARIABLE(width)    LW_VARIABLE, (width), 0, 0
+#define FILL(bit, width)   LW_FILL, (bit), (width), 0
+#define JOIN(a, b)         LW_JOIN, (a), (b), 0
+#define CUT(a, high, low)  LW_CUT, (a), (high), (low)
+#define EQUATION(a, b)     LW_EQUATION, (a), (b), 0
+
+/* A small table as two arguments: its numbers and their count. */
+#define TABLE(...) \
+    (const uint16_t[]){__VA_ARGS__}, sizeof((const uint16_t[]){__VA_ARGS__}) / sizeof(uint16_t)
+
+/* A table that grows; there is room for a few rows more than are allowed. */
+typedef struct {
+    uint16_t numbers[4 * (512 + 8)];
+    size_t len;
+} table;
+
+static inline void add(table *t, size_t kind, size_t a, size_t b, size_t c)
+{
+    uint16_t *n = t->numbers + t->len;
+    n[0] = (uint16_t)kind, n[1] = (uint16_t)a, n[2] = (uint16_t)b, n[3] = (uint16_t)c;
+    t->len += 4;
+}
+
+#define ALL(t) (t).numbers, (t).len
+
+static inline void print_table(const uint16_t *numbers, size_t len)
+{
+    printf("  kind a b c, %zu numbers:\n", len);
+    for (size_t i = 0; i < len; i++)
+        printf("%s%u%s", i % 4 == 0 ? "  " : " ", numbers[i], i % 4 == 3 || i + 1 == len ? "\n" : "");
+}
+
+/* Random numbers. */
+
+static uint64_t seed = 20240229;
+
+static inline uint64_t random_number(void) /* splitmix64 */
+{
+    uint64_t z = seed += 0x9E3779B97F4A7C15;
+    z = (z ^ (z >> 30)) * 0xBF58476D1CE4E5B9;
+    z = (z ^ (z >> 27)) * 0x94D049BB133111EB;
+    return z ^ (z >> 31);
+}
+
+static inline size_t below(size_t n)
+{
+    return (size_t)(random_number() % n);
+}
+
+static inline bool one_in(size_t n)
+{
+    return below(n) == 0;
+}
+
+/* A table in the making: what is known of its rows keeps the next row valid. */
+typedef struct {
+    table t;
+    size_t rows, variables, equations, bits;
+    size_t width[512]; /* 0 for an equation */
+    bool limited;      /* whether variables, equations and variable bits stay within their limits */
+} draft;
+
+static inline void clear(draft *d)
+{
+    d->t.len = d->rows = d->variables = d->equations = d->bits = 0;
+    d->limited = true;
+}
+
+/* Adds a row and gives its number. */
+static inline size_t add_row(draft *d, size_t width, size_t kind, size_t a, size_t b, size_t c)
+{
+    add(&d->t, kind, a, b, c);
+    d->width[d->rows] = width;
+    if (kind == LW_VARIABLE) {
+        d->variables++;
+        d->bits += width;
+    } else if (kind == LW_EQUATION) {
+        d->equations++;
+    }
+    return d->rows++;
+}
+
+/* A row that may be named, often a late one; NONE if there is none. */
+enum { NONE = 512 };
+
+static inline size_t some_term(const draft *d)
+{
+    for (int i = 0; i < 8 && d->rows != 0; i++) {
+        size_t r = one_in(2) || d->rows < 4 ? below(d->rows) : d->rows - 1 - below(4);
+        if (d->width[r] != 0)
+            return r;
+    }
+    return NONE;
+}
+
+/* A row as wide as row a, or of another width; NONE if there is none. */
+static inline size_t partner(const draft *d, size_t a, bool equal)
+{
+    size_t start = below(d->rows);
+    for (size_t i = 0; i < d->rows; i++) {
+        size_t r = (start + i) % d->rows;
+        if (d->width[r] != 0 && (d->width[r] == d->width[a]) == equal)
+            return r;
+    }
+    return NONE;
+}
+
+/* Adds a row of the kind if a valid one is found, else a fill. */
+static inline void grow(draft *d, size_t kind, size_t widest)
+{
+    size_t w = 1 + below(widest), a = some_term(d), b = some_term(d), high, low;
+
+    switch (a == NONE || b == NONE ? LW_VARIABLE : kind) {
+    case LW_VARIABLE:
+        if (!d->limited || (d->variables < 64 && d->bits + w <= 4096)) {
+            add_row(d, w, VARIABLE(w));
+            return;
+        }
+        break;
+    case LW_JOIN:
+        if (d->width[a] + d->width[b] <= 1024) {
+            add_row(d, d->width[a] + d->width[b], JOIN(a, b));
+            return;
+        }
+        break;
+    case LW_CUT:
+        low = one_in(3) ? 0 : below(d->width[a]);
+        high = one_in(3) ? d->width[a] - 1 : low + below(d->width[a] - low);
+        add_row(d, high - low + 1, CUT(a, high, low));
+        return;
+    case LW_EQUATION:
+        if (!d->limited || d->equations < 64) {
+            add_row(d, 0, EQUATION(a, partner(d, a, true)));
+            return;
+        }
+        break;
+    default:
+        break;
+    }
+    add_row(d, w, FILL(below(2), w));
+}
+
+/* A valid table, unless its limits are lifted. */
+static inline void make_table(draft *d)
+{
+    static const size_t sizes[] = {3, 12, 40, 120, 512}, widths[] = {1, 3, 8, 60, 300, 1024};
+    size_t rows = one_in(100) ? 0 : 1 + below(sizes[one_in(12) ? 4 : below(4)]), widest = widths[below(6)];
+    size_t favoured = below(5);
+
+    clear(d);
+    d->limited = !one_in(8);
+    while (d->rows < rows)
+        grow(d, one_in(2) ? favoured : below(5), widest);
+}
+
+/* A row of one of two kinds; NONE if there is none. */
+static inline size_t some_row(const draft *d, size_t kind, size_t other)
+{
+    size_t start = d->rows == 0 ? 0 : below(d->rows);
+    for (size_t i = 0; i < d->rows; i++) {
+        size_t r = (start + i) % d->rows;
+        if (d->t.numbers[4 * r] == kind || d->t.numbers[4 * r] == other)
+            return r;
+    }
+    return NONE;
+}
+
+/* Makes one fault, which the given refusal mostly tells; or changes some number. */
+static inline void damage(draft *d, unsigned refusal)
+{
+    size_t r = NONE, a;
+    uint16_t *n = d->t.numbers;
+
+    switch (refusal) {
+    case 11:
+        d->t.len = d->rows < 2 || one_in(2) ? 2049 + below(8) : d->t.len - 1 - below(3);
+        return;
+    case 14: r = some_row(d, one_in(2) ? LW_JOIN : LW_EQUATION, LW_CUT); break;
+    case 15: r = some_row(d, one_in(2) ? LW_VARIABLE : LW_JOIN, LW_FILL); break;
+    case 16: r = some_row(d, LW_CUT, LW_CUT); break;
+    case 18: r = some_row(d, LW_EQUATION, LW_EQUATION); break;
+    default: r = d->rows == 0 ? NONE : below(d->rows); break;
+    }
+    if (r == NONE)
+        return;
+    n += 4 * r;
+    switch (refusal) {
+    case 12:
+        n[0] = (uint16_t)(5 + below(one_in(2) ? 3 : 65531));
+        break;
+    case 13:
+        n[n[0] == LW_VARIABLE && one_in(2) ? 2 : 3] = (uint16_t)(1 + below(9));
+        break;
+    case 14:
+        a = one_in(3) ? some_row(d, LW_EQUATION, LW_EQUATION) : r + below(one_in(2) ? 2 : 600);
+        n[n[0] != LW_CUT && one_in(2) ? 2 : 1] = (uint16_t)a;
+        break;
+    case 15:
+        if (n[0] == LW_JOIN)
+            n[1] = n[2] = (uint16_t)(r - 1); /* too wide now and then */
+        else if (n[0] == LW_FILL && one_in(3))
+            n[1] = (uint16_t)(2 + below(3));
+        else
+            n[n[0] == LW_FILL ? 2 : 1] = (uint16_t)(one_in(2) ? 0 : 1025 + below(3));
+        break;
+    case 16:
+        if (n[1] < r && one_in(2))
+            n[2] = (uint16_t)(d->width[n[1]] + below(2));
+        else
+            n[3] = (uint16_t)(n[2] + 1U);
+        break;
+    case 18:
+        a = n[1] < r ? partner(d, n[1], false) : NONE;
+        if (a < r)
+            n[2] = (uint16_t)a;
+        break;
+    default:
+        n[below(4)] = (uint16_t)below(one_in(2) ? 6 : 65536);
+        break;
+    }
+}
+
+#endif /* RANDOM_TABLE_H */

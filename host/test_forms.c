@@ -1,0 +1,1067 @@
+/*
+  test_forms.c -- tests of lw_normal_form
+
+      test_forms [TABLES]
+
+  First normal forms and refusals worked by hand. Then TABLES random tables
+  (20000 if not given), on which the library is compared with reference.c, and
+  a twentieth as many small ones, on which the normal forms of each two rows are
+  compared with the rows' values under every pattern. Last, how the time of a
+  call grows. But for the last two, every call is made on guarded buffers, and
+  its record and every number of every buffer are compared.
+
+  The run fails too if some kind of random table does not occur; so there should
+  be at least 1000.
+*/
+
+#define _POSIX_C_SOURCE 199309L /* clock_gettime */
+
+#include <time.h>
+
+#include "guard.h"
+#include "linkwords.h"
+#include "random_table.h"
+#include "reference.h"
+
+/* Pieces. A form is written down as a table is: see TABLE. */
+
+#define PART(variable, high, low)  LW_PART, (variable), (high), (low)
+#define ZEROS(width)               0, 0, (width) - 1, 0
+#define ONES(width)                1, 0, (width) - 1, 0
+#define FORM                       TABLE
+
+/* Calls and what they are compared with. */
+
+static void print_form(const char *name, const uint16_t *form, size_t pieces)
+{
+    printf("  %s:", name);
+    for (size_t i = 0; i < pieces && i < 16; i++)
+        printf(" (%u %u %u %u)", form[4 * i], form[4 * i + 1], form[4 * i + 2], form[4 * i + 3]);
+    printf("%s\n", pieces > 16 ? " .." : "");
+}
+
+static bool check_record(int line, const char *name, lw_record got, lw_record want)
+{
+    return check(got.outcome == want.outcome && got.pieces == want.pieces && got.fresh == want.fresh &&
+                 got.free == want.free && got.ties == want.ties && got.row == want.row, __FILE__, line,
+                 "%s: record %u %u %u %u %u %u, expected %u %u %u %u %u %u", name,
+                 got.outcome, got.pieces, got.fresh, got.free, got.ties, got.row,
+                 want.outcome, want.pieces, want.fresh, want.free, want.ties, want.row);
+}
+
+/*
+  One call: the record; table unchanged; want_form as the first 4 * want.pieces
+  numbers of the output, and behind them what was there before. The output has
+  form_len numbers, those of content if it is not NULL.
+*/
+static void call(int line, const char *name, const uint16_t *numbers, size_t len, size_t row,
+                 const uint16_t *content, size_t form_len, lw_record want, const uint16_t *want_form)
+{
+    unsigned long failed = checks_failed;
+    guarded t = guard(numbers, len * sizeof *numbers);
+    guarded f = guard(content, form_len * sizeof *content);
+    static uint16_t start[4 * 16]; /* of the output, to be printed */
+
+    lw_record got = lw_normal_form(guarded_buffer(&t), len, row, guarded_buffer(&f), form_len);
+    if (want_form != NULL)
+        guard_expect(&f, want_form, 4 * want.pieces * sizeof *want_form);
+    if (form_len >= 4 * 16)
+        memcpy(start, guarded_buffer(&f), sizeof start);
+    check_record(line, name, got, want);
+    guard_check(&t, __FILE__, line, "table");
+    guard_check(&f, __FILE__, line, "form");
+    if (checks_failed != failed && failed == 0) {
+        printf("  row %zu, output of %zu numbers\n", row, form_len);
+        print_table(numbers, len);
+        if (want.outcome == 0 && got.outcome == 0) {
+            print_form("form", start, got.pieces < 16 ? got.pieces : 16);
+            print_form("expected", want_form, want.pieces);
+        }
+    }
+}
+
+/*
+  The row has this width and this form: with an output of exactly 4096 numbers
+  and with longer ones, whatever stands there before. Numbers that are all 0, 1
+  or 2 look like pieces to go on from.
+*/
+static void accept(int line, const uint16_t *numbers, size_t len, size_t row, size_t width,
+                   const uint16_t *form, size_t form_len)
+{
+    lw_record want = {.pieces = (uint32_t)(form_len / 4), .free = (uint32_t)width};
+    uint16_t content[4096];
+
+    size_t sum = 0; /* a slip in what is expected is found too */
+    for (size_t i = 0; i < form_len; i += 4)
+        sum += (size_t)form[i + 2] - form[i + 3] + 1;
+    check(sum == width, __FILE__, line, "expected pieces have %zu bits, expected width %zu", sum, width);
+
+    call(line, "accepted", numbers, len, row, NULL, 4096, want, form);
+    call(line, "accepted, longer output", numbers, len, row, NULL, 4096 + 9, want, form);
+    for (uint16_t k = 0; k < 3; k++) {
+        for (size_t i = 0; i < 4096; i++)
+            content[i] = k;
+        call(line, "accepted, output of like numbers", numbers, len, row, content, 4096, want, form);
+    }
+}
+
+/* The call is refused for its row or its output. */
+static void refuse(int line, const uint16_t *numbers, size_t len, size_t row, size_t form_len, uint32_t number)
+{
+    call(line, "refused", numbers, len, row, NULL, form_len, (lw_record){.outcome = number}, NULL);
+}
+
+/* The table is refused, whether or not the row and the output are wrong as well. */
+static void refuse_table(int line, const uint16_t *numbers, size_t len, uint32_t number, uint32_t row)
+{
+    lw_record want = {.outcome = number, .row = row};
+    call(line, "refused", numbers, len, 0, NULL, 4096, want, NULL);
+    call(line, "refused, row wrong too", numbers, len, SIZE_MAX, NULL, 4096, want, NULL);
+    call(line, "refused, output wrong too", numbers, len, 0, NULL, 4095, want, NULL);
+    call(line, "refused, all else wrong too", numbers, len, SIZE_MAX, NULL, 0, want, NULL);
+}
+
+#define ACCEPT(...)       accept(__LINE__, __VA_ARGS__)
+#define REFUSE(...)       refuse(__LINE__, __VA_ARGS__)
+#define REFUSE_TABLE(...) refuse_table(__LINE__, __VA_ARGS__)
+
+/* The header's numbers are those of the specification. */
+static void test_constants(void)
+{
+    check(LW_PART == 2, __FILE__, __LINE__, "LW_PART is %d", LW_PART);
+    check(LW_PIECE_NUMBERS == 4, __FILE__, __LINE__, "LW_PIECE_NUMBERS is %d", LW_PIECE_NUMBERS);
+    check(LW_FORM_NUMBERS == 4096, __FILE__, __LINE__, "LW_FORM_NUMBERS is %d", LW_FORM_NUMBERS);
+    group_done("the header's constants");
+}
+
+/* Variables and fills. */
+static void test_leaves(void)
+{
+    ACCEPT(TABLE(VARIABLE(8)), 0, 8, FORM(2, 0, 7, 0));
+    ACCEPT(TABLE(VARIABLE(1)), 0, 1, FORM(2, 0, 0, 0));
+    ACCEPT(TABLE(VARIABLE(1024)), 0, 1024, FORM(2, 0, 1023, 0));
+    ACCEPT(TABLE(FILL(0, 1)), 0, 1, FORM(0, 0, 0, 0));
+    ACCEPT(TABLE(FILL(1, 1)), 0, 1, FORM(1, 0, 0, 0));
+    ACCEPT(TABLE(FILL(0, 3)), 0, 3, FORM(0, 0, 2, 0));
+    ACCEPT(TABLE(FILL(1, 1024)), 0, 1024, FORM(1, 0, 1023, 0));
+
+    /* Variables are numbered as they appear, whatever stands between them. A fill's variable is 0. */
+    static const uint16_t between[] = {
+        FILL(1, 2), VARIABLE(2), EQUATION(0, 1), VARIABLE(3), CUT(3, 0, 0), VARIABLE(1), FILL(1, 4),
+    };
+    ACCEPT(between, 28, 0, 2, FORM(ONES(2)));
+    ACCEPT(between, 28, 1, 2, FORM(PART(0, 1, 0)));
+    ACCEPT(between, 28, 3, 3, FORM(PART(1, 2, 0)));
+    ACCEPT(between, 28, 4, 1, FORM(PART(1, 0, 0)));
+    ACCEPT(between, 28, 5, 1, FORM(PART(2, 0, 0)));
+    ACCEPT(between, 28, 6, 4, FORM(1, 0, 3, 0));
+
+    /* Equations do not bear on normal forms. */
+    ACCEPT(TABLE(VARIABLE(8), CUT(0, 6, 3), CUT(0, 4, 1), EQUATION(1, 2)), 1, 4, FORM(PART(0, 6, 3)));
+    ACCEPT(TABLE(VARIABLE(8), CUT(0, 6, 3), CUT(0, 4, 1), EQUATION(1, 2)), 2, 4, FORM(PART(0, 4, 1)));
+    ACCEPT(TABLE(VARIABLE(2), FILL(1, 2), EQUATION(0, 1), JOIN(0, 1)), 3, 4, FORM(PART(0, 1, 0), ONES(2)));
+    group_done("variables and fills");
+}
+
+/* Fills side by side. */
+static void test_fills(void)
+{
+    /* One bit. */
+    ACCEPT(TABLE(FILL(0, 2), FILL(0, 3), JOIN(0, 1)), 2, 5, FORM(0, 0, 4, 0));
+    ACCEPT(TABLE(FILL(1, 2), FILL(1, 3), JOIN(0, 1)), 2, 5, FORM(1, 0, 4, 0));
+    ACCEPT(TABLE(FILL(0, 1), FILL(0, 1), JOIN(0, 1)), 2, 2, FORM(ZEROS(2)));
+    ACCEPT(TABLE(FILL(1, 4), JOIN(0, 0)), 1, 8, FORM(ONES(8)));
+    ACCEPT(TABLE(FILL(1, 1023), FILL(1, 1), JOIN(0, 1)), 2, 1024, FORM(ONES(1024)));
+    ACCEPT(TABLE(FILL(1, 1), FILL(1, 2), FILL(1, 4), JOIN(0, 1), JOIN(3, 2)), 4, 7, FORM(ONES(7)));
+    ACCEPT(TABLE(FILL(1, 1), FILL(1, 2), FILL(1, 4), JOIN(1, 2), JOIN(0, 3)), 4, 7, FORM(ONES(7)));
+
+    /* Different bits. */
+    ACCEPT(TABLE(FILL(0, 2), FILL(1, 3), JOIN(0, 1)), 2, 5, FORM(ZEROS(2), ONES(3)));
+    ACCEPT(TABLE(FILL(0, 2), FILL(1, 3), JOIN(1, 0)), 2, 5, FORM(ONES(3), ZEROS(2)));
+    ACCEPT(TABLE(FILL(0, 1), FILL(1, 1), JOIN(0, 1), JOIN(2, 2)), 3, 4,
+           FORM(ZEROS(1), ONES(1), ZEROS(1), ONES(1)));
+
+    /* 0 11 joined with 1 00: the fills in the middle are one. */
+    ACCEPT(TABLE(FILL(0, 1), FILL(1, 2), JOIN(0, 1), FILL(1, 1), FILL(0, 2), JOIN(3, 4), JOIN(2, 5)), 6, 6,
+           FORM(ZEROS(1), ONES(3), ZEROS(2)));
+
+    /* A variable between fills keeps them apart; so does one bit of the other kind. */
+    ACCEPT(TABLE(FILL(1, 2), VARIABLE(1), JOIN(0, 1), JOIN(2, 0)), 3, 5, FORM(ONES(2), PART(0, 0, 0), ONES(2)));
+    ACCEPT(TABLE(FILL(0, 4), FILL(1, 1), JOIN(0, 1), JOIN(2, 0)), 3, 9, FORM(ZEROS(4), ONES(1), ZEROS(4)));
+
+    /* Fills that meet once what is between them is cut away: 11 x cut to 11, then 111. */
+    ACCEPT(TABLE(FILL(1, 2), VARIABLE(4), JOIN(0, 1), CUT(2, 5, 4), FILL(1, 3), JOIN(3, 4)), 5, 5, FORM(ONES(5)));
+    /* 11 x cut to 11 and the high bit of x. */
+    ACCEPT(TABLE(FILL(1, 2), VARIABLE(4), JOIN(0, 1), CUT(2, 5, 3), FILL(1, 3), JOIN(3, 4)), 5, 6,
+           FORM(ONES(2), PART(0, 3, 3), ONES(3)));
+
+    /* A fill beside a part is not put to it, though the numbers of the pieces are in step. */
+    ACCEPT(TABLE(VARIABLE(8), CUT(0, 7, 4), FILL(0, 4), JOIN(1, 2)), 3, 8, FORM(PART(0, 7, 4), ZEROS(4)));
+    ACCEPT(TABLE(VARIABLE(8), CUT(0, 7, 4), FILL(1, 4), JOIN(1, 2)), 3, 8, FORM(PART(0, 7, 4), ONES(4)));
+    ACCEPT(TABLE(VARIABLE(8), FILL(1, 4), JOIN(1, 0)), 2, 12, FORM(ONES(4), PART(0, 7, 0)));
+    ACCEPT(TABLE(VARIABLE(8), FILL(0, 4), JOIN(1, 0)), 2, 12, FORM(ZEROS(4), PART(0, 7, 0)));
+    group_done("fills side by side");
+}
+
+/* Parts of variables side by side. */
+static void test_parts(void)
+{
+    /* Worked case 9: a variable of 8, cut 7 to 4 joined with cut 3 to 0. */
+    static const uint16_t nine[] = {0, 8, 0, 0, 3, 0, 7, 4, 3, 0, 3, 0, 2, 1, 2, 0};
+    ACCEPT(nine, 16, 0, 8, FORM(2, 0, 7, 0));
+    ACCEPT(nine, 16, 1, 4, FORM(2, 0, 7, 4));
+    ACCEPT(nine, 16, 2, 4, FORM(2, 0, 3, 0));
+    ACCEPT(nine, 16, 3, 8, FORM(2, 0, 7, 0));
+
+    /* A word cut at every place and joined again: in order one piece, crossed two. */
+    for (size_t w = 2; w <= 8; w++)
+        for (size_t at = 1; at < w; at++) {
+            uint16_t high = (uint16_t)(w - 1), cut = (uint16_t)at, under = (uint16_t)(at - 1), wide = (uint16_t)w;
+            ACCEPT(TABLE(VARIABLE(wide), CUT(0, high, cut), CUT(0, under, 0), JOIN(1, 2)), 3, w,
+                   FORM(PART(0, high, 0)));
+            ACCEPT(TABLE(VARIABLE(wide), CUT(0, high, cut), CUT(0, under, 0), JOIN(2, 1)), 3, w,
+                   FORM(PART(0, under, 0), PART(0, high, cut)));
+        }
+
+    /* Parts that meet, away from the ends. */
+    ACCEPT(TABLE(VARIABLE(8), CUT(0, 6, 4), CUT(0, 3, 2), JOIN(1, 2)), 3, 5, FORM(PART(0, 6, 2)));
+    ACCEPT(TABLE(VARIABLE(8), CUT(0, 5, 5), CUT(0, 4, 4), JOIN(1, 2)), 3, 2, FORM(PART(0, 5, 4)));
+    ACCEPT(TABLE(VARIABLE(8), CUT(0, 7, 6), CUT(0, 5, 3), CUT(0, 2, 0), JOIN(1, 2), JOIN(4, 3)), 5, 8,
+           FORM(PART(0, 7, 0)));
+    ACCEPT(TABLE(VARIABLE(8), CUT(0, 7, 6), CUT(0, 5, 3), CUT(0, 2, 0), JOIN(2, 3), JOIN(1, 4)), 5, 8,
+           FORM(PART(0, 7, 0)));
+
+    /* Parts that do not meet: a bit left out, a bit twice, bits in common. */
+    ACCEPT(TABLE(VARIABLE(8), CUT(0, 7, 5), CUT(0, 3, 0), JOIN(1, 2)), 3, 7, FORM(PART(0, 7, 5), PART(0, 3, 0)));
+    ACCEPT(TABLE(VARIABLE(8), CUT(0, 7, 7), CUT(0, 0, 0), JOIN(1, 2)), 3, 2, FORM(PART(0, 7, 7), PART(0, 0, 0)));
+    ACCEPT(TABLE(VARIABLE(8), CUT(0, 7, 4), CUT(0, 4, 0), JOIN(1, 2)), 3, 9, FORM(PART(0, 7, 4), PART(0, 4, 0)));
+    ACCEPT(TABLE(VARIABLE(8), CUT(0, 6, 3), CUT(0, 5, 1), JOIN(1, 2)), 3, 9, FORM(PART(0, 6, 3), PART(0, 5, 1)));
+    ACCEPT(TABLE(VARIABLE(8), CUT(0, 6, 3), CUT(0, 4, 1), JOIN(1, 2)), 3, 8, FORM(PART(0, 6, 3), PART(0, 4, 1)));
+    ACCEPT(TABLE(VARIABLE(8), CUT(0, 3, 3), JOIN(1, 1)), 2, 2, FORM(PART(0, 3, 3), PART(0, 3, 3)));
+
+    /* Reversed order: low part first, and a word bit by bit from the low end. */
+    ACCEPT(TABLE(VARIABLE(8), CUT(0, 2, 0), CUT(0, 6, 3), JOIN(1, 2)), 3, 7, FORM(PART(0, 2, 0), PART(0, 6, 3)));
+    ACCEPT(TABLE(VARIABLE(2), CUT(0, 1, 1), CUT(0, 0, 0), JOIN(2, 1)), 3, 2, FORM(PART(0, 0, 0), PART(0, 1, 1)));
+    ACCEPT(TABLE(VARIABLE(3), CUT(0, 0, 0), CUT(0, 1, 1), CUT(0, 2, 2), JOIN(1, 2), JOIN(4, 3)), 5, 3,
+           FORM(PART(0, 0, 0), PART(0, 1, 1), PART(0, 2, 2)));
+
+    /* A variable joined with itself. */
+    ACCEPT(TABLE(VARIABLE(1), JOIN(0, 0)), 1, 2, FORM(PART(0, 0, 0), PART(0, 0, 0)));
+    ACCEPT(TABLE(VARIABLE(2), JOIN(0, 0)), 1, 4, FORM(PART(0, 1, 0), PART(0, 1, 0)));
+    ACCEPT(TABLE(VARIABLE(512), JOIN(0, 0)), 1, 1024, FORM(PART(0, 511, 0), PART(0, 511, 0)));
+    ACCEPT(TABLE(VARIABLE(2), JOIN(0, 0), JOIN(1, 0)), 2, 6, FORM(PART(0, 1, 0), PART(0, 1, 0), PART(0, 1, 0)));
+
+    /* Two variables: the last bit of one before the first of the next, and the other way round. */
+    ACCEPT(TABLE(VARIABLE(3), VARIABLE(2), JOIN(0, 1)), 2, 5, FORM(PART(0, 2, 0), PART(1, 1, 0)));
+    ACCEPT(TABLE(VARIABLE(3), VARIABLE(2), JOIN(1, 0)), 2, 5, FORM(PART(1, 1, 0), PART(0, 2, 0)));
+    ACCEPT(TABLE(VARIABLE(1), VARIABLE(1), JOIN(0, 1)), 2, 2, FORM(PART(0, 0, 0), PART(1, 0, 0)));
+    ACCEPT(TABLE(VARIABLE(3), VARIABLE(2), CUT(0, 0, 0), CUT(1, 1, 1), JOIN(2, 3)), 4, 2,
+           FORM(PART(0, 0, 0), PART(1, 1, 1)));
+
+    /* Two variables whose bit numbers are in step. */
+    ACCEPT(TABLE(VARIABLE(8), VARIABLE(8), CUT(0, 7, 4), CUT(1, 3, 0), JOIN(2, 3)), 4, 8,
+           FORM(PART(0, 7, 4), PART(1, 3, 0)));
+    ACCEPT(TABLE(VARIABLE(8), VARIABLE(8), CUT(1, 7, 4), CUT(0, 3, 0), JOIN(2, 3)), 4, 8,
+           FORM(PART(1, 7, 4), PART(0, 3, 0)));
+
+    /* Parts that would meet, were there nothing between them. */
+    ACCEPT(TABLE(VARIABLE(8), CUT(0, 7, 4), CUT(0, 3, 0), FILL(1, 1), JOIN(1, 3), JOIN(4, 2)), 5, 9,
+           FORM(PART(0, 7, 4), ONES(1), PART(0, 3, 0)));
+    ACCEPT(TABLE(VARIABLE(8), VARIABLE(8), CUT(0, 7, 4), CUT(0, 3, 0), JOIN(2, 1), JOIN(4, 3)), 5, 16,
+           FORM(PART(0, 7, 4), PART(1, 7, 0), PART(0, 3, 0)));
+
+    /* Joins of joins: what meets across the seams of four parts; x 0 and 0 x. */
+    ACCEPT(TABLE(VARIABLE(8), CUT(0, 7, 6), CUT(0, 5, 4), CUT(0, 3, 2), CUT(0, 1, 0), JOIN(1, 2), JOIN(3, 4),
+                 JOIN(5, 6)), 7, 8, FORM(PART(0, 7, 0)));
+    ACCEPT(TABLE(VARIABLE(8), CUT(0, 7, 6), CUT(0, 5, 4), CUT(0, 3, 2), CUT(0, 1, 0), JOIN(1, 3), JOIN(2, 4),
+                 JOIN(5, 6)), 7, 8, FORM(PART(0, 7, 6), PART(0, 3, 2), PART(0, 5, 4), PART(0, 1, 0)));
+    ACCEPT(TABLE(VARIABLE(8), CUT(0, 7, 6), CUT(0, 5, 4), CUT(0, 3, 2), CUT(0, 1, 0), JOIN(4, 2), JOIN(3, 1),
+                 JOIN(5, 6)), 7, 8, FORM(PART(0, 1, 0), PART(0, 5, 2), PART(0, 7, 6)));
+    ACCEPT(TABLE(VARIABLE(3), FILL(0, 2), JOIN(0, 1), JOIN(1, 0), JOIN(2, 3)), 4, 10,
+           FORM(PART(0, 2, 0), ZEROS(4), PART(0, 2, 0)));
+    ACCEPT(TABLE(VARIABLE(3), FILL(0, 2), JOIN(0, 1), JOIN(1, 0), JOIN(3, 2)), 4, 10,
+           FORM(ZEROS(2), PART(0, 2, 0), PART(0, 2, 0), ZEROS(2)));
+    group_done("parts side by side");
+}
+
+/* Cuts through joins, cuts of cuts and cuts of fills. */
+static void test_cuts(void)
+{
+    /* Every cut of a word of one piece. */
+    for (uint16_t high = 0; high < 5; high++)
+        for (uint16_t low = 0; low <= high; low++) {
+            size_t w = (size_t)high - low + 1;
+            ACCEPT(TABLE(VARIABLE(5), CUT(0, high, low)), 1, w, FORM(PART(0, high, low)));
+            ACCEPT(TABLE(FILL(0, 5), CUT(0, high, low)), 1, w, FORM(0, 0, (uint16_t)(high - low), 0));
+            ACCEPT(TABLE(FILL(1, 5), CUT(0, high, low)), 1, w, FORM(1, 0, (uint16_t)(high - low), 0));
+        }
+
+    /* Every cut of x of 3 bits joined with y of 2: the border is between bits 2 and 1. */
+    static const struct { uint16_t high, low; size_t pieces; uint16_t form[8]; } cuts[] = {
+        {4, 4, 1, {PART(0, 2, 2)}},
+        {4, 3, 1, {PART(0, 2, 1)}},
+        {4, 2, 1, {PART(0, 2, 0)}},
+        {4, 1, 2, {PART(0, 2, 0), PART(1, 1, 1)}},
+        {4, 0, 2, {PART(0, 2, 0), PART(1, 1, 0)}},
+        {3, 3, 1, {PART(0, 1, 1)}},
+        {3, 2, 1, {PART(0, 1, 0)}},
+        {3, 1, 2, {PART(0, 1, 0), PART(1, 1, 1)}},
+        {3, 0, 2, {PART(0, 1, 0), PART(1, 1, 0)}},
+        {2, 2, 1, {PART(0, 0, 0)}},
+        {2, 1, 2, {PART(0, 0, 0), PART(1, 1, 1)}},
+        {2, 0, 2, {PART(0, 0, 0), PART(1, 1, 0)}},
+        {1, 1, 1, {PART(1, 1, 1)}},
+        {1, 0, 1, {PART(1, 1, 0)}},
+        {0, 0, 1, {PART(1, 0, 0)}},
+    };
+    for (size_t i = 0; i < sizeof cuts / sizeof cuts[0]; i++)
+        ACCEPT(TABLE(VARIABLE(3), VARIABLE(2), JOIN(0, 1), CUT(2, cuts[i].high, cuts[i].low)), 3,
+               (size_t)cuts[i].high - cuts[i].low + 1, cuts[i].form, 4 * cuts[i].pieces);
+
+    /* A cut through the seam of what is one piece. */
+    ACCEPT(TABLE(FILL(1, 3), FILL(1, 2), JOIN(0, 1), CUT(2, 3, 1)), 3, 3, FORM(ONES(3)));
+    ACCEPT(TABLE(VARIABLE(8), CUT(0, 7, 4), CUT(0, 3, 0), JOIN(1, 2), CUT(3, 5, 2)), 4, 4, FORM(PART(0, 5, 2)));
+    ACCEPT(TABLE(VARIABLE(8), CUT(0, 7, 4), CUT(0, 3, 0), JOIN(1, 2), CUT(3, 4, 3)), 4, 2, FORM(PART(0, 4, 3)));
+
+    /* The halves crossed: bits 3 to 0, then 7 to 4. */
+    ACCEPT(TABLE(VARIABLE(8), CUT(0, 7, 4), CUT(0, 3, 0), JOIN(2, 1), CUT(3, 5, 2)), 4, 4,
+           FORM(PART(0, 1, 0), PART(0, 7, 6)));
+
+    /* A fill and a word, cut at the border, before and after it. */
+    ACCEPT(TABLE(FILL(1, 4), VARIABLE(4), JOIN(0, 1), CUT(2, 7, 4)), 3, 4, FORM(ONES(4)));
+    ACCEPT(TABLE(FILL(1, 4), VARIABLE(4), JOIN(0, 1), CUT(2, 6, 5)), 3, 2, FORM(ONES(2)));
+    ACCEPT(TABLE(FILL(1, 4), VARIABLE(4), JOIN(0, 1), CUT(2, 6, 3)), 3, 4, FORM(ONES(3), PART(0, 3, 3)));
+    ACCEPT(TABLE(FILL(1, 4), VARIABLE(4), JOIN(0, 1), CUT(2, 3, 0)), 3, 4, FORM(PART(0, 3, 0)));
+    ACCEPT(TABLE(FILL(1, 4), VARIABLE(4), JOIN(0, 1), CUT(2, 2, 1)), 3, 2, FORM(PART(0, 2, 1)));
+
+    /* Through two borders: x 00 y of 2 bits each, its joins nested either way. */
+    ACCEPT(TABLE(VARIABLE(2), FILL(0, 2), VARIABLE(2), JOIN(0, 1), JOIN(3, 2), CUT(4, 4, 1)), 5, 4,
+           FORM(PART(0, 0, 0), ZEROS(2), PART(1, 1, 1)));
+    ACCEPT(TABLE(VARIABLE(2), FILL(0, 2), VARIABLE(2), JOIN(1, 2), JOIN(0, 3), CUT(4, 4, 1)), 5, 4,
+           FORM(PART(0, 0, 0), ZEROS(2), PART(1, 1, 1)));
+    ACCEPT(TABLE(VARIABLE(2), FILL(0, 2), VARIABLE(2), JOIN(1, 2), JOIN(0, 3), CUT(4, 3, 1)), 5, 3,
+           FORM(ZEROS(2), PART(1, 1, 1)));
+
+    /* Cuts of cuts: bits 6 to 1 of a variable, and of those 4 to 2, all, the ends. */
+    ACCEPT(TABLE(VARIABLE(8), CUT(0, 6, 1), CUT(1, 4, 2)), 2, 3, FORM(PART(0, 5, 3)));
+    ACCEPT(TABLE(VARIABLE(8), CUT(0, 6, 1), CUT(1, 5, 0)), 2, 6, FORM(PART(0, 6, 1)));
+    ACCEPT(TABLE(VARIABLE(8), CUT(0, 6, 1), CUT(1, 5, 5)), 2, 1, FORM(PART(0, 6, 6)));
+    ACCEPT(TABLE(VARIABLE(8), CUT(0, 6, 1), CUT(1, 0, 0)), 2, 1, FORM(PART(0, 1, 1)));
+    ACCEPT(TABLE(VARIABLE(8), CUT(0, 6, 1), CUT(1, 4, 2), CUT(2, 1, 1)), 3, 1, FORM(PART(0, 4, 4)));
+    ACCEPT(TABLE(VARIABLE(9), VARIABLE(8), CUT(1, 7, 2), CUT(2, 4, 1), CUT(3, 2, 1)), 4, 2, FORM(PART(1, 5, 4)));
+
+    /* A cut and a cut of a cut that meet, and that do not. */
+    ACCEPT(TABLE(VARIABLE(8), CUT(0, 6, 1), CUT(1, 5, 3), CUT(1, 2, 0), JOIN(2, 3)), 4, 6, FORM(PART(0, 6, 1)));
+    ACCEPT(TABLE(VARIABLE(8), CUT(0, 6, 1), CUT(1, 2, 0), CUT(0, 7, 4), JOIN(3, 2)), 4, 7, FORM(PART(0, 7, 1)));
+    ACCEPT(TABLE(VARIABLE(8), CUT(0, 6, 1), CUT(1, 3, 0), CUT(0, 7, 4), JOIN(3, 2)), 4, 8,
+           FORM(PART(0, 7, 4), PART(0, 4, 1)));
+
+    /* Cuts of a cut through a join: x2 x1 x0 y1, and of those bits 2 to 0, 1 to 0, 3 to 1 and 0. */
+    ACCEPT(TABLE(VARIABLE(3), VARIABLE(2), JOIN(0, 1), CUT(2, 4, 1), CUT(3, 2, 0)), 4, 3,
+           FORM(PART(0, 1, 0), PART(1, 1, 1)));
+    ACCEPT(TABLE(VARIABLE(3), VARIABLE(2), JOIN(0, 1), CUT(2, 4, 1), CUT(3, 1, 0)), 4, 2,
+           FORM(PART(0, 0, 0), PART(1, 1, 1)));
+    ACCEPT(TABLE(VARIABLE(3), VARIABLE(2), JOIN(0, 1), CUT(2, 4, 1), CUT(3, 3, 1)), 4, 3, FORM(PART(0, 2, 0)));
+    ACCEPT(TABLE(VARIABLE(3), VARIABLE(2), JOIN(0, 1), CUT(2, 4, 1), CUT(3, 0, 0)), 4, 1, FORM(PART(1, 1, 1)));
+
+    /* What is between two parts cut away: x7 to x4, y, x3 to x0. */
+    ACCEPT(TABLE(VARIABLE(8), VARIABLE(3), CUT(0, 7, 4), CUT(0, 3, 0), JOIN(2, 1), JOIN(4, 3), CUT(5, 10, 7),
+                 CUT(5, 3, 0), JOIN(6, 7)), 8, 8, FORM(PART(0, 7, 0)));
+
+    /* Cuts of fills, again cut and joined. */
+    ACCEPT(TABLE(FILL(1, 8), CUT(0, 6, 3), CUT(1, 2, 1)), 2, 2, FORM(ONES(2)));
+    ACCEPT(TABLE(FILL(1, 8), CUT(0, 6, 3), CUT(0, 7, 7), JOIN(1, 2)), 3, 5, FORM(ONES(5)));
+    ACCEPT(TABLE(FILL(1, 8), CUT(0, 6, 3), FILL(0, 8), CUT(2, 1, 0), JOIN(1, 3)), 4, 6, FORM(ONES(4), ZEROS(2)));
+    group_done("cuts");
+}
+
+/* Every width: a variable, a fill, and the cuts of all bits, of each end bit and of both halves, joined. */
+static void test_widths(void)
+{
+    for (size_t w = 1; w <= 1024; w++) {
+        uint16_t high = (uint16_t)(w - 1), half = (uint16_t)(w / 2);
+        table t = {.len = 0};
+        add(&t, VARIABLE(w));
+        add(&t, FILL(1, w));
+        add(&t, CUT(0, high, 0));
+        add(&t, CUT(0, high, high));
+        add(&t, CUT(0, 0, 0));
+        ACCEPT(ALL(t), 0, w, FORM(PART(0, high, 0)));
+        ACCEPT(ALL(t), 1, w, FORM(1, 0, high, 0));
+        ACCEPT(ALL(t), 2, w, FORM(PART(0, high, 0)));
+        ACCEPT(ALL(t), 3, 1, FORM(PART(0, high, high)));
+        ACCEPT(ALL(t), 4, 1, FORM(PART(0, 0, 0)));
+        if (w == 1)
+            continue;
+        add(&t, CUT(0, high, half));
+        add(&t, CUT(0, (size_t)half - 1, 0));
+        add(&t, JOIN(5, 6));
+        add(&t, JOIN(6, 5));
+        ACCEPT(ALL(t), 7, w, FORM(PART(0, high, 0)));
+        ACCEPT(ALL(t), 8, w, FORM(PART(0, (uint16_t)(half - 1), 0), PART(0, high, half)));
+    }
+    group_done("widths 1 to 1024");
+}
+
+/* Long forms, many variables, deep tables. */
+static void test_limits(void)
+{
+    static uint16_t form[4 * 1024];
+    table t;
+
+    /* A bit joined with itself ten times: 1024 pieces, and 1023 without its first or last bit. */
+    t.len = 0;
+    add(&t, VARIABLE(1));
+    for (size_t i = 0; i < 10; i++)
+        add(&t, JOIN(i, i));
+    add(&t, CUT(10, 1022, 0));
+    add(&t, CUT(10, 1023, 1));
+    for (size_t i = 0; i < 1024; i++)
+        memcpy(form + 4 * i, (const uint16_t[]){PART(0, 0, 0)}, 8);
+    ACCEPT(ALL(t), 10, 1024, form, 4096);
+    ACCEPT(ALL(t), 11, 1023, form, 4092);
+    ACCEPT(ALL(t), 12, 1023, form, 4092);
+    ACCEPT(ALL(t), 5, 32, form, 128);
+
+    /* The same below 500 cuts of the bit: 1024 times 500 rows are passed. */
+    t.len = 0;
+    add(&t, VARIABLE(1));
+    for (size_t i = 0; i < 500; i++)
+        add(&t, CUT(i, 0, 0));
+    for (size_t i = 500; i < 510; i++)
+        add(&t, JOIN(i, i));
+    ACCEPT(ALL(t), 510, 1024, form, 4096);
+    t.numbers[0] = LW_FILL, t.numbers[1] = 1, t.numbers[2] = 1; /* the same of a fill is one piece */
+    ACCEPT(ALL(t), 510, 1024, FORM(ONES(1024)));
+
+    /* 0 1 joined with itself nine times: 1024 pieces of fills. */
+    t.len = 0;
+    add(&t, FILL(0, 1));
+    add(&t, FILL(1, 1));
+    add(&t, JOIN(0, 1));
+    for (size_t i = 2; i < 11; i++)
+        add(&t, JOIN(i, i));
+    add(&t, CUT(11, 1022, 1)); /* 1 0 1 0 .. 1 0 */
+    for (uint16_t i = 0; i < 1024; i++)
+        memcpy(form + 4 * i, (const uint16_t[]){i % 2, 0, 0, 0}, 8);
+    ACCEPT(ALL(t), 11, 1024, form, 4096);
+    ACCEPT(ALL(t), 12, 1022, form + 4, 4088);
+
+    /* A word of 255 bits in reverse, bit by bit: row 0, its bits in rows 1 to 255, joins from row 256 on. */
+    t.len = 0;
+    add(&t, VARIABLE(255));
+    for (size_t i = 0; i < 255; i++)
+        add(&t, CUT(0, i, i));
+    add(&t, JOIN(1, 2));
+    for (size_t i = 2; i < 255; i++)
+        add(&t, JOIN(254 + i, i + 1));
+    for (uint16_t i = 0; i < 255; i++)
+        memcpy(form + 4 * i, (const uint16_t[]){PART(0, i, i)}, 8);
+    ACCEPT(ALL(t), 509, 255, form, 4 * 255);
+
+    /* The same in order: one piece. */
+    t.len = 4 * 256;
+    add(&t, JOIN(255, 254));
+    for (size_t i = 2; i < 255; i++)
+        add(&t, JOIN(254 + i, 255 - i));
+    ACCEPT(ALL(t), 509, 255, FORM(PART(0, 254, 0)));
+
+    /* 64 variables of 64 bits. */
+    t.len = 0;
+    for (size_t i = 0; i < 64; i++)
+        add(&t, VARIABLE(64));
+    add(&t, CUT(63, 62, 1));
+    add(&t, JOIN(64, 63));
+    for (uint16_t i = 0; i < 64; i++)
+        ACCEPT(ALL(t), i, 64, FORM(PART(i, 63, 0)));
+    ACCEPT(ALL(t), 64, 62, FORM(PART(63, 62, 1)));
+    ACCEPT(ALL(t), 65, 126, FORM(PART(63, 62, 1), PART(63, 63, 0)));
+
+    /* 64 variables of 16 bits, joined in order and then in reverse order: 64 pieces of 1024 bits. */
+    t.len = 0;
+    for (size_t i = 0; i < 64; i++)
+        add(&t, VARIABLE(16));
+    add(&t, JOIN(0, 1));
+    for (size_t i = 2; i < 64; i++)
+        add(&t, JOIN(62 + i, i)); /* rows 64 to 126 */
+    add(&t, JOIN(63, 62));
+    for (size_t i = 2; i < 64; i++)
+        add(&t, JOIN(125 + i, 63 - i)); /* rows 127 to 189 */
+    for (uint16_t i = 0; i < 64; i++)
+        memcpy(form + 4 * i, (const uint16_t[]){PART(i, 15, 0)}, 8);
+    ACCEPT(ALL(t), 126, 1024, form, 4 * 64);
+    for (uint16_t i = 0; i < 64; i++)
+        memcpy(form + 4 * i, (const uint16_t[]){PART(63 - i, 15, 0)}, 8);
+    ACCEPT(ALL(t), 189, 1024, form, 4 * 64);
+
+    /* 4 variables of 1024 bits: the middle of the last. */
+    ACCEPT(TABLE(VARIABLE(1024), VARIABLE(1024), VARIABLE(1024), VARIABLE(1024), CUT(3, 1000, 24)), 4, 977,
+           FORM(PART(3, 1000, 24)));
+
+    /* 511 cuts, each of the row before: all of it; and one bit less each, in turn the high and the low one. */
+    t.len = 0;
+    add(&t, VARIABLE(1024));
+    for (size_t i = 0; i < 511; i++)
+        add(&t, CUT(i, 1023, 0));
+    ACCEPT(ALL(t), 511, 1024, FORM(PART(0, 1023, 0)));
+    t.len = 4;
+    for (size_t i = 0; i < 511; i++)
+        if (i % 2 == 0)
+            add(&t, CUT(i, 1024 - i - 2, 0));
+        else
+            add(&t, CUT(i, 1024 - i - 1, 1));
+    ACCEPT(ALL(t), 511, 513, FORM(PART(0, 767, 255))); /* 256 bits less at the high end, 255 at the low */
+    ACCEPT(ALL(t), 1, 1023, FORM(PART(0, 1022, 0)));
+    ACCEPT(ALL(t), 2, 1022, FORM(PART(0, 1022, 1)));
+
+    /* 510 joins, with one bit more each, in turn a 1 on the right and the variable on the left. */
+    t.len = 0;
+    add(&t, VARIABLE(1));
+    add(&t, FILL(1, 1));
+    for (size_t i = 2; i < 512; i++)
+        if (i % 2 == 0)
+            add(&t, JOIN(i - 1, 1));
+        else
+            add(&t, JOIN(0, i - 1));
+    for (size_t i = 0; i < 255; i++) /* of rows 3, 5, .., 511 */
+        memcpy(form + 4 * i, (const uint16_t[]){PART(0, 0, 0)}, 8);
+    memcpy(form + 4 * 255, (const uint16_t[]){ONES(256)}, 8);
+    ACCEPT(ALL(t), 511, 511, form, 4 * 256);
+    group_done("long forms and deep tables");
+}
+
+/* Refusals 11 to 18, one or two of each: test_value.c has them all. */
+static void test_table_refusals(void)
+{
+    table t;
+
+    for (size_t len = 1; len < 8; len++)
+        if (len % 4 != 0)
+            REFUSE_TABLE((const uint16_t[]){VARIABLE(1), FILL(0, 1)}, len, 11, 512);
+    t.len = 0;
+    while (t.len < 2052)
+        add(&t, FILL(1, 2));
+    t.len = 2048;
+    ACCEPT(ALL(t), 511, 2, FORM(ONES(2)));
+    for (t.len = 2049; t.len <= 2052; t.len++)
+        REFUSE_TABLE(ALL(t), 11, 512);
+
+    /* The fault is in the row asked for, or behind it. */
+    REFUSE_TABLE(TABLE(5, 0, 0, 0), 12, 0);
+    REFUSE_TABLE(TABLE(VARIABLE(1), 65535, 1, 0, 0), 12, 1);
+    REFUSE_TABLE(TABLE(LW_VARIABLE, 1, 1, 0), 13, 0);
+    REFUSE_TABLE(TABLE(VARIABLE(1), LW_FILL, 1, 1, 1), 13, 1);
+    REFUSE_TABLE(TABLE(VARIABLE(1), JOIN(0, 1)), 14, 1);
+    REFUSE_TABLE(TABLE(VARIABLE(1), EQUATION(0, 0), CUT(1, 0, 0)), 14, 2);
+    REFUSE_TABLE(TABLE(VARIABLE(1025)), 15, 0);
+    REFUSE_TABLE(TABLE(VARIABLE(1), FILL(2, 1)), 15, 1);
+    REFUSE_TABLE(TABLE(VARIABLE(1024), JOIN(0, 0)), 15, 1);
+    REFUSE_TABLE(TABLE(VARIABLE(8), CUT(0, 8, 0)), 16, 1);
+    REFUSE_TABLE(TABLE(VARIABLE(8), CUT(0, 3, 4)), 16, 1);
+    REFUSE_TABLE(TABLE(VARIABLE(2), VARIABLE(3), EQUATION(0, 1)), 18, 2);
+    t.len = 0;
+    while (t.len < 4 * 65)
+        add(&t, VARIABLE(1));
+    REFUSE_TABLE(ALL(t), 17, 64);
+    REFUSE_TABLE(TABLE(VARIABLE(1024), VARIABLE(1024), VARIABLE(1024), VARIABLE(1024), VARIABLE(1)), 17, 4);
+
+    /* Two faults: the first in this order within a row, and the lower row. */
+    REFUSE_TABLE(TABLE(9, 9, 9, 9, 9, 9), 11, 512);
+    REFUSE_TABLE(TABLE(VARIABLE(1), LW_JOIN, 0, 7, 1), 13, 1);
+    REFUSE_TABLE(TABLE(VARIABLE(1), VARIABLE(2), EQUATION(0, 1), 9, 9, 9, 9), 18, 2);
+    group_done("refusals 11 to 18");
+}
+
+/* Refusals 30 and 32, and both at once. */
+static void test_call_refusals(void)
+{
+    static const uint16_t four[] = {VARIABLE(3), VARIABLE(2), CUT(0, 1, 0), EQUATION(1, 2)};
+    const size_t len = sizeof four / sizeof four[0];
+    ACCEPT(four, len, 2, 2, FORM(PART(0, 1, 0)));
+
+    /* 30: no such row, also where a product or a shorter number would wrap; or an equation. 30 before 32. */
+    static const size_t absent[] = {
+        3, 4, 5, 511, 512, 65535, 65536, (size_t)UINT32_MAX + 1,
+        SIZE_MAX / 4 + 1, SIZE_MAX / 2 + 1, SIZE_MAX - 3, SIZE_MAX,
+    };
+    static const size_t lengths[] = {4096, 5000, 4095, 8, 0};
+    for (size_t i = 0; i < sizeof absent / sizeof absent[0]; i++)
+        for (size_t j = 0; j < sizeof lengths / sizeof lengths[0]; j++)
+            REFUSE(four, len, absent[i], lengths[j], 30);
+    for (size_t j = 0; j < sizeof lengths / sizeof lengths[0]; j++) {
+        REFUSE(four, 0, 0, lengths[j], 30);
+        REFUSE(TABLE(VARIABLE(2), EQUATION(0, 0)), 1, lengths[j], 30);
+    }
+
+    /* 32: an output below 4096 numbers, however few the form needs; one of exactly 4096 is enough. */
+    for (size_t form_len = 0; form_len < 4096; form_len++)
+        REFUSE(four, len, 2, form_len, 32);
+    REFUSE(TABLE(FILL(1, 1024)), 0, 4095, 32);
+    table t = {.len = 0};
+    add(&t, VARIABLE(1));
+    for (size_t i = 0; i < 10; i++)
+        add(&t, JOIN(i, i));
+    REFUSE(ALL(t), 10, 4095, 32); /* 1024 pieces */
+    REFUSE(ALL(t), 9, 2048, 32);  /* 512 pieces, which would fit */
+
+    /* Long outputs, also of lengths that are short as 16-bit numbers. */
+    static const size_t long_lengths[] = {4097, 4099, 4100, 8192, 65535, 65536, 65537, 65536 + 4095, 200000};
+    for (size_t i = 0; i < sizeof long_lengths / sizeof long_lengths[0]; i++)
+        call(__LINE__, "accepted, long output", four, len, 2, NULL, long_lengths[i],
+             (lw_record){.pieces = 1, .free = 2}, (const uint16_t[]){PART(0, 1, 0)});
+
+    /* A fault of the table comes before both, also behind the row asked for. */
+    REFUSE_TABLE(TABLE(VARIABLE(3), VARIABLE(2), CUT(0, 1, 0), 5, 0, 0, 0), 12, 3);
+    group_done("refusals 30 and 32");
+}
+
+/* NULL with length 0 for each buffer. */
+static void test_null(void)
+{
+    static const uint16_t fill[] = {FILL(1, 2)};
+    static uint16_t form[4096];
+    for (size_t i = 0; i < 4096; i++)
+        form[i] = 9;
+
+#define REFUSE_NULL(name, number, at, ...) \
+    check_record(__LINE__, name, lw_normal_form(__VA_ARGS__), (lw_record){.outcome = (number), .row = (at)})
+    REFUSE_NULL("all NULL", 30, 0, NULL, 0, 0, NULL, 0);
+    REFUSE_NULL("all NULL, row SIZE_MAX", 30, 0, NULL, 0, SIZE_MAX, NULL, 0);
+    REFUSE_NULL("table NULL", 30, 0, NULL, 0, 0, form, 4096);
+    REFUSE_NULL("form NULL", 32, 0, fill, 4, 0, NULL, 0);
+    REFUSE_NULL("form NULL, no such row", 30, 0, fill, 4, 1, NULL, 0);
+    REFUSE_NULL("form NULL, table refused", 11, 512, fill, 3, 0, NULL, 0);
+#undef REFUSE_NULL
+    for (size_t i = 0; i < 4096; i++)
+        if (!check(form[i] == 9, __FILE__, __LINE__, "form written by a refusal"))
+            break;
+    group_done("NULL with length 0");
+}
+
+/* Random tables. */
+
+static size_t cut(draft *d, size_t a, size_t high, size_t low)
+{
+    return add_row(d, high - low + 1, CUT(a, high, low));
+}
+
+/* NONE if it would be too wide. */
+static size_t join(draft *d, size_t a, size_t b)
+{
+    size_t w = d->width[a] + d->width[b];
+    return w > 1024 ? NONE : add_row(d, w, JOIN(a, b));
+}
+
+/* Joins two cuts of some row, which mostly meet; at times crossed, or with a fill between them. Adds 5 rows at most. */
+static void regroup(draft *d)
+{
+    size_t a = some_term(d), w = a == NONE ? 0 : d->width[a];
+    if (w < 2)
+        return;
+    size_t low = 1 + below(w - 1), high = one_in(3) ? below(w) : low - 1; /* of the left part and of the right one */
+    size_t left = cut(d, a, one_in(2) ? w - 1 : low + below(w - low), low);
+    size_t right = cut(d, a, high, one_in(2) ? 0 : below(high + 1));
+    if (one_in(5)) {
+        size_t other = left;
+        left = right, right = other;
+    }
+    if (one_in(6) && d->width[left] < 1000) {
+        size_t between = 1 + below(3);
+        left = join(d, left, add_row(d, between, FILL(below(2), between)));
+    }
+    join(d, left, right);
+}
+
+/* A valid table, full of parts that may meet. */
+static void make_parts(draft *d)
+{
+    static const size_t sizes[] = {12, 40, 120, 500}, widths[] = {1, 2, 4, 8, 60, 300, 1024};
+    size_t rows = 6 + below(sizes[one_in(12) ? 3 : below(3)]), widest = widths[below(7)], joins = below(6);
+
+    clear(d);
+    for (size_t i = 1 + below(4); i != 0; i--)
+        grow(d, LW_VARIABLE, widest);
+    while (d->rows + 5 <= rows)
+        if (below(6) < joins)
+            grow(d, LW_JOIN, one_in(2) ? 3 : widest);
+        else if (one_in(2))
+            regroup(d);
+        else
+            grow(d, one_in(12) ? LW_EQUATION : one_in(4) ? LW_CUT : one_in(4) ? LW_VARIABLE : LW_FILL, widest);
+}
+
+/* What can stand on the two sides of a seam, that is where a row is joined. In the first two cases it is one piece. */
+enum {
+    FILLS_MERGE, PARTS_MERGE,
+    FILLS_DIFFER, FILL_AND_PART, BIT_LEFT_OUT, BIT_TWICE, NEXT_HIGHER, FIRST_AGAIN, BACK,
+    NEXT_VARIABLE, IN_STEP, OTHER_VARIABLE, SEAMS
+};
+
+static const char *const seam_names[SEAMS] = {
+    "fills of one bit, merged", "parts that meet, merged",
+    "fills of different bits", "a fill and a part", "a bit or more left out", "a bit twice", "the next higher bit",
+    "the last bit and the first", "another higher bit",
+    "the last bit, the first of the next variable", "bits of two variables, in step", "bits of two variables, not so",
+};
+
+/* Between a bit and the one on its right, whose variable has this width if it is a variable's. */
+static int seam_of(ref_source left, ref_source right, size_t width)
+{
+    if (left.kind != 2 && right.kind != 2)
+        return left.kind == right.kind ? FILLS_MERGE : FILLS_DIFFER;
+    if (left.kind != 2 || right.kind != 2)
+        return FILL_AND_PART;
+    bool first = left.bit == 0 && right.bit == width - 1;
+    if (left.variable != right.variable)
+        return left.variable + 1 == right.variable && first ? NEXT_VARIABLE
+             : left.bit == right.bit + 1 ? IN_STEP : OTHER_VARIABLE;
+    return left.bit == right.bit + 1 ? PARTS_MERGE
+         : left.bit > right.bit + 1 ? BIT_LEFT_OUT
+         : left.bit == right.bit ? BIT_TWICE
+         : first ? FIRST_AGAIN
+         : left.bit + 1 == right.bit ? NEXT_HIGHER : BACK;
+}
+
+/* Counts the seams in what a row of an accepted table is made of. */
+static void count_seams(const table *t, size_t row, size_t seams[SEAMS])
+{
+    static ref_table facts;
+    static ref_source sources[REF_ROWS][REF_WIDTH];
+    static bool seam[REF_ROWS][REF_WIDTH]; /* of each bit but the first: whether it is on the right of a seam */
+    static size_t variables[REF_ROWS];     /* their widths */
+    size_t count = 0;
+
+    ref_check(t->numbers, t->len, &facts);
+    ref_sources(t->numbers, &facts, row + 1, sources);
+    for (size_t r = 0; r <= row; r++) {
+        const uint16_t *n = t->numbers + 4 * r;
+        size_t w = facts.width[r];
+        if (n[0] == LW_VARIABLE)
+            variables[count++] = w;
+        if (n[0] == LW_VARIABLE || n[0] == LW_FILL) {
+            memset(seam[r], 0, w);
+        } else if (n[0] == LW_JOIN) {
+            memcpy(seam[r], seam[n[1]], facts.width[n[1]]);
+            memcpy(seam[r] + facts.width[n[1]], seam[n[2]], facts.width[n[2]]);
+            seam[r][facts.width[n[1]]] = true;
+        } else if (n[0] == LW_CUT) {
+            memcpy(seam[r], seam[n[1]] + (facts.width[n[1]] - 1 - n[2]), w);
+            seam[r][0] = false;
+        }
+    }
+    for (size_t i = 1; i < facts.width[row]; i++)
+        if (seam[row][i]) {
+            ref_source right = sources[row][i];
+            seams[seam_of(sources[row][i - 1], right, variables[right.variable])]++;
+        }
+}
+
+/* The library against the reference on one random table and one random call. Gives the record. */
+static lw_record test_random_call(unsigned long number, size_t seams[SEAMS])
+{
+    static draft d;
+    static uint16_t form[4096];
+    char name[64];
+
+    bool parts = !one_in(4);
+    if (parts)
+        make_parts(&d);
+    else
+        make_table(&d);
+    size_t rows = d.rows;
+    if (!parts && one_in(2))
+        damage(&d, (unsigned)(11 + below(9)));
+
+    size_t row = rows == 0 ? 0 : below(rows);
+    for (size_t i = one_in(3) ? 0 : 4; rows != 0 && i != 0; i--) { /* mostly the widest of some */
+        size_t other = below(rows);
+        if (d.width[other] > d.width[row])
+            row = other;
+    }
+    if (one_in(40))
+        row = one_in(4) ? SIZE_MAX - below(3) : rows + below(3);
+    if (row < rows && d.width[row] == 0 && !one_in(4))
+        row = 0; /* an equation is asked for now and then only */
+    size_t form_len = 4096 + (one_in(2) ? 0 : below(70));
+    if (one_in(30))
+        form_len = one_in(2) ? 4095 : below(4096);
+
+    lw_record want = ref_normal_form(d.t.numbers, d.t.len, row, form, form_len);
+    snprintf(name, sizeof name, "random table %lu, row %zu", number, row);
+    call(__LINE__, name, d.t.numbers, d.t.len, row, NULL, form_len, want, form);
+    if (want.outcome == 0) {
+        size_t of_row[SEAMS] = {0}, apart = 1;
+        count_seams(&d.t, row, of_row);
+        for (int i = 0; i < SEAMS; i++) {
+            seams[i] += of_row[i];
+            if (i != FILLS_MERGE && i != PARTS_MERGE)
+                apart += of_row[i];
+        }
+        check(want.pieces == apart, __FILE__, __LINE__, "%s: %u pieces, expected %zu", name, want.pieces, apart);
+    }
+    return want;
+}
+
+static void test_random(unsigned long tables)
+{
+    static const uint32_t outcomes[] = {0, 11, 12, 13, 14, 15, 16, 17, 18, 30, 32};
+    static const uint32_t limits[] = {1, 2, 3, 10, 100, 1024};
+    unsigned long seen[33] = {0}, forms[6] = {0};
+    size_t seams[SEAMS] = {0};
+
+    for (unsigned long i = 0; i < tables; i++) {
+        lw_record record = test_random_call(i, seams);
+        seen[record.outcome]++;
+        for (size_t j = 0; record.outcome == 0; j++)
+            if (record.pieces <= limits[j]) {
+                forms[j]++;
+                break;
+            }
+    }
+
+    printf("%lu random tables:", tables);
+    for (size_t i = 0; i < sizeof outcomes / sizeof outcomes[0]; i++)
+        printf(" %s%u %lu", i == 0 ? "outcome " : "", outcomes[i], seen[outcomes[i]]);
+    printf("\n  forms of");
+    for (size_t j = 0; j < sizeof limits / sizeof limits[0]; j++)
+        printf("%s %s%u %s %lu", j == 0 ? "" : ",", j < 3 ? "" : "up to ", limits[j],
+               j == 0 ? "piece" : "pieces", forms[j]);
+    printf("\n  seams in them:\n");
+    for (int i = 0; i < SEAMS; i++)
+        printf("    %-46s %zu\n", seam_names[i], seams[i]);
+
+    for (size_t i = 0; i < sizeof outcomes / sizeof outcomes[0]; i++)
+        check(seen[outcomes[i]] != 0, __FILE__, __LINE__, "no random table has outcome %u", outcomes[i]);
+    for (size_t j = 0; j < sizeof limits / sizeof limits[0]; j++)
+        check(forms[j] != 0, __FILE__, __LINE__, "no random form of up to %u pieces", limits[j]);
+    for (int i = 0; i < SEAMS; i++)
+        check(seams[i] != 0, __FILE__, __LINE__, "no random row has this seam: %s", seam_names[i]);
+    group_done("random tables against the reference");
+}
+
+/* Small tables: the same value under every pattern, exactly if the same normal form. */
+
+enum { SMALL_BITS = 10, SMALL_ROWS = 64, SMALL_WIDTH = 24 };
+
+/* A row that is not too wide; the first rows are variables. */
+static size_t narrow_term(const draft *d)
+{
+    size_t r = some_term(d);
+    return d->width[r] <= SMALL_WIDTH ? r : below(d->variables);
+}
+
+/* Adds rows for a word that is the same as row r, and gives the last of them. */
+static size_t rebuild(draft *d, size_t r)
+{
+    size_t w = d->width[r], other = narrow_term(d), at, left, right;
+
+    switch (below(4)) {
+    case 0: /* cut out of a join, whose left part it is */
+        return cut(d, join(d, r, other), w + d->width[other] - 1, d->width[other]);
+    case 1: /* or its right part */
+        return cut(d, join(d, other, r), w - 1, 0);
+    default: /* cut in two and joined again */
+        if (w == 1)
+            return cut(d, r, 0, 0);
+        at = 1 + below(w - 1);
+        left = cut(d, r, w - 1, at);
+        right = cut(d, r, at - 1, 0);
+        if (d->rows < SMALL_ROWS && one_in(2))
+            left = rebuild(d, left);
+        return join(d, left, right);
+    }
+}
+
+/* Adds rows for a word that is row r but for one bit, which is of another row or fixed. */
+static void replace_bit(draft *d, size_t r)
+{
+    size_t w = d->width[r], at = below(w), other = narrow_term(d), place = below(d->width[other]);
+    size_t bit = one_in(2) ? cut(d, other, place, place) : add_row(d, 1, FILL(below(2), 1));
+    if (at != w - 1)
+        bit = join(d, cut(d, r, w - 1, at + 1), bit);
+    if (at != 0)
+        join(d, bit, cut(d, r, at - 1, 0));
+}
+
+/* Adds a cut through a join, and the join of the cuts of its parts. */
+static void cut_join(draft *d, size_t a, size_t b)
+{
+    size_t right = d->width[b], high = right + below(d->width[a]), low = below(right);
+    cut(d, join(d, a, b), high, low);
+    size_t left = cut(d, a, high - right, 0);
+    join(d, left, cut(d, b, right - 1, low));
+}
+
+/* Adds the join of three rows, made in both ways. */
+static void join_three(draft *d, size_t a, size_t b, size_t c)
+{
+    join(d, join(d, a, b), c);
+    join(d, a, join(d, b, c));
+}
+
+/* A valid table of at most SMALL_BITS variable bits, with many rows that are the same word, or nearly so. */
+static void make_small(draft *d)
+{
+    size_t variables = 1 + below(4), rows = 20 + below(SMALL_ROWS - 20);
+
+    clear(d);
+    while (d->variables < variables && d->bits < SMALL_BITS) {
+        size_t room = SMALL_BITS - d->bits, w = 1 + below(room < 4 || one_in(3) ? room : 4);
+        add_row(d, w, VARIABLE(w));
+    }
+    while (d->rows < rows) {
+        size_t a = narrow_term(d), b = narrow_term(d), c = narrow_term(d), w = 1 + below(3), low = below(d->width[a]);
+        switch (below(7)) {
+        case 0:  add_row(d, w, FILL(below(2), w)); break;
+        case 1:  join(d, a, b); break;
+        case 2:  cut(d, a, low + below(d->width[a] - low), low); break;
+        case 3:  rebuild(d, a); break;
+        case 4:  replace_bit(d, a); break;
+        case 5:  cut_join(d, a, b); break;
+        default: join_three(d, a, b, c); break;
+        }
+    }
+}
+
+/* Pairs of different rows: of one width and the same under every pattern, of one width and not, of two widths. */
+enum { SAME, DIFFERENT, OTHER_WIDTH };
+
+static void test_small_table(unsigned long number, unsigned long pairs[3])
+{
+    static draft d;
+    static ref_table facts;
+    static uint8_t values[REF_ROWS][REF_WIDTH], pattern[SMALL_BITS];
+    static bool same[REF_ROWS][REF_ROWS];
+    static uint16_t forms[REF_ROWS][4096];
+    static lw_record records[REF_ROWS];
+
+    make_small(&d);
+    ref_check(d.t.numbers, d.t.len, &facts);
+    for (size_t a = 0; a < d.rows; a++) {
+        records[a] = lw_normal_form(d.t.numbers, d.t.len, a, forms[a], 4096);
+        if (!check(records[a].outcome == 0 && records[a].pieces <= 1024, __FILE__, __LINE__,
+                   "small table %lu, row %zu: outcome %u, %u pieces", number, a, records[a].outcome,
+                   records[a].pieces))
+            return;
+        for (size_t b = 0; b < a; b++)
+            same[a][b] = d.width[a] == d.width[b];
+    }
+
+    for (size_t p = 0; p < (size_t)1 << facts.bits; p++) {
+        for (size_t i = 0; i < facts.bits; i++)
+            pattern[i] = p >> i & 1;
+        ref_values(d.t.numbers, &facts, d.rows, pattern, values);
+        for (size_t a = 0; a < d.rows; a++)
+            for (size_t b = 0; b < a; b++)
+                if (same[a][b] && memcmp(values[a], values[b], d.width[a]) != 0)
+                    same[a][b] = false;
+    }
+
+    for (size_t a = 0; a < d.rows; a++)
+        for (size_t b = 0; b < a; b++) {
+            bool same_form = records[a].pieces == records[b].pieces &&
+                             memcmp(forms[a], forms[b], 4 * records[a].pieces * sizeof forms[a][0]) == 0;
+            if (!check(same[a][b] == same_form, __FILE__, __LINE__, "small table %lu: rows %zu and %zu %s, %s forms",
+                       number, b, a, same[a][b] ? "are the same under every pattern" : "differ under a pattern",
+                       same_form ? "the same" : "different") && checks_failed == 1) {
+                print_table(d.t.numbers, d.t.len);
+                print_form("one form", forms[b], records[b].pieces);
+                print_form("the other", forms[a], records[a].pieces);
+            }
+            if (memcmp(d.t.numbers + 4 * a, d.t.numbers + 4 * b, 8) != 0)
+                pairs[same[a][b] ? SAME : d.width[a] == d.width[b] ? DIFFERENT : OTHER_WIDTH]++;
+        }
+}
+
+static void test_small(unsigned long tables)
+{
+    unsigned long pairs[3] = {0};
+
+    for (unsigned long i = 0; i < tables; i++)
+        test_small_table(i, pairs);
+    printf("%lu small tables, pairs of rows built differently: %lu the same under every pattern, %lu not, "
+           "%lu of two widths\n", tables, pairs[SAME], pairs[DIFFERENT], pairs[OTHER_WIDTH]);
+    check(pairs[SAME] >= 10 * tables, __FILE__, __LINE__, "few pairs of rows are the same");
+    check(pairs[DIFFERENT] >= 10 * tables, __FILE__, __LINE__, "few pairs of rows of one width differ");
+    group_done("the same value, the same form");
+}
+
+/* Speed. */
+
+enum { TIMES = 101, CALLS = 20 };
+
+static double now(void) /* in seconds */
+{
+    struct timespec t;
+    clock_gettime(CLOCK_MONOTONIC, &t);
+    return (double)t.tv_sec + 1e-9 * (double)t.tv_nsec;
+}
+
+static int by_size(const void *a, const void *b)
+{
+    double x = *(const double *)a, y = *(const double *)b;
+    return (x > y) - (x < y);
+}
+
+/* The time of a call for the last row of a table of chained cuts. */
+static double call_time(const table *t)
+{
+    static uint16_t form[4096];
+    double start = now();
+    for (int i = 0; i < CALLS; i++)
+        lw_normal_form(t->numbers, t->len, t->len / 4 - 1, form, 4096);
+    return (now() - start) / CALLS;
+}
+
+/* A variable of 1024 bits, and cuts of the row before, each by one bit less. */
+static void make_chain(table *t, size_t rows)
+{
+    t->len = 0;
+    add(t, VARIABLE(1024));
+    for (size_t i = 1; i < rows; i++)
+        add(t, CUT(i - 1, 1024 - i, 1));
+}
+
+/* The time grows with the rows passed, not with their square. Both are timed in turn, and the medians compared. */
+static void test_speed(void)
+{
+    static table small, large;
+    double small_times[TIMES], large_times[TIMES];
+
+    make_chain(&small, 64);
+    make_chain(&large, 512);
+    ACCEPT(ALL(small), 63, 961, FORM(PART(0, 1023, 63)));
+    ACCEPT(ALL(large), 511, 513, FORM(PART(0, 1023, 511)));
+    for (int i = 0; i < TIMES; i++) {
+        small_times[i] = call_time(&small);
+        large_times[i] = call_time(&large);
+    }
+    qsort(small_times, TIMES, sizeof small_times[0], by_size);
+    qsort(large_times, TIMES, sizeof large_times[0], by_size);
+    double few = small_times[TIMES / 2], many = large_times[TIMES / 2];
+    printf("a call on 64 rows of chained cuts: %.2f us, on 512 rows: %.2f us\n", 1e6 * few, 1e6 * many);
+    printf("time for 512 rows of chained cuts / 64 rows: %.1f\n", many / few);
+    check(many <= 16 * few, __FILE__, __LINE__, "512 rows take over 16 times as long as 64");
+    group_done("speed");
+}
+
+int main(int argc, char **argv)
+{
+    unsigned long tables = argc > 1 ? strtoul(argv[1], NULL, 10) : 20000;
+
+    setvbuf(stdout, NULL, _IOLBF, BUFSIZ); /* a crash leaves the lines before it */
+    test_constants();
+    test_leaves();
+    test_fills();
+    test_parts();
+    test_cuts();
+    test_widths();
+    test_limits();
+    test_table_refusals();
+    test_call_refusals();
+    test_null();
+    test_random(tables);
+    test_small(tables / 20);
+    test_speed();
+    return run_done("forms");
+}

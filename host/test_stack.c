@@ -1,0 +1,275 @@
+/*
+  test_stack.c -- how much stack each call uses
+
+      test_stack HEADER
+
+  A thread runs on a stack of known bytes and makes one call. The lowest byte
+  that has changed then tells how deep the call went: its use is counted from
+  where the caller's stack ended just before the call, so that the return
+  address belongs to it and the caller's frame and arguments do not. Each call
+  is measured over two different fillings of the stack, since a byte that is
+  written with what it had is not seen.
+
+  The greatest use of a call must not exceed the number that HEADER
+  (linkwords.h) states in its line "CALL  N bytes".
+*/
+
+#define _POSIX_C_SOURCE 200809L
+
+#include <pthread.h>
+
+#include "guard.h"
+#include "linkwords.h"
+
+/* Calls to be measured. */
+
+typedef struct {
+    uint16_t table[4 * LW_MAX_ROWS];
+    size_t table_len, row;
+    uint8_t pattern[LW_MAX_VARIABLE_BITS];
+    size_t pattern_len;
+    uint8_t value[LW_MAX_WIDTH];
+    size_t value_len;
+    uint16_t form[LW_FORM_NUMBERS];
+    lw_record record;
+} call;
+
+static void add(call *c, size_t kind, size_t a, size_t b, size_t low)
+{
+    uint16_t *n = c->table + c->table_len;
+    n[0] = (uint16_t)kind, n[1] = (uint16_t)a, n[2] = (uint16_t)b, n[3] = (uint16_t)low;
+    c->table_len += 4;
+}
+
+/* Each row is a cut of all bits of the row before it. */
+static void cuts(call *c)
+{
+    add(c, LW_VARIABLE, 1024, 0, 0);
+    for (size_t r = 1; r < 512; r++)
+        add(c, LW_CUT, r - 1, 1023, 0);
+    c->pattern_len = 1024;
+}
+
+/* Each row is a join of the row before it, on the left, and of row 0. */
+static void left_joins(call *c)
+{
+    add(c, LW_VARIABLE, 1, 0, 0);
+    add(c, LW_CUT, 0, 0, 0);
+    for (size_t r = 2; r < 512; r++)
+        add(c, LW_JOIN, r - 1, 0, 0);
+    c->pattern_len = 1;
+}
+
+/* The same with the row before it on the right. */
+static void right_joins(call *c)
+{
+    left_joins(c);
+    for (size_t r = 2; r < 512; r++) {
+        c->table[4 * r + 1] = 0;
+        c->table[4 * r + 2] = (uint16_t)(r - 1);
+    }
+}
+
+/* Cuts and joins in turn. */
+static void cuts_and_joins(call *c)
+{
+    add(c, LW_VARIABLE, 1, 0, 0);
+    for (size_t r = 1; r < 512; r++)
+        if (r % 2 == 1)
+            add(c, LW_CUT, r - 1, r / 2, 0);
+        else
+            add(c, LW_JOIN, r - 1, 0, 0);
+    c->pattern_len = 1;
+}
+
+static void one_variable(call *c)
+{
+    add(c, LW_VARIABLE, 1024, 0, 0);
+    c->pattern_len = 1024;
+}
+
+/* Refused at its last row. */
+static void bad_cut(call *c)
+{
+    cuts(c);
+    c->table[4 * 511 + 2] = 1024;
+}
+
+/* Refused at once. */
+static void no_whole_row(call *c)
+{
+    cuts(c);
+    c->table_len--;
+}
+
+static void bad_pattern(call *c)
+{
+    cuts(c);
+    c->pattern[1023] = 2;
+}
+
+/* Measuring. */
+
+typedef lw_record value_function(const uint16_t *, size_t, size_t, const uint8_t *, size_t, uint8_t *, size_t);
+typedef lw_record form_function(const uint16_t *, size_t, size_t, uint16_t *, size_t);
+
+enum { STACK = 1 << 20 };
+
+static unsigned char *stack, paint;
+static size_t used;
+
+/* Where the caller's stack ends, as the function that is called finds it. */
+static uintptr_t entry;
+
+/*
+  Called as the calls are. The frame's address is where the caller's frame
+  pointer is kept, just below the return address.
+*/
+#define ENTRY ((uintptr_t)__builtin_frame_address(0) + 2 * sizeof(void *))
+
+__attribute__((noinline))
+static lw_record value_entry(const uint16_t *table, size_t table_len, size_t row,
+                             const uint8_t *pattern, size_t pattern_len, uint8_t *value, size_t value_len)
+{
+    (void)table, (void)table_len, (void)row, (void)pattern, (void)pattern_len, (void)value, (void)value_len;
+    entry = ENTRY;
+    return (lw_record){.outcome = 1};
+}
+
+__attribute__((noinline))
+static lw_record form_entry(const uint16_t *table, size_t table_len, size_t row, uint16_t *form, size_t form_len)
+{
+    (void)table, (void)table_len, (void)row, (void)form, (void)form_len;
+    entry = ENTRY;
+    return (lw_record){.outcome = 1};
+}
+
+static value_function *volatile const value_functions[] = {value_entry, lw_value};
+static form_function *volatile const form_functions[] = {form_entry, lw_normal_form};
+
+static void count(void)
+{
+    size_t low = 0;
+    while (low < STACK && stack[low] == paint)
+        low++;
+    used = (size_t)(entry - (uintptr_t)stack) - low;
+}
+
+static void *run_value(void *argument)
+{
+    call *c = argument;
+    for (size_t i = 0; i < 2; i++)
+        c->record = value_functions[i](c->table, c->table_len, c->row, c->pattern, c->pattern_len,
+                                       c->value, c->value_len);
+    count();
+    return NULL;
+}
+
+static void *run_form(void *argument)
+{
+    call *c = argument;
+    for (size_t i = 0; i < 2; i++)
+        c->record = form_functions[i](c->table, c->table_len, c->row, c->form, LW_FORM_NUMBERS);
+    count();
+    return NULL;
+}
+
+static void must(int error, const char *what)
+{
+    if (error != 0) {
+        printf("%s: %s\n", what, strerror(error));
+        exit(1);
+    }
+}
+
+/* How many bytes of stack the call uses over this filling. */
+static size_t measure(void *(*run)(void *), call *c, unsigned char filling)
+{
+    pthread_attr_t attributes;
+    pthread_t thread;
+
+    paint = filling;
+    memset(stack, paint, STACK);
+    must(pthread_attr_init(&attributes), "pthread_attr_init");
+    must(pthread_attr_setstack(&attributes, stack, STACK), "pthread_attr_setstack");
+    must(pthread_create(&thread, &attributes, run, c), "pthread_create");
+    must(pthread_join(thread, NULL), "pthread_join");
+    must(pthread_attr_destroy(&attributes), "pthread_attr_destroy");
+    return used;
+}
+
+/* The number that the header states for a call; 0 if there is none. */
+static unsigned long stated(const char *header, const char *name)
+{
+    char line[256], word[256];
+    unsigned long bytes, found = 0;
+    FILE *file = fopen(header, "r");
+    if (file == NULL) {
+        perror(header);
+        exit(1);
+    }
+    while (found == 0 && fgets(line, sizeof line, file) != NULL)
+        if (sscanf(line, " %255s %lu bytes", word, &bytes) == 2 && strcmp(word, name) == 0)
+            found = bytes;
+    fclose(file);
+    return found;
+}
+
+typedef struct {
+    const char *name;
+    void (*make)(call *);
+    uint32_t outcome, free;
+} test;
+
+/* Measures a call on each of the tests, and compares the greatest use with the header's number. */
+static void measure_all(const char *name, void *(*run)(void *), const test *tests, size_t count, unsigned long limit)
+{
+    static const unsigned char fillings[] = {0x5A, 0xA5};
+    static call c;
+    size_t greatest = 0;
+
+    check(limit != 0, __FILE__, __LINE__, "no line '%s  N bytes' in the header", name);
+    for (size_t i = 0; i < count; i++) {
+        size_t use = 0;
+        for (size_t f = 0; f < sizeof fillings; f++) {
+            memset(&c, 0, sizeof c);
+            tests[i].make(&c);
+            c.row = c.table_len / 4 - 1;
+            c.value_len = sizeof c.value;
+            size_t once = measure(run, &c, fillings[f]);
+            use = once > use ? once : use;
+            check(c.record.outcome == tests[i].outcome && c.record.free == tests[i].free, __FILE__, __LINE__,
+                  "%s, %s: outcome %u, free %u", name, tests[i].name, c.record.outcome, c.record.free);
+        }
+        printf("%-15s %-36s %zu bytes of stack\n", name, tests[i].name, use);
+        check(use > sizeof(void *) && use < STACK / 2, __FILE__, __LINE__, "%s: nothing measured", tests[i].name);
+        greatest = use > greatest ? use : greatest;
+    }
+    check(greatest <= limit, __FILE__, __LINE__, "%s: %zu bytes of stack used, the header says %lu", name, greatest, limit);
+    printf("%-15s %-36s %zu bytes of stack, the header says %lu\n", name, "greatest", greatest, limit);
+}
+
+int main(int argc, char **argv)
+{
+    static const test tests[] = {
+        {"one variable", one_variable, LW_ACCEPTED, 1024},
+        {"512 rows, chained cuts", cuts, LW_ACCEPTED, 1024},
+        {"512 rows, joins chained on the left", left_joins, LW_ACCEPTED, 511},
+        {"512 rows, joins chained on the right", right_joins, LW_ACCEPTED, 511},
+        {"512 rows, cuts and joins in turn", cuts_and_joins, LW_ACCEPTED, 256},
+        {"refused 11", no_whole_row, LW_REFUSED_TABLE, 0},
+        {"refused 16 at row 511", bad_cut, LW_REFUSED_CUT, 0},
+        {"refused 31", bad_pattern, LW_REFUSED_PATTERN, 0},
+    };
+    size_t count = sizeof tests / sizeof tests[0];
+    const char *header = argc == 2 ? argv[1] : "";
+    void *memory;
+
+    must(posix_memalign(&memory, 1 << 16, STACK), "posix_memalign");
+    stack = memory;
+    measure_all("lw_value", run_value, tests, count, stated(header, "lw_value"));
+    /* all but the last, which only a value refuses */
+    measure_all("lw_normal_form", run_form, tests, count - 1, stated(header, "lw_normal_form"));
+    free(memory);
+    return run_done("stack");
+}
