@@ -1,8 +1,9 @@
-/* reference.c -- a second evaluator of term tables: see reference.h */
+/* reference.c -- a second evaluator of term tables, and a second reader of sheets: see reference.h */
 
 #include "reference.h"
 
 #include <stdbool.h>
+#include <stdlib.h>
 #include <string.h>
 
 enum { VARIABLE = 0, FILL = 1, JOIN = 2, CUT = 3, EQUATION = 4 };
@@ -242,4 +243,113 @@ lw_record ref_normal_form(const uint16_t *table, size_t table_len, size_t row,
         from = to + 1;
     }
     return (lw_record){.outcome = 0, .pieces = (uint32_t)pieces, .free = (uint32_t)width};
+}
+
+/* Sheets. */
+
+/* A part of a text: a line without its end, or a word. */
+typedef struct {
+    const uint8_t *bytes;
+    size_t len;
+} part;
+
+/*
+  Splits a text at every byte of this value into the parts between them, which
+  may be empty: always one part more than there are such bytes. Gives how many
+  they are; the first max of them are kept.
+*/
+static size_t split(part text, uint8_t at, part parts[], size_t max)
+{
+    size_t count = 0, from = 0;
+    for (size_t i = 0; i <= text.len; i++)
+        if (i == text.len || text.bytes[i] == at) {
+            if (count < max)
+                parts[count] = (part){text.len == 0 ? text.bytes : text.bytes + from, i - from};
+            count++;
+            from = i + 1;
+        }
+    return count;
+}
+
+/* The column of this name; -1 if there is none. */
+static int column_of(part word)
+{
+    static const char *const names[] = {"kind", "a", "b", "c"};
+    for (int i = 0; i < 4; i++)
+        if (word.len == strlen(names[i]) && memcmp(word.bytes, names[i], word.len) == 0)
+            return i;
+    return -1;
+}
+
+/* The number that a word stands for; -1 if there is none. */
+static long number_of(part word)
+{
+    char digits[5 + 1] = ""; /* 65,535 has five, and leading zeros are bad */
+    if (word.len < 1 || word.len > 5)
+        return -1;
+    memcpy(digits, word.bytes, word.len);
+    if (strspn(digits, "0123456789") != word.len || (digits[0] == '0' && word.len > 1))
+        return -1;
+    long number = strtol(digits, NULL, 10);
+    return number <= 65535 ? number : -1;
+}
+
+/* Whether a line is the four names, each once; place[i] is then the column of its i-th word. */
+static bool read_names(part line, int place[4])
+{
+    part words[4];
+    bool seen[4] = {false, false, false, false};
+
+    if (split(line, ' ', words, 4) != 4)
+        return false;
+    for (int i = 0; i < 4; i++) {
+        place[i] = column_of(words[i]);
+        if (place[i] < 0 || seen[place[i]])
+            return false;
+        seen[place[i]] = true;
+    }
+    return true;
+}
+
+/* Whether a line is four values; row then has them at their places. */
+static bool read_values(part line, const int place[4], uint16_t row[4])
+{
+    part words[4];
+
+    if (split(line, ' ', words, 4) != 4)
+        return false;
+    for (int i = 0; i < 4; i++) {
+        long number = number_of(words[i]);
+        if (number < 0)
+            return false;
+        row[place[i]] = (uint16_t)number;
+    }
+    return true;
+}
+
+lw_record ref_read_sheet(const uint8_t *sheet, size_t sheet_len, uint16_t *table, size_t table_len)
+{
+    static part lines[16384 + 1];
+    static uint16_t rows[512][4];
+    int place[4];
+
+    if (sheet_len > 16384)
+        return refusal(20, 0);
+
+    /* Each line ends in byte 10: what is behind the last one is a line if it is not empty, but not a good one. */
+    size_t ended = split((part){sheet, sheet_len}, 10, lines, 16384 + 1) - 1;
+    size_t count = ended + (lines[ended].len != 0 ? 1 : 0);
+
+    if (ended == 0 || !read_names(lines[0], place))
+        return refusal(21, 0);
+    for (size_t i = 1; i < count; i++) {
+        if (i - 1 == 512)
+            return refusal(23, 512);
+        if (i == ended || !read_values(lines[i], place, rows[i - 1]))
+            return refusal(22, i - 1);
+    }
+    if (table_len < 4 * 512)
+        return refusal(32, 0);
+    memcpy(table, rows, (count - 1) * sizeof rows[0]);
+    return (lw_record){.outcome = 0, .pieces = (uint32_t)(count - 1)};
 }

@@ -1,5 +1,6 @@
 /*
-  reference.h -- a second evaluator of term tables, to compare the library with
+  reference.h -- a second evaluator of term tables and reader of sheets, to
+  compare the library with
 
   It is written from the specification's text alone, as plainly as it can be,
   and shares no code with the library. The record is the only thing that it
@@ -61,5 +62,8 @@ void ref_sources(const uint16_t *table, const ref_table *facts, size_t count,
 /* What lw_normal_form yields and writes. Not reentrant. */
 lw_record ref_normal_form(const uint16_t *table, size_t table_len, size_t row,
                           uint16_t *form, size_t form_len);
+
+/* What lw_read_sheet yields and writes. Not reentrant. */
+lw_record ref_read_sheet(const uint8_t *sheet, size_t sheet_len, uint16_t *table, size_t table_len);
 
 #endif /* REFERENCE_H */

@@ -31,6 +31,8 @@ typedef struct {
     uint8_t value[LW_MAX_WIDTH];
     size_t value_len;
     uint16_t form[LW_FORM_NUMBERS];
+    uint8_t sheet[LW_MAX_SHEET + 1];
+    size_t sheet_len;
     lw_record record;
 } call;
 
@@ -108,10 +110,68 @@ static void bad_pattern(call *c)
     c->pattern[1023] = 2;
 }
 
+/* Sheets; their tables are lent whole. */
+
+static void lines(call *c, const char *line, size_t count)
+{
+    size_t len = strlen(line);
+    c->table_len = LW_TABLE_NUMBERS;
+    for (size_t i = 0; i < count && c->sheet_len + len <= sizeof c->sheet; i++) {
+        memcpy(c->sheet + c->sheet_len, line, len);
+        c->sheet_len += len;
+    }
+}
+
+static void one_line(call *c)
+{
+    lines(c, "kind a b c\n", 1);
+    lines(c, "0 8 0 0\n", 1);
+}
+
+/* The longest sheet that is read. */
+static void long_lines(call *c)
+{
+    lines(c, "c b a kind\n", 1);
+    lines(c, "65535 65535 65535 65535\n", 512);
+}
+
+/* The longest sheet that is looked at. */
+static void many_lines(call *c)
+{
+    lines(c, "c b a kind\n0 0 0 0\n", 1);
+    lines(c, "65535 65535 65535 65535\n", 681);
+    lines(c, "10000 10000 10000 10\n", 1);
+}
+
+static void too_long(call *c)
+{
+    many_lines(c);
+    lines(c, "\n", 1);
+}
+
+static void no_names(call *c)
+{
+    long_lines(c);
+    c->sheet[9] = 'b';
+}
+
+static void no_end(call *c)
+{
+    long_lines(c);
+    c->sheet_len--;
+}
+
+static void short_output(call *c)
+{
+    long_lines(c);
+    c->table_len--;
+}
+
 /* Measuring. */
 
 typedef lw_record value_function(const uint16_t *, size_t, size_t, const uint8_t *, size_t, uint8_t *, size_t);
 typedef lw_record form_function(const uint16_t *, size_t, size_t, uint16_t *, size_t);
+typedef lw_record sheet_function(const uint8_t *, size_t, uint16_t *, size_t);
 
 enum { STACK = 1 << 20 };
 
@@ -144,8 +204,17 @@ static lw_record form_entry(const uint16_t *table, size_t table_len, size_t row,
     return (lw_record){.outcome = 1};
 }
 
+__attribute__((noinline))
+static lw_record sheet_entry(const uint8_t *sheet, size_t sheet_len, uint16_t *table, size_t table_len)
+{
+    (void)sheet, (void)sheet_len, (void)table, (void)table_len;
+    entry = ENTRY;
+    return (lw_record){.outcome = 1};
+}
+
 static value_function *volatile const value_functions[] = {value_entry, lw_value};
 static form_function *volatile const form_functions[] = {form_entry, lw_normal_form};
+static sheet_function *volatile const sheet_functions[] = {sheet_entry, lw_read_sheet};
 
 static void count(void)
 {
@@ -170,6 +239,15 @@ static void *run_form(void *argument)
     call *c = argument;
     for (size_t i = 0; i < 2; i++)
         c->record = form_functions[i](c->table, c->table_len, c->row, c->form, LW_FORM_NUMBERS);
+    count();
+    return NULL;
+}
+
+static void *run_sheet(void *argument)
+{
+    call *c = argument;
+    for (size_t i = 0; i < 2; i++)
+        c->record = sheet_functions[i](c->sheet, c->sheet_len, c->table, c->table_len);
     count();
     return NULL;
 }
@@ -261,6 +339,15 @@ int main(int argc, char **argv)
         {"refused 16 at row 511", bad_cut, LW_REFUSED_CUT, 0},
         {"refused 31", bad_pattern, LW_REFUSED_PATTERN, 0},
     };
+    static const test sheets[] = {
+        {"one line", one_line, LW_ACCEPTED, 0},
+        {"12299 bytes, 512 lines", long_lines, LW_ACCEPTED, 0},
+        {"refused 20", too_long, LW_REFUSED_SHEET, 0},
+        {"refused 21", no_names, LW_REFUSED_NAMES, 0},
+        {"refused 22 at line 511", no_end, LW_REFUSED_LINE, 0},
+        {"16384 bytes, refused 23", many_lines, LW_REFUSED_LINES, 0},
+        {"refused 32", short_output, LW_REFUSED_OUTPUT, 0},
+    };
     size_t count = sizeof tests / sizeof tests[0];
     const char *header = argc == 2 ? argv[1] : "";
     void *memory;
@@ -270,6 +357,7 @@ int main(int argc, char **argv)
     measure_all("lw_value", run_value, tests, count, stated(header, "lw_value"));
     /* all but the last, which only a value refuses */
     measure_all("lw_normal_form", run_form, tests, count - 1, stated(header, "lw_normal_form"));
+    measure_all("lw_read_sheet", run_sheet, sheets, sizeof sheets / sizeof sheets[0], stated(header, "lw_read_sheet"));
     free(memory);
     return run_done("stack");
 }

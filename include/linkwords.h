@@ -3,8 +3,9 @@
   A word is a sequence of bits. This library works on terms over such words: a
   term is a variable, a fill (a constant whose bits are all alike), a join of
   two words (concatenation) or a cut out of a word (extraction), and equations
-  stand between terms. The caller describes the terms in a table of numbers;
-  each call takes that table and leaves its results in buffers of the caller.
+  stand between terms. The caller describes the terms in a table of numbers,
+  which can also be read from a text; the calls take that table and leave their
+  results in buffers of the caller.
 
   The library is proved: for every input each call yields the record and the
   buffer contents that this header names, and it always returns. It is linked
@@ -71,10 +72,45 @@
   normal forms are the same, piece by piece.
 
 
+                                  Sheets
+
+  A sheet is the numbers of a table as text: a line of names, and then for each
+  row, from row 0 on, a line of values. This sheet has four rows, a variable of
+  8 bits, two cuts of it, and the equation of the two cuts:
+
+     kind a b c
+     0 8 0 0
+     3 0 6 3
+     3 0 4 1
+     4 1 2 0
+
+  The line of names is the four names kind, a, b and c in any order, each once.
+  A line of values is four values, the first of which belongs to the first name,
+  and so on: under the names c b a kind, the line 0 0 8 0 is the variable of 8
+  bits again.
+
+  One space (byte 32) stands between a name or value and the next. Each line,
+  the last one too, ends in a newline (byte 10). Nothing else is in a line:
+  there is no space at its start or end, no tab, no carriage return (byte 13)
+  before the newline, and no line is empty. A name is in lower case. A value is
+  a number from 0 to 65535, in decimal digits without a sign and without leading
+  zeros: 0 is a value; 00, 01, +1 and 65536 are not.
+
+  What follows the last newline is one more line, which is malformed, since it
+  does not end in a newline; if nothing follows, there is no line more. So a
+  text that ends in two newlines has an empty last line, which is malformed too.
+
+  A sheet has at most 16384 bytes and 512 lines of values. The line of names
+  alone is a sheet of no rows. A sheet says nothing of what its numbers mean:
+  any four values are a row of a sheet, and it is the call that works on the
+  table which refuses a kind of 9.
+
+
                                Every call
 
   Lengths count elements, not bytes: 16-bit numbers for a table and for a normal
-  form, bytes for a pattern and for a value. A table of R rows has length 4 * R.
+  form, bytes for a pattern, for a value and for a sheet. A table of R rows has
+  length 4 * R.
 
   Each pointer is to as many elements as its length says, aligned for their
   type. The buffers of one call must not overlap. A pointer may be NULL where
@@ -85,10 +121,13 @@
   calls are reentrant, and threads may call at the same time as long as no
   buffer that one call writes is used by another.
 
-  The greatest stack use of each call, measured (the return address counts):
+  The greatest stack use of each call, measured (the return address counts; what
+  a dynamic linker uses that binds memcpy or memset only at its first use does
+  not):
 
      lw_value        44224 bytes
      lw_normal_form  133184 bytes
+     lw_read_sheet   4288 bytes
 */
 
 #ifndef LINKWORDS_H
@@ -117,6 +156,8 @@ extern "C" {
 #define LW_ROW_NUMBERS          4 /* numbers of a row: kind, a, b, c */
 #define LW_PIECE_NUMBERS        4 /* of a piece: kind, variable, high, low */
 #define LW_FORM_NUMBERS      4096 /* least output of a normal form */
+#define LW_TABLE_NUMBERS     2048 /* least output of a sheet's reading */
+#define LW_MAX_SHEET        16384 /* bytes of a sheet */
 #define LW_MAX_ROWS           512
 #define LW_MAX_WIDTH         1024
 #define LW_MAX_VARIABLES       64
@@ -134,6 +175,10 @@ extern "C" {
 #define LW_REFUSED_CUT       16 /* high not below the width, or low above high */
 #define LW_REFUSED_MAXIMUM   17 /* a 65th variable or equation, or over 4096 variable bits */
 #define LW_REFUSED_SIDES     18 /* an equation's sides are of unequal width */
+#define LW_REFUSED_SHEET     20 /* sheet over 16384 bytes */
+#define LW_REFUSED_NAMES     21 /* the line of names is malformed, or there is none */
+#define LW_REFUSED_LINE      22 /* a line of values is malformed */
+#define LW_REFUSED_LINES     23 /* a 513th line of values */
 #define LW_REFUSED_ROW       30 /* the row asked for is absent, or is an equation */
 #define LW_REFUSED_PATTERN   31 /* pattern of another length, or a byte above 1 */
 #define LW_REFUSED_OUTPUT    32 /* output buffer too short */
@@ -254,6 +299,49 @@ lw_record lw_normal_form(const uint16_t *table, size_t table_len, size_t row,
                              (4096), however few the pieces are
 
      The table is only read.
+*/
+
+lw_record lw_read_sheet(const uint8_t *sheet, size_t sheet_len,
+                        uint16_t *table, size_t table_len);
+/*
+     Reads a sheet, and writes its rows as a table.
+
+     If the call is accepted, outcome is LW_ACCEPTED, pieces is the number of
+     rows, that is of lines of values, which is at most 512, and all other
+     fields are 0. The first 4 * pieces numbers of table are then the rows, in
+     the order of their lines, each as kind, a, b and c, whatever the order of
+     the names is; the numbers of table that follow keep their content. So
+     4 * pieces is the length to give to a call that works on this table.
+
+     Otherwise outcome is the first refusal that applies, in the order below,
+     and nothing is written to table. The sheet's length is tested first, then
+     the line of names, then the lines of values, and last the output. The lines
+     of values are numbered from 0 and tested from the first to the last, each
+     by 23 before 22, so that the refusal is about the first line at fault: that
+     is 22 for the first malformed line among the first 512, and if they have
+     none, 23 for the line that follows them, whatever it holds.
+
+     outcome                 cause                               field row
+     20 LW_REFUSED_SHEET     sheet_len is above LW_MAX_SHEET     0
+                             (16384), whatever the sheet holds
+     21 LW_REFUSED_NAMES     there is no line, or the first one  0
+                             is no line of names: a name is
+                             missing, there twice or unknown, or
+                             spaces or the line's end are
+                             otherwise than said under Sheets
+     23 LW_REFUSED_LINES     the line is the 513th line of       512
+                             values
+     22 LW_REFUSED_LINE      the line is no line of values: a    that line
+                             value is missing, too much or no
+                             number up to 65535, or spaces or
+                             the line's end are otherwise than
+                             said under Sheets
+     32 LW_REFUSED_OUTPUT    table_len is below LW_TABLE_NUMBERS 0
+                             (2048), however few the rows are
+
+     The numbers are not tested as a table: the call that works on them does so.
+
+     The sheet is only read.
 */
 
 #ifdef __cplusplus

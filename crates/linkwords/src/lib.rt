@@ -4,6 +4,7 @@ ghost use mathlib.Core.Path.{_≡_};
 ghost use lib.ListN.{length};
 ghost use Rattle.values.specs.Value.{valueRecord, valueAfter};
 ghost use Rattle.forms.specs.Call.{formRecord, formAfter};
+ghost use Rattle.sheets.specs.Call.{sheetRecord, tableAfter};
 use terms::Record;
 
 // A row's value under a pattern.
@@ -22,4 +23,13 @@ pub extern "C" fn lw_normal_form(table: &[u16], row: usize, form: &mut [u16]) ->
     ensures form { λ r. ⌜ now (form .exit) ≡ formAfter (now (table .entry)) row (now (form .entry)) ⌝ }
 {
     forms::normal_form(table, row, form)
+}
+
+// The table that a sheet describes.
+#[no_mangle]
+pub extern "C" fn lw_read_sheet(sheet: &[u8], table: &mut [u16]) -> Record
+    ensures record { λ r. ⌜ r ≡ sheetRecord (now (sheet .entry)) (length (now (table .entry))) ⌝ }
+    ensures table { λ r. ⌜ now (table .exit) ≡ tableAfter (now (sheet .entry)) (now (table .entry)) ⌝ }
+{
+    sheets::read_sheet(sheet, table)
 }

@@ -1,0 +1,52 @@
+-- `field` meets its contract. Assumes nothing.
+use Rattle.sheets.proofs.Fields.{seen-within}
+use Rattle.sheets.specs.Text.{sees, fieldAt}
+use native.Mathlib.Omega.{arith}
+use mathlib.Core.Path.{_≡_, sym, _∙_}
+use borrow.Author.Needs.{needs}
+use Rattle.sheets.proofs.Cursor.field.Statement.{statement}
+use Rattle.sheets.proofs.Cursor.field.Tie as tie
+use Rattle.sheets.proofs.Cursor.field.Reads as reads
+use Rattle.sheets.proofs.Cursor.field.Lts as lts
+use Rattle.sheets.proofs.Cursor.number.Reads as number-reads
+use Rattle.sheets.proofs.sees_byte.Reads as sees-byte-reads
+
+number-requires : tie.Need-number-requires
+number-requires c κs = search needs
+
+enum-known-v : tie.Need-enum-known-v
+enum-known-v c = search needs
+
+enum-told : tie.Need-enum-told
+enum-told c = search needs
+
+returns : tie.Need-returns
+unfolding fieldAt
+returns c = rw (sym (c .before .before .number .ensures) ∙ c .enum-told .given .1)
+
+sees-byte-requires : tie.Need-sees-byte-requires
+sees-byte-requires c κs = search needs
+
+add-t9 : tie.Need-add-t9
+add-t9 c = omega (arith, seen-within _ _ _ (sym (c .before .sees-byte .ensures) ∙ c .if1 .taken))
+
+returns-2 : tie.Need-returns-2
+unfolding fieldAt
+returns-2 c = rw (sym (c .before .before .before .before .before .number .ensures) ∙ c .before .before .before .v .given .1, sym (c .before .sees-byte .ensures) ∙ c .if1 .taken)
+
+returns-3 : tie.Need-returns-3
+unfolding fieldAt
+returns-3 c = rw (sym (c .before .before .before .before .before .number .ensures) ∙ c .before .before .before .v .given .1, sym (c .before .sees-byte .ensures) ∙ c .if1 .left)
+
+pub field-spec : {M : Type 1} → statement M
+field-spec =
+    tie.close
+    (tie.spec
+    number-requires
+    enum-known-v
+    enum-told
+    returns
+    sees-byte-requires
+    add-t9
+    returns-2
+    returns-3)

@@ -1,0 +1,11 @@
+pub mod Numbers
+pub mod Fields
+pub mod Reading
+pub mod Copying
+pub mod Printing
+pub mod Decimal
+pub mod Orders
+pub mod Writing
+pub mod Written
+pub mod SheetCases
+pub mod Theorems

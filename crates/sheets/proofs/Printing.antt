@@ -1,0 +1,109 @@
+-- Lines made byte by byte.
+use mathlib.Core.Path.{_≡_, refl, sym, _∙_, ap}
+use mathlib.Core.Bool.{true, false, Bool, cond}
+use mathlib.Core.List.{List, [], _∷_, _++_, append-assoc}
+use Prim.Native.Nat.{ℕ, zero, suc, _+_, _-_, _/_, _%_, _<_, _≤_}
+use native.Mathlib.Omega.{arith}
+use lib.Dec.{ltb}
+use lib.ListN.{length, length-append, getD, drop, drop-of-length-le}
+use Rattle.sheets.proofs.Numbers.{at-byte}
+use borrow.Author.Tests.{lt-ltb, le-ltb}
+use Rattle.terms.proofs.Buffers.{overwrite-more}
+use Rattle.sheets.specs.declared.Text.{Text}
+use Rattle.terms.specs.declared.Record.{Record}
+use Rattle.sheets.specs.Print.{pushed, pushAll, lineOf, field, recordValues, answerValues}
+use Rattle.sheets.specs.Writing.{digits}
+
+pub push-append : (t : Text) (xs ys : List ℕ) → pushAll t (xs ++ ys) ≡ pushAll (pushAll t xs) ys
+unfolding pushAll
+push-append t [] ys = refl
+push-append t (x ∷ xs) ys = push-append (pushed t x) xs ys
+
+push-last : (t : Text) (bytes : List ℕ) (byte : ℕ) → pushed (pushAll t bytes) byte ≡ pushAll t (bytes ++ (byte ∷ []))
+unfolding pushAll
+push-last t [] byte = refl
+push-last t (x ∷ bytes) byte = push-last (pushed t x) bytes byte
+
+push-line : (l : List ℕ) (byte : ℕ) → length l < 80 → pushed (lineOf l) byte ≡ lineOf (l ++ (byte ∷ []))
+unfolding pushed lineOf
+push-line l byte h = rw (lt-ltb (length l) 80 h, overwrite-more l _ byte (length l) refl, length-append l (byte ∷ []))
+
+-- what is pushed to a line stands behind it
+pub push-all : (l bytes : List ℕ) → length l + length bytes ≤ 80 → pushAll (lineOf l) bytes ≡ lineOf (l ++ bytes)
+unfolding pushAll
+push-all l [] h = ap lineOf (sym (mathlib.Core.List.append-nil l))
+push-all l (x ∷ bytes) h =
+    ap (λ (t : Text). pushAll t bytes) (push-line l x (omega arith))
+    ∙ push-all (l ++ (x ∷ [])) bytes (omega (arith, length-append l (x ∷ [])))
+    ∙ ap lineOf (append-assoc l (x ∷ []) bytes)
+
+digits-few : (most n : ℕ) → length (digits most n) ≤ most
+unfolding digits
+digits-few zero n = omega arith
+digits-few (suc most) n = go (ltb n 10) (digits-few most (n / 10))
+  where
+    go : (b : Bool) → length (digits most (n / 10)) ≤ most → length (cond b ((48 + n) ∷ []) (digits most (n / 10) ++ ((48 + n % 10) ∷ []))) ≤ suc most
+    go true l = omega arith
+    go false l = omega (arith, length-append (digits most (n / 10)) ((48 + n % 10) ∷ []))
+
+field-few : (n byte : ℕ) → length (field n byte) ≤ 11
+unfolding field
+field-few n byte = omega (arith, length-append (digits 10 n) (byte ∷ []), digits-few 10 n)
+
+pub push-digits-none : (t : Text) (most n : ℕ) → most ≡ 0 → t ≡ pushAll t (digits most n)
+unfolding pushAll digits
+push-digits-none t zero n e = refl
+push-digits-none t (suc most) n e = absurd (omega (arith, e))
+
+pub push-digits-one : (t : Text) (most n : ℕ) → (most ≡ 0 → ⊥) → n < 10 → pushed t (48 + n) ≡ pushAll t (digits most n)
+unfolding pushAll digits
+push-digits-one t zero n nz h = absurd (nz refl)
+push-digits-one t (suc most) n nz h = rw (lt-ltb n 10 h)
+
+pub push-digits-more : (t rest : Text) (most n : ℕ) → (most ≡ 0 → ⊥) → 10 ≤ n → rest ≡ pushAll t (digits (most - 1) (n / 10))
+    → pushed rest (48 + n % 10) ≡ pushAll t (digits most n)
+unfolding digits
+push-digits-more t rest zero n nz h e = absurd (nz refl)
+push-digits-more t rest (suc most) n nz h e =
+    let f : suc most - 1 ≡ most = omega arith in
+    rw (le-ltb n 10 h) (ap (λ (x : Text). pushed x (48 + n % 10)) (e ∙ ap (λ (m : ℕ). pushAll t (digits m (n / 10))) f) ∙ push-last t (digits most (n / 10)) (48 + n % 10))
+
+-- a number and the byte behind it
+pub push-field : (t rest r : Text) (n byte : ℕ) → rest ≡ pushAll t (digits 10 n) → r ≡ pushed rest byte → r ≡ pushAll t (field n byte)
+unfolding field
+push-field t rest r n byte e f = f ∙ ap (λ (x : Text). pushed x byte) e ∙ push-last t (digits 10 n) byte
+
+-- one byte more of the rest
+pub push-next : (t r : Text) (bytes : List ℕ) (i : ℕ) → i < length bytes → r ≡ pushed t (getD bytes i 0)
+    → pushAll r (drop (i + 1) bytes) ≡ pushAll t (drop i bytes)
+unfolding pushAll
+push-next t r bytes i h e = rw (at-byte bytes i h) (ap (λ (x : Text). pushAll x (drop (i + 1) bytes)) e)
+
+pub push-none : (t : Text) (bytes : List ℕ) (i : ℕ) → length bytes ≤ i → t ≡ pushAll t (drop i bytes)
+unfolding pushAll
+push-none t bytes i h = rw (drop-of-length-le bytes h) refl
+
+-- a line of names
+pub whole-line : (e r : Text) (bytes : List ℕ) → length bytes ≤ 80 → e ≡ lineOf [] → r ≡ pushAll e bytes → r ≡ lineOf bytes
+whole-line e r bytes h f g = g ∙ ap (λ (t : Text). pushAll t bytes) f ∙ push-all [] bytes (omega (arith, h))
+
+-- two steps are one
+pub push-both : (t m r : Text) (xs ys : List ℕ) → m ≡ pushAll t xs → r ≡ pushAll m ys → r ≡ pushAll t (xs ++ ys)
+push-both t m r xs ys e f = f ∙ ap (λ (x : Text). pushAll x ys) e ∙ sym (push-append t xs ys)
+
+-- a number before so many bytes
+field-more : (n byte k : ℕ) (ys : List ℕ) → length ys ≤ k → length (field n byte ++ ys) ≤ 11 + k
+field-more n byte k ys h = omega (arith, h, length-append (field n byte) ys, field-few n byte)
+
+pub answer-values-few : (v k w f : ℕ) → length (answerValues v k w f) ≤ 80
+unfolding answerValues
+answer-values-few v k w f =
+    let l : length (field v 32 ++ (field k 32 ++ (field w 32 ++ field f 10))) ≤ 44 = field-more _ _ 33 _ (field-more _ _ 22 _ (field-more _ _ 11 _ (field-few _ _))) in
+    omega (arith, l)
+
+pub record-values-few : (r : Record) → length (recordValues r) ≤ 80
+unfolding recordValues
+record-values-few r =
+    let l : length (field (r .outcome) 32 ++ (field (r .pieces) 32 ++ (field (r .fresh) 32 ++ (field (r .free) 32 ++ (field (r .ties) 32 ++ field (r .row) 10))))) ≤ 66
+    = field-more _ _ 55 _ (field-more _ _ 44 _ (field-more _ _ 33 _ (field-more _ _ 22 _ (field-more _ _ 11 _ (field-few _ _))))) in
+    omega (arith, l)

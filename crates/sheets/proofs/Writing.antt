@@ -1,0 +1,188 @@
+-- A sheet that was written is read back: a field, a line, the names, all lines. At each place the text is what is written
+-- there and then the rest.
+use mathlib.Core.Path.{_≡_, refl, sym, _∙_, ap}
+use mathlib.Core.Bool.{false}
+use mathlib.Core.List.{List, [], _∷_, _++_, append-assoc}
+use Prim.Native.Nat.{ℕ, zero, suc, _+_, _<_, _≤_}
+use native.Mathlib.Omega.{arith}
+use native.Mathlib.Nat.{add-zero}
+use lib.Dec.{ltb, eqb}
+use lib.ListN.{length, getD, drop, length-append, length-drop}
+use lib.Seq.{drop-drop, drop-append-seam, getD-drop}
+use borrow.Author.Tests.{lt-ltb, le-ltb, eq-eqb}
+use Rattle.terms.specs.declared.Row.{Row}
+use Rattle.sheets.specs.declared.Number.the-variants.{Value}
+use Rattle.sheets.specs.declared.Name.the-variants.{Column}
+use Rattle.sheets.specs.declared.Order.{Order}
+use Rattle.sheets.specs.declared.Names.the-variants.{InOrder}
+use Rattle.sheets.specs.declared.Line.the-variants.{Values}
+use Rattle.sheets.specs.declared.Sheet.the-variants.{Rows}
+use Rattle.sheets.specs.Text.{place, digitOf, numberHere, sees, fieldAt, placed, lineAt, seesKind, columnAt, nameAt, namesAt}
+use Rattle.sheets.specs.Sheet.{foundFrom, rowsFrom, sheetFound, sheetRows}
+use Rattle.sheets.specs.Writing.{decimal, nameBytes, column, name, value, namesLine, valuesLine, linesText, sheetText, IsOrder, SmallRow, SmallRows, none, one}
+use Rattle.sheets.proofs.Decimal.{at-byte, number-read}
+use Rattle.sheets.proofs.Orders.{row-placed, column-small}
+
+module _ (text : List ℕ) where
+  -- what stands behind something
+  pub behind : (at : ℕ) (xs rest : List ℕ) → drop at text ≡ xs ++ rest → drop (at + length xs) text ≡ rest
+  behind at xs rest e = sym (drop-drop (length xs) at text) ∙ ap (drop (length xs)) e ∙ drop-append-seam xs rest
+
+  within : (at x : ℕ) (rest : List ℕ) → drop at text ≡ x ∷ rest → at < length text
+  within at x rest e = let l : length (drop at text) ≡ suc (length rest) = ap length e in omega (arith, length-drop at text)
+
+  -- a byte that stands there is seen, and no other
+  sees-byte : (at x byte : ℕ) (rest : List ℕ) → drop at text ≡ x ∷ rest → sees text at byte ≡ eqb x byte
+  unfolding sees
+  sees-byte at x byte rest e =
+      let g : getD text at 0 ≡ x =
+      ap (λ (i : ℕ). getD text i 0) (sym (add-zero at)) ∙ sym (getD-drop at text 0 0) ∙ ap (λ (l : List ℕ). getD l 0 0) e in
+      rw (lt-ltb at (length text) (within at x rest e), g)
+
+  -- a value with the byte behind it
+  value-read : (at v byte : ℕ) (rest : List ℕ) → v ≤ 65535 → 9 < digitOf byte → drop at text ≡ value v byte ++ rest
+      → fieldAt text at byte ≡ Value v (place (at + length (value v byte)))
+  unfolding fieldAt value
+  value-read at v byte rest h d e =
+      let split : drop at text ≡ decimal v ++ (byte ∷ rest) = e ∙ append-assoc (decimal v) (byte ∷ []) rest in
+      let n : numberHere at (drop at text) ≡ Value v (place (at + length (decimal v))) = ap (numberHere at) split ∙ number-read v at h (at-byte d) in
+      let s = sees-byte (at + length (decimal v)) byte byte rest (behind at (decimal v) (byte ∷ rest) split) in
+      rw (n, s, eq-eqb byte byte refl) (ap (λ (i : ℕ). Value v (place i)) (omega (arith, length-append (decimal v) (byte ∷ []))))
+
+  -- a line of four values
+  four-read : (order : Order) (at v₁ v₂ v₃ v₄ : ℕ) (rest : List ℕ) → v₁ ≤ 65535 → v₂ ≤ 65535 → v₃ ≤ 65535 → v₄ ≤ 65535
+      → drop at text ≡ (value v₁ 32 ++ value v₂ 32 ++ value v₃ 32 ++ value v₄ 10) ++ rest
+      → lineAt text order at ≡ Values (placed order v₁ v₂ v₃ v₄) (place (at + length (value v₁ 32 ++ value v₂ 32 ++ value v₃ 32 ++ value v₄ 10)))
+  unfolding lineAt digitOf
+  four-read order at v₁ v₂ v₃ v₄ rest h₁ h₂ h₃ h₄ e =
+      let x₁ = value v₁ 32 in
+      let x₂ = value v₂ 32 in
+      let x₃ = value v₃ 32 in
+      let x₄ = value v₄ 10 in
+      let at₁ = at + length x₁ in
+      let at₂ = at₁ + length x₂ in
+      let at₃ = at₂ + length x₃ in
+      let e₁ : drop at text ≡ x₁ ++ (x₂ ++ (x₃ ++ (x₄ ++ rest))) = e ∙ simp append-assoc in
+      let e₂ : drop at₁ text ≡ x₂ ++ (x₃ ++ (x₄ ++ rest)) = behind at x₁ (x₂ ++ (x₃ ++ (x₄ ++ rest))) e₁ in
+      let e₃ : drop at₂ text ≡ x₃ ++ (x₄ ++ rest) = behind at₁ x₂ (x₃ ++ (x₄ ++ rest)) e₂ in
+      let e₄ : drop at₃ text ≡ x₄ ++ rest = behind at₂ x₃ (x₄ ++ rest) e₃ in
+      let f₁ = value-read at v₁ 32 (x₂ ++ (x₃ ++ (x₄ ++ rest))) h₁ (omega arith) e₁ in
+      let f₂ = value-read at₁ v₂ 32 (x₃ ++ (x₄ ++ rest)) h₂ (omega arith) e₂ in
+      let f₃ = value-read at₂ v₃ 32 (x₄ ++ rest) h₃ (omega arith) e₃ in
+      let f₄ = value-read at₃ v₄ 10 rest h₄ (omega arith) e₄ in
+      let l : at₃ + length x₄ ≡ at + length (x₁ ++ x₂ ++ x₃ ++ x₄) =
+      omega (arith, length-append (x₁ ++ x₂ ++ x₃) x₄, length-append (x₁ ++ x₂) x₃, length-append x₁ x₂) in
+      rw (f₁, f₂, f₃, f₄) (ap (λ (i : ℕ). Values (placed order v₁ v₂ v₃ v₄) (place i)) l)
+
+  pub line-read : (order : Order) (row : Row) (at : ℕ) (rest : List ℕ) → IsOrder order → SmallRow row → drop at text ≡ valuesLine order row ++ rest
+      → lineAt text order at ≡ Values row (place (at + length (valuesLine order row)))
+  unfolding valuesLine
+  line-read order row at rest is small e =
+      let s : (n : ℕ) → column row n ≤ 65535 = λ n. column-small row n small in
+      four-read order at (column row (order .first)) (column row (order .second)) (column row (order .third)) (column row (order .fourth)) rest
+      (s (order .first)) (s (order .second)) (s (order .third)) (s (order .fourth)) e
+      ∙ ap (λ (r : Row). Values r (place (at + length (valuesLine order row)))) (row-placed order is row)
+
+  -- a name, and with the byte behind it
+  column-read : (at n : ℕ) (rest : List ℕ) → n < 4 → drop at text ≡ nameBytes n ++ rest → columnAt text at ≡ Column n (place (at + length (nameBytes n)))
+  unfolding columnAt nameBytes seesKind
+  column-read at zero rest h e =
+      let e₁ = behind at (107 ∷ []) (105 ∷ 110 ∷ 100 ∷ rest) e in
+      let e₂ = behind at (107 ∷ 105 ∷ []) (110 ∷ 100 ∷ rest) e in
+      let e₃ = behind at (107 ∷ 105 ∷ 110 ∷ []) (100 ∷ rest) e in
+      let t : List ℕ = 105 ∷ 110 ∷ 100 ∷ rest in
+      rw (
+        sees-byte at 107 97 t e,
+        sees-byte at 107 98 t e,
+        sees-byte at 107 99 t e,
+        sees-byte at 107 107 t e,
+        sees-byte (at + 1) 105 105 (110 ∷ 100 ∷ rest) e₁,
+        sees-byte (at + 2) 110 110 (100 ∷ rest) e₂,
+        sees-byte (at + 3) 100 100 rest e₃,
+      )
+  column-read at (suc zero) rest h e = rw (sees-byte at 97 97 rest e)
+  column-read at (suc (suc zero)) rest h e = rw (sees-byte at 98 97 rest e, sees-byte at 98 98 rest e)
+  column-read at (suc (suc (suc zero))) rest h e = rw (sees-byte at 99 97 rest e, sees-byte at 99 98 rest e, sees-byte at 99 99 rest e)
+  column-read at (suc (suc (suc (suc n)))) rest h e = absurd (omega arith)
+
+  name-read : (at n byte : ℕ) (rest : List ℕ) → n < 4 → drop at text ≡ name n byte ++ rest → nameAt text at byte ≡ Column n (place (at + length (name n byte)))
+  unfolding nameAt name
+  name-read at n byte rest h e =
+      let split : drop at text ≡ nameBytes n ++ (byte ∷ rest) = e ∙ append-assoc (nameBytes n) (byte ∷ []) rest in
+      let s = sees-byte (at + length (nameBytes n)) byte byte rest (behind at (nameBytes n) (byte ∷ rest) split) in
+      rw (column-read at n (byte ∷ rest) h split, s, eq-eqb byte byte refl) (ap (λ (i : ℕ). Column n (place i)) (omega (arith, length-append (nameBytes n) (byte ∷ []))))
+
+  pub names-read : (order : Order) (at : ℕ) (rest : List ℕ) → IsOrder order → drop at text ≡ namesLine order ++ rest
+      → namesAt text at ≡ InOrder order (place (at + length (namesLine order)))
+  unfolding namesAt namesLine
+  names-read order at rest is e =
+      let x₁ = name (order .first) 32 in
+      let x₂ = name (order .second) 32 in
+      let x₃ = name (order .third) 32 in
+      let x₄ = name (order .fourth) 10 in
+      let at₁ = at + length x₁ in
+      let at₂ = at₁ + length x₂ in
+      let at₃ = at₂ + length x₃ in
+      let e₁ : drop at text ≡ x₁ ++ (x₂ ++ (x₃ ++ (x₄ ++ rest))) = e ∙ simp append-assoc in
+      let e₂ : drop at₁ text ≡ x₂ ++ (x₃ ++ (x₄ ++ rest)) = behind at x₁ (x₂ ++ (x₃ ++ (x₄ ++ rest))) e₁ in
+      let e₃ : drop at₂ text ≡ x₃ ++ (x₄ ++ rest) = behind at₁ x₂ (x₃ ++ (x₄ ++ rest)) e₂ in
+      let e₄ : drop at₃ text ≡ x₄ ++ rest = behind at₂ x₃ (x₄ ++ rest) e₃ in
+      let f₁ = name-read at (order .first) 32 (x₂ ++ (x₃ ++ (x₄ ++ rest))) (is .first-is) e₁ in
+      let f₂ = name-read at₁ (order .second) 32 (x₃ ++ (x₄ ++ rest)) (is .second-is) e₂ in
+      let f₃ = name-read at₂ (order .third) 32 (x₄ ++ rest) (is .third-is) e₃ in
+      let f₄ = name-read at₃ (order .fourth) 10 rest (is .fourth-is) e₄ in
+      let l : at₃ + length x₄ ≡ at + length (x₁ ++ x₂ ++ x₃ ++ x₄) =
+      omega (arith, length-append (x₁ ++ x₂ ++ x₃) x₄, length-append (x₁ ++ x₂) x₃, length-append x₁ x₂) in
+      rw (f₁, f₂, f₃, f₄, is .different) (ap (λ (i : ℕ). InOrder order (place i)) l)
+
+  -- all lines
+  line-long : (order : Order) (row : Row) → 1 ≤ length (valuesLine order row)
+  unfolding valuesLine value
+  line-long order row =
+      let x = value (column row (order .first)) 32 ++ value (column row (order .second)) 32 ++ value (column row (order .third)) 32 in
+      let d = decimal (column row (order .fourth)) in
+      omega (arith, length-append x (d ++ (10 ∷ [])), length-append d (10 ∷ []))
+
+  lines-end : (order : Order) (m k at : ℕ) → drop at text ≡ [] → (foundFrom m text order k at ≡ Rows (k + 0)) × (rowsFrom m text order at ≡ [])
+  unfolding foundFrom rowsFrom
+  lines-end order m k at e =
+      let l : length (drop at text) ≡ 0 = ap length e in
+      let p : length text ≤ at = omega (arith, length-drop at text) in
+      go m (le-ltb at (length text) p)
+    where
+      go : (m : ℕ) → ltb at (length text) ≡ false → (foundFrom m text order k at ≡ Rows (k + 0)) × (rowsFrom m text order at ≡ [])
+      go zero q = (rw q (ap Rows (sym (add-zero k))), refl)
+      go (suc m) q = (rw q (ap Rows (sym (add-zero k))), rw q)
+
+  pub lines-read : (order : Order) (is : IsOrder order) {rows : List Row} → SmallRows rows → (m k at : ℕ) → length rows ≤ m → drop at text ≡ linesText order rows
+      → (foundFrom m text order k at ≡ Rows (k + length rows)) × (rowsFrom m text order at ≡ rows)
+  unfolding foundFrom rowsFrom linesText
+  lines-read order is none m k at h e = lines-end order m k at e
+  lines-read order is (one {row} {rows} s more) zero k at h e = absurd (omega arith)
+  lines-read order is (one {row} {rows} s more) (suc m) k at h e =
+      let x = valuesLine order row in
+      let t = linesText order rows in
+      let l : length (drop at text) ≡ length (x ++ t) = ap length e in
+      let p : at < length text = omega (arith, length-drop at text, length-append x t, line-long order row) in
+      let q = lt-ltb at (length text) p in
+      let r = line-read order row at t is s e in
+      let later = lines-read order is more m (k + 1) (at + length x) (omega arith) (behind at x t e) in
+      (rw (q, r) (later .0 ∙ ap Rows (omega arith)), rw (q, r) (ap (λ (l : List Row). row ∷ l) (later .1)))
+
+starts-whole : (order : Order) (rows : List Row) → drop 0 (sheetText order rows) ≡ namesLine order ++ linesText order rows
+unfolding sheetText
+starts-whole order rows = refl
+
+-- the whole sheet: what is written in an order of the names, of at most 512 rows of small numbers in at most 16,384 bytes,
+-- is accepted, and read as those rows
+pub written-read : (order : Order) (rows : List Row) → IsOrder order → SmallRows rows → length rows ≤ 512 → length (sheetText order rows) ≤ 16384
+    → (sheetFound (sheetText order rows) ≡ Rows (length rows)) × (sheetRows (sheetText order rows) ≡ rows)
+unfolding sheetFound sheetRows
+written-read order rows is small few short =
+    let text = sheetText order rows in
+    let q = le-ltb 16384 (length text) short in
+    let whole : drop 0 text ≡ namesLine order ++ linesText order rows = starts-whole order rows in
+    let n = names-read text order 0 (linesText order rows) is whole in
+    let at = 0 + length (namesLine order) in
+    let r = lines-read text order is small 512 0 at few (behind text 0 (namesLine order) (linesText order rows) whole) in
+    (rw (q, n) (r .0 ∙ ap Rows (omega arith)), rw (q, n) (r .1))

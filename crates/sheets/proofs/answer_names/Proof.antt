@@ -1,0 +1,30 @@
+-- `answer_names` meets its contract. Assumes nothing.
+use native.Mathlib.Omega.{arith}
+use Rattle.sheets.proofs.Printing.{whole-line}
+use borrow.Author.Needs.{needs}
+use Rattle.sheets.proofs.answer_names.Statement.{statement}
+use Rattle.sheets.proofs.answer_names.Tie as tie
+use Rattle.sheets.proofs.answer_names.Reads as reads
+use Rattle.sheets.proofs.answer_names.Lts as lts
+use Rattle.sheets.proofs.empty.Reads as empty-reads
+use Rattle.sheets.proofs.put_bytes.Reads as put-bytes-reads
+
+-- src/lib.rt:510:15
+empty-requires : tie.Need-empty-requires
+empty-requires c κs = search needs
+
+-- src/lib.rt:510:24
+slice-aggregate-put-bytes : tie.Need-slice-aggregate-put-bytes
+slice-aggregate-put-bytes c = search needs
+
+-- src/lib.rt:510:5
+put-bytes-requires : tie.Need-put-bytes-requires
+put-bytes-requires c κs = search needs
+
+-- src/lib.rt:507:1
+returns : tie.Need-returns
+returns c = whole-line _ _ _ (omega arith) (c .before .before .empty .ensures) (c .put-bytes .ensures)
+
+pub answer-names-spec : {M : Type 1} → statement M
+answer-names-spec =
+    tie.close (tie.spec empty-requires slice-aggregate-put-bytes put-bytes-requires returns)

@@ -1,0 +1,52 @@
+-- `answer_values` meets its contract: its numbers one behind the other. Assumes nothing.
+use Rattle.sheets.specs.Print.{answerValues}
+use Rattle.sheets.proofs.Printing.{whole-line, push-both, answer-values-few}
+use borrow.Author.Needs.{needs}
+use Rattle.sheets.proofs.answer_values.Statement.{statement}
+use Rattle.sheets.proofs.answer_values.Tie as tie
+use Rattle.sheets.proofs.answer_values.Reads as reads
+use Rattle.sheets.proofs.answer_values.Lts as lts
+use Rattle.sheets.proofs.empty.Reads as empty-reads
+use Rattle.sheets.proofs.put_number.Reads as put-number-reads
+
+-- src/lib.rt:517:25
+empty-requires : tie.Need-empty-requires
+empty-requires c κs = search needs
+
+-- src/lib.rt:517:9
+put-number-requires : tie.Need-put-number-requires
+put-number-requires c κs = search needs
+
+-- src/lib.rt:518:9
+put-number-requires-2 : tie.Need-put-number-requires-2
+put-number-requires-2 c κs = search needs
+
+-- src/lib.rt:519:9
+put-number-requires-3 : tie.Need-put-number-requires-3
+put-number-requires-3 c κs = search needs
+
+-- src/lib.rt:520:5
+put-number-requires-4 : tie.Need-put-number-requires-4
+put-number-requires-4 c κs = search needs
+
+-- src/lib.rt:514:1
+returns : tie.Need-returns
+unfolding answerValues
+returns c =
+    whole-line _ _ _
+    (answer-values-few _ _ _ _)
+    (c .before .before .before .before .empty .ensures)
+    (push-both _ _ _ _ _ (c .before .before .before .put-number .ensures)
+    (push-both _ _ _ _ _ (c .before .before .put-number2 .ensures)
+    (push-both _ _ _ _ _ (c .before .put-number3 .ensures) (c .put-number4 .ensures))))
+
+pub answer-values-spec : {M : Type 1} → statement M
+answer-values-spec =
+    tie.close
+    (tie.spec
+    empty-requires
+    put-number-requires
+    put-number-requires-2
+    put-number-requires-3
+    put-number-requires-4
+    returns)

@@ -1,0 +1,83 @@
+-- `copy` meets its contract: i numbers are copied. Assumes nothing.
+use Rattle.sheets.proofs.Copying.{copy-more, copy-short}
+use Rattle.terms.specs.Calls.{overwrite}
+use denote.Ref.{now}
+use lib.ListN.{length, take, length-set}
+use native.Mathlib.Omega.{arith}
+use Prim.Native.Nat.{ℕ, _-_, _≤_}
+use mathlib.Core.List.{List}
+use mathlib.Core.Path.{_≡_, refl, sym, _∙_, ap}
+use Rattle.sheets.proofs.copy.Statement.{statement}
+use Rattle.sheets.proofs.copy.Tie as tie
+use Rattle.sheets.proofs.copy.Reads as reads
+use Rattle.sheets.proofs.copy.Lts as lts
+use Rattle.sheets.proofs.put.Reads as put-reads
+
+abbrev Inv-loop : tie.InvT-loop
+Inv-loop from n table₀ i₀ table i = (i ≤ n) × (i ≤ length from) × (length table ≡ length table₀) × (table ≡ overwrite (take i from) table₀)
+
+abbrev μ-loop : tie.MeasureT-loop
+μ-loop from n table₀ i₀ table i = n - i
+
+loop-holds : tie.Need-loop-holds Inv-loop μ-loop
+unfolding overwrite
+loop-holds c = (omega arith, omega arith, refl, refl)
+
+same-length : tie.Need-same-length Inv-loop μ-loop
+same-length c = c .before .before .loop .inv .2
+
+returns : tie.Need-returns Inv-loop μ-loop
+returns c =
+    let k = c .before .before .loop .inv in
+    k .3 ∙ ap (λ (l : List ℕ). overwrite l (now (c .before .before .before .before .before .args .table))) (copy-short (now (c .before .before .before .before .before .args .from)) (c .before .before .loop .i) (c .before .before .before .before .before .args .n) (c .if1 .taken) (k .0))
+
+mul-put : tie.Need-mul-put Inv-loop μ-loop
+mul-put c = omega arith
+
+shared-slice-read-put : tie.Need-shared-slice-read-put Inv-loop μ-loop
+shared-slice-read-put c = omega (arith, c .before .before .if1 .left)
+
+put-requires : tie.Need-put-requires Inv-loop μ-loop
+put-requires c κs = tt
+
+add-i : tie.Need-add-i Inv-loop μ-loop
+add-i c = omega (arith, c .before .before .before .before .before .before .loop-test .taken)
+
+loop-less : tie.Need-loop-less Inv-loop μ-loop
+loop-less c = omega (arith, c .before .before .before .before .before .before .loop-test .taken)
+
+loop-again : tie.Need-loop-again Inv-loop μ-loop
+loop-again c =
+    let k = c .before .before .before .before .before .before .before .loop .inv in (
+      omega (arith, c .before .before .before .before .before .before .loop-test .taken),
+      omega (arith, c .before .before .before .before .before .if1 .left),
+      c .before .before .put .kept .0 ∙ k .2,
+      copy-more _ _ _ _ (c .before .before .before .before .before .before .before .loop .i) (c .before .before .before .before .before .if1 .left) (k .3) (c .before .before .put .ensures),
+    )
+
+same-length-2 : tie.Need-same-length-2 Inv-loop μ-loop
+same-length-2 c = c .before .loop .inv .2
+
+returns-2 : tie.Need-returns-2 Inv-loop μ-loop
+returns-2 c =
+    let k = c .before .loop .inv in
+    let e : c .before .loop .i ≡ c .before .before .before .before .args .n = omega (arith, k .0, c .loop-test .left) in
+    k .3 ∙ ap (λ (i : ℕ). overwrite (take i (now (c .before .before .before .before .args .from))) (now (c .before .before .before .before .args .table))) e
+
+pub copy-spec : {M : Type 1} → statement M
+copy-spec =
+    tie.close
+    (tie.spec
+    Inv-loop
+    μ-loop
+    loop-holds
+    same-length
+    returns
+    mul-put
+    shared-slice-read-put
+    put-requires
+    add-i
+    loop-less
+    loop-again
+    same-length-2
+    returns-2)

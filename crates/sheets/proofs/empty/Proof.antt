@@ -1,0 +1,16 @@
+-- `empty` meets its contract. Assumes nothing.
+use mathlib.Core.Path.{refl}
+use Rattle.terms.specs.Calls.{overwrite}
+use Rattle.sheets.specs.Print.{lineOf}
+use Rattle.sheets.proofs.empty.Statement.{statement}
+use Rattle.sheets.proofs.empty.Tie as tie
+use Rattle.sheets.proofs.empty.Reads as reads
+use Rattle.sheets.proofs.empty.Lts as lts
+
+-- src/lib.rt:478:1
+returns : tie.Need-returns
+unfolding lineOf overwrite
+returns c = refl
+
+pub empty-spec : {M : Type 1} → statement M
+empty-spec = tie.close (tie.spec returns)

@@ -1,0 +1,64 @@
+-- `put_bytes` meets its contract: i bytes are pushed. Assumes nothing.
+use mathlib.Core.Path.{_≡_, refl, sym, _∙_, ap}
+use Prim.Native.Nat.{ℕ, _-_, _≤_}
+use native.Mathlib.Omega.{arith}
+use lib.ListN.{length, drop}
+use denote.Ref.{now}
+use Rattle.sheets.proofs.Printing.{push-next, push-none}
+use Rattle.sheets.specs.Print.{pushAll}
+use Rattle.sheets.proofs.put_bytes.Statement.{statement}
+use Rattle.sheets.proofs.put_bytes.Tie as tie
+use Rattle.sheets.proofs.put_bytes.Reads as reads
+use Rattle.sheets.proofs.put_bytes.Lts as lts
+use Rattle.sheets.proofs.push.Reads as push-reads
+
+abbrev Inv-loop : tie.InvT-loop
+Inv-loop bytes line₀ i₀ line i = (i ≤ length bytes) × (pushAll line (drop i bytes) ≡ pushAll line₀ bytes)
+
+abbrev μ-loop : tie.MeasureT-loop
+μ-loop bytes line₀ i₀ line i = length bytes - i
+
+-- src/lib.rt:471:5
+loop-holds : tie.Need-loop-holds Inv-loop μ-loop
+loop-holds c = (omega arith, refl)
+
+-- src/lib.rt:472:27
+shared-slice-read-push : tie.Need-shared-slice-read-push Inv-loop μ-loop
+shared-slice-read-push c = omega (arith, c .before .loop-test .taken)
+
+-- src/lib.rt:472:9
+push-requires : tie.Need-push-requires Inv-loop μ-loop
+push-requires c κs = tt
+
+-- src/lib.rt:473:9
+add-i : tie.Need-add-i Inv-loop μ-loop
+add-i c = omega (arith, c .before .before .loop-test .taken)
+
+-- src/lib.rt:471:5
+loop-less : tie.Need-loop-less Inv-loop μ-loop
+loop-less c = omega (arith, c .before .before .loop-test .taken)
+
+-- src/lib.rt:471:5
+loop-again : tie.Need-loop-again Inv-loop μ-loop
+loop-again c = (
+  omega (arith, c .before .before .loop-test .taken),
+  push-next _ _ _ (c .before .before .before .loop .i) (omega (arith, c .before .before .loop-test .taken)) (c .push .ensures) ∙ c .before .before .before .loop .inv .1,
+)
+
+-- src/lib.rt:466:1
+returns : tie.Need-returns Inv-loop μ-loop
+returns c = push-none _ _ (c .before .loop .i) (omega (arith, c .loop-test .left)) ∙ c .before .loop .inv .1
+
+pub put-bytes-spec : {M : Type 1} → statement M
+put-bytes-spec =
+    tie.close
+    (tie.spec
+    Inv-loop
+    μ-loop
+    loop-holds
+    shared-slice-read-push
+    push-requires
+    add-i
+    loop-less
+    loop-again
+    returns)

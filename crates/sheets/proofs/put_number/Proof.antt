@@ -1,0 +1,24 @@
+-- `put_number` meets its contract. Assumes nothing.
+use Rattle.sheets.proofs.Printing.{push-field}
+use borrow.Author.Needs.{needs}
+use Rattle.sheets.proofs.put_number.Statement.{statement}
+use Rattle.sheets.proofs.put_number.Tie as tie
+use Rattle.sheets.proofs.put_number.Reads as reads
+use Rattle.sheets.proofs.put_number.Lts as lts
+use Rattle.sheets.proofs.push.Reads as push-reads
+use Rattle.sheets.proofs.put_digits.Reads as put-digits-reads
+
+-- src/lib.rt:463:10
+put-digits-requires : tie.Need-put-digits-requires
+put-digits-requires c κs = search needs
+
+-- src/lib.rt:463:5
+push-requires : tie.Need-push-requires
+push-requires c κs = search needs
+
+-- src/lib.rt:460:1
+returns : tie.Need-returns
+returns c = push-field _ _ _ _ _ (c .before .put-digits .ensures) (c .push .ensures)
+
+pub put-number-spec : {M : Type 1} → statement M
+put-number-spec = tie.close (tie.spec put-digits-requires push-requires returns)

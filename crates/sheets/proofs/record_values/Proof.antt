@@ -1,0 +1,64 @@
+-- `record_values` meets its contract: its numbers one behind the other. Assumes nothing.
+use Rattle.sheets.specs.Print.{recordValues}
+use Rattle.sheets.proofs.Printing.{whole-line, push-both, record-values-few}
+use borrow.Author.Needs.{needs}
+use Rattle.sheets.proofs.record_values.Statement.{statement}
+use Rattle.sheets.proofs.record_values.Tie as tie
+use Rattle.sheets.proofs.record_values.Reads as reads
+use Rattle.sheets.proofs.record_values.Lts as lts
+use Rattle.sheets.proofs.empty.Reads as empty-reads
+use Rattle.sheets.proofs.put_number.Reads as put-number-reads
+
+-- src/lib.rt:498:25
+empty-requires : tie.Need-empty-requires
+empty-requires c κs = search needs
+
+-- src/lib.rt:498:9
+put-number-requires : tie.Need-put-number-requires
+put-number-requires c κs = search needs
+
+-- src/lib.rt:499:9
+put-number-requires-2 : tie.Need-put-number-requires-2
+put-number-requires-2 c κs = search needs
+
+-- src/lib.rt:500:9
+put-number-requires-3 : tie.Need-put-number-requires-3
+put-number-requires-3 c κs = search needs
+
+-- src/lib.rt:501:9
+put-number-requires-4 : tie.Need-put-number-requires-4
+put-number-requires-4 c κs = search needs
+
+-- src/lib.rt:502:9
+put-number-requires-5 : tie.Need-put-number-requires-5
+put-number-requires-5 c κs = search needs
+
+-- src/lib.rt:503:5
+put-number-requires-6 : tie.Need-put-number-requires-6
+put-number-requires-6 c κs = search needs
+
+-- src/lib.rt:495:1
+returns : tie.Need-returns
+unfolding recordValues
+returns c =
+    whole-line _ _ _
+    (record-values-few _)
+    (c .before .before .before .before .before .before .empty .ensures)
+    (push-both _ _ _ _ _ (c .before .before .before .before .before .put-number .ensures)
+    (push-both _ _ _ _ _ (c .before .before .before .before .put-number2 .ensures)
+    (push-both _ _ _ _ _ (c .before .before .before .put-number3 .ensures)
+    (push-both _ _ _ _ _ (c .before .before .put-number4 .ensures)
+    (push-both _ _ _ _ _ (c .before .put-number5 .ensures) (c .put-number6 .ensures))))))
+
+pub record-values-spec : {M : Type 1} → statement M
+record-values-spec =
+    tie.close
+    (tie.spec
+    empty-requires
+    put-number-requires
+    put-number-requires-2
+    put-number-requires-3
+    put-number-requires-4
+    put-number-requires-5
+    put-number-requires-6
+    returns)

@@ -1,0 +1,5 @@
+pub mod Text
+pub mod Sheet
+pub mod Call
+pub mod Print
+pub mod Writing

@@ -1,0 +1,125 @@
+-- What stands in a text at a place (document 01, "Sheet and program"): a number, a name, a line. Each definition is given
+-- the place and what is left of the text there, and says what is found and where it ends.
+use mathlib.Core.Bool.{Bool, true, false, _&&_, _||_, not, cond}
+use mathlib.Core.List.{List, [], _∷_}
+use Prim.Native.Nat.{ℕ, zero, suc, _+_, _*_, _-_}
+use lib.Dec.{ltb, eqb}
+use lib.ListN.{length, getD, drop}
+use Rattle.terms.specs.declared.Row.{Row}
+use Rattle.sheets.specs.declared.Cursor.{Cursor}
+use Rattle.sheets.specs.declared.Number.{Number}
+use Rattle.sheets.specs.declared.Number.the-variants.{Value, NoNumber}
+use Rattle.sheets.specs.declared.Name.{Name}
+use Rattle.sheets.specs.declared.Name.the-variants.{Column, NoName}
+use Rattle.sheets.specs.declared.Order.{Order}
+use Rattle.sheets.specs.declared.Names.{Names}
+use Rattle.sheets.specs.declared.Names.the-variants.{InOrder, NoNames}
+use Rattle.sheets.specs.declared.Line.{Line}
+use Rattle.sheets.specs.declared.Line.the-variants.{Values, NoLine}
+
+abbrev pub place : ℕ → Cursor
+place at = record { at = at }
+
+-- The value of a decimal digit, and 10 for any other byte.
+unfoldable pub digitOf : ℕ → ℕ
+digitOf byte = cond (ltb byte 48) 10 (cond (ltb 57 byte) 10 (byte - 48))
+
+-- More digits of a number of which v has been read.
+unfoldable pub moreDigits : ℕ → ℕ → List ℕ → Number
+moreDigits v at [] = Value v (place at)
+moreDigits v at (byte ∷ text) =
+    cond (ltb 9 (digitOf byte)) (Value v (place at))
+    (cond (ltb 65535 (v * 10 + digitOf byte)) NoNumber (moreDigits (v * 10 + digitOf byte) (at + 1) text))
+
+-- A 0 has no digit behind it.
+unfoldable pub afterZero : ℕ → List ℕ → Number
+afterZero at [] = Value 0 (place at)
+afterZero at (byte ∷ text) = cond (ltb 9 (digitOf byte)) (Value 0 (place at)) NoNumber
+
+-- A value: decimal, 0 to 65,535, without leading zeros.
+unfoldable pub numberHere : ℕ → List ℕ → Number
+numberHere at [] = NoNumber
+numberHere at (byte ∷ text) =
+    cond (ltb 9 (digitOf byte)) NoNumber
+    (cond (eqb (digitOf byte) 0) (afterZero (at + 1) text) (moreDigits (digitOf byte) (at + 1) text))
+
+abbrev pub numberAt : List ℕ → ℕ → Number
+numberAt text at = numberHere at (drop at text)
+
+-- Whether a byte stands at a place.
+unfoldable pub sees : List ℕ → ℕ → ℕ → Bool
+sees text at byte = ltb at (length text) && eqb (getD text at 0) byte
+
+abbrev pub endedBy : List ℕ → ℕ → Number → Number
+endedBy text byte (Value v c) = cond (sees text (c .at) byte) (Value v (place (c .at + 1))) NoNumber
+endedBy text byte NoNumber = NoNumber
+
+-- A number and the byte behind it.
+unfoldable pub fieldAt : List ℕ → ℕ → ℕ → Number
+fieldAt text at byte = endedBy text byte (numberAt text at)
+
+-- The value for one column, where the names' order says which column each value is of.
+unfoldable pub valueFor : Order → ℕ → ℕ → ℕ → ℕ → ℕ → ℕ
+valueFor order column v₁ v₂ v₃ v₄ =
+    cond (eqb (order .first) column) v₁ (cond (eqb (order .second) column) v₂ (cond (eqb (order .third) column) v₃ v₄))
+
+-- The row that four values are.
+unfoldable pub placed : Order → ℕ → ℕ → ℕ → ℕ → Row
+placed order v₁ v₂ v₃ v₄ =
+    record {
+      kind = valueFor order 0 v₁ v₂ v₃ v₄;
+      a = valueFor order 1 v₁ v₂ v₃ v₄;
+      b = valueFor order 2 v₁ v₂ v₃ v₄;
+      c = valueFor order 3 v₁ v₂ v₃ v₄;
+    }
+
+-- What follows a number, if there is one.
+abbrev pub withNumber : Number → (ℕ → ℕ → Line) → Line
+withNumber (Value v c) next = next v (c .at)
+withNumber NoNumber next = NoLine
+
+-- A line of values: four numbers, one space between them, byte 10 at the end.
+unfoldable pub lineAt : List ℕ → Order → ℕ → Line
+lineAt text order at =
+    withNumber (fieldAt text at 32) λ v₁ at₁.
+    withNumber (fieldAt text at₁ 32) λ v₂ at₂.
+    withNumber (fieldAt text at₂ 32) λ v₃ at₃.
+    withNumber (fieldAt text at₃ 10) λ v₄ at₄. Values (placed order v₁ v₂ v₃ v₄) (place at₄)
+
+-- Whether the bytes of "kind" stand at a place.
+unfoldable pub seesKind : List ℕ → ℕ → Bool
+seesKind text at = sees text at 107 && (sees text (at + 1) 105 && (sees text (at + 2) 110 && sees text (at + 3) 100))
+
+-- The column that is named at a place: a, b, c or kind.
+unfoldable pub columnAt : List ℕ → ℕ → Name
+columnAt text at =
+    cond (sees text at 97) (Column 1 (place (at + 1)))
+    (cond (sees text at 98) (Column 2 (place (at + 1)))
+    (cond (sees text at 99) (Column 3 (place (at + 1)))
+    (cond (seesKind text at) (Column 0 (place (at + 4)))
+    NoName)))
+
+-- A name and the byte behind it.
+abbrev pub namedBy : List ℕ → ℕ → Name → Name
+namedBy text byte (Column n c) = cond (sees text (c .at) byte) (Column n (place (c .at + 1))) NoName
+namedBy text byte NoName = NoName
+
+unfoldable pub nameAt : List ℕ → ℕ → ℕ → Name
+nameAt text at byte = namedBy text byte (columnAt text at)
+
+-- What follows a name, if there is one.
+abbrev pub withName : Name → (ℕ → ℕ → Names) → Names
+withName (Column n c) next = next n (c .at)
+withName NoName next = NoNames
+
+unfoldable pub allDifferent : ℕ → ℕ → ℕ → ℕ → Bool
+allDifferent a b c d = not (eqb a b || eqb a c || eqb a d || eqb b c || eqb b d || eqb c d)
+
+-- The line of names: the four names, each once, one space between them, byte 10 at the end.
+unfoldable pub namesAt : List ℕ → ℕ → Names
+namesAt text at =
+    withName (nameAt text at 32) λ n₁ at₁.
+    withName (nameAt text at₁ 32) λ n₂ at₂.
+    withName (nameAt text at₂ 32) λ n₃ at₃.
+    withName (nameAt text at₃ 10) λ n₄ at₄.
+    cond (allDifferent n₁ n₂ n₃ n₄) (InOrder (record { first = n₁; second = n₂; third = n₃; fourth = n₄ }) (place at₄)) NoNames

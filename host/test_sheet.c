@@ -1,0 +1,1058 @@
+/*
+  test_sheet.c -- tests of lw_read_sheet
+
+      test_sheet [SHEETS]
+
+  First sheets and refusals worked by hand. Then texts that are compared with
+  reference.c: each that differs in one byte from a short sheet, and SHEETS
+  random ones (100000 if not given), which are good sheets with bytes changed.
+  Last, how the time of a call grows. But for the last, every call is made on
+  guarded buffers, and its record, every byte of the sheet and every number of
+  the table are compared.
+
+  The run fails too if some kind of random sheet does not occur; so there should
+  be at least 10000.
+*/
+
+#define _POSIX_C_SOURCE 199309L /* clock_gettime */
+
+#include <time.h>
+
+#include "guard.h"
+#include "linkwords.h"
+#include "random_table.h"
+#include "reference.h"
+
+/* Texts. */
+
+/* A literal as two arguments: its bytes and their count. */
+#define TEXT(literal) (const uint8_t *)(literal), sizeof(literal) - 1
+
+#define NAMES "kind a b c\n"
+
+/* The sheet of the specification, and its numbers. */
+#define SHEET NAMES "0 8 0 0\n3 0 6 3\n3 0 4 1\n4 1 2 0\n"
+#define ROWS  TABLE(0, 8, 0, 0, 3, 0, 6, 3, 3, 0, 4, 1, 4, 1, 2, 0)
+
+#define NO_ROWS NULL, 0
+
+/* The normal form of a part of variable 0. */
+#define PART_OF(high, low) LW_PART, 0, (high), (low)
+
+/* A text that grows. */
+typedef struct {
+    uint8_t bytes[200000];
+    size_t len;
+} text;
+
+#define ALL_OF(t) (t).bytes, (t).len
+
+static void put_byte(text *t, int byte)
+{
+    if (t->len == sizeof t->bytes) {
+        printf("text too long\n");
+        exit(1);
+    }
+    t->bytes[t->len++] = (uint8_t)byte;
+}
+
+static void put(text *t, const char *words)
+{
+    while (*words != '\0')
+        put_byte(t, *words++);
+}
+
+static void put_times(text *t, const char *words, size_t times)
+{
+    for (size_t i = 0; i < times; i++)
+        put(t, words);
+}
+
+static void put_number(text *t, unsigned number)
+{
+    char digits[16];
+    snprintf(digits, sizeof digits, "%u", number);
+    put(t, digits);
+}
+
+static void print_text(const uint8_t *bytes, size_t len)
+{
+    printf("  %zu bytes: \"", len);
+    for (size_t i = 0; i < len && i < 400; i++)
+        if (bytes[i] == 10)
+            printf("\\n");
+        else if (bytes[i] < 32 || bytes[i] > 126)
+            printf("\\%03o", bytes[i]);
+        else
+            printf("%c", bytes[i]);
+    printf("\"%s\n", len > 400 ? " .." : "");
+}
+
+/* Calls and what they are compared with. */
+
+static bool check_record(int line, const char *name, lw_record got, lw_record want)
+{
+    return check(got.outcome == want.outcome && got.pieces == want.pieces && got.fresh == want.fresh &&
+                 got.free == want.free && got.ties == want.ties && got.row == want.row, __FILE__, line,
+                 "%s: record %u %u %u %u %u %u, expected %u %u %u %u %u %u", name,
+                 got.outcome, got.pieces, got.fresh, got.free, got.ties, got.row,
+                 want.outcome, want.pieces, want.fresh, want.free, want.ties, want.row);
+}
+
+/*
+  One call on the first lent bytes of a text of len bytes: the record; the text
+  unchanged; want_table as the first 4 * want.pieces numbers of the output, and
+  behind them what was there before. The output has table_len numbers, those of
+  content if it is not NULL.
+*/
+static void call(int line, const char *name, const uint8_t *bytes, size_t len, size_t lent,
+                 const uint16_t *content, size_t table_len, lw_record want, const uint16_t *want_table)
+{
+    unsigned long failed = checks_failed;
+    guarded s = guard(bytes, len);
+    guarded t = guard(content, table_len * sizeof *content);
+
+    lw_record got = lw_read_sheet(guarded_buffer(&s), lent, guarded_buffer(&t), table_len);
+    if (want_table != NULL)
+        guard_expect(&t, want_table, 4 * want.pieces * sizeof *want_table);
+    check_record(line, name, got, want);
+    guard_check(&s, __FILE__, line, "sheet");
+    guard_check(&t, __FILE__, line, "table");
+    if (checks_failed != failed && failed == 0) {
+        printf("  output of %zu numbers\n", table_len);
+        print_text(bytes, lent);
+    }
+}
+
+/*
+  The sheet has these rows: with an output of exactly 2048 numbers and with
+  longer ones, whatever stands there before. An output of fewer numbers is
+  refused, also where the rows would fit.
+*/
+static void accept(int line, const uint8_t *bytes, size_t len, const uint16_t *numbers, size_t count)
+{
+    static uint16_t content[2048];
+    lw_record want = {.pieces = (uint32_t)(count / 4)}, too_short = {.outcome = 32};
+
+    call(line, "accepted", bytes, len, len, NULL, 2048, want, numbers);
+    call(line, "accepted, one number more", bytes, len, len, NULL, 2049, want, numbers);
+    call(line, "accepted, longer output", bytes, len, len, NULL, 2048 + 70, want, numbers);
+    for (size_t i = 0; i < 2048; i++)
+        content[i] = 0;
+    call(line, "accepted, output of 0", bytes, len, len, content, 2048, want, numbers);
+    for (size_t i = 0; i < 2048; i++)
+        content[i] = i < count ? (uint16_t)~numbers[i] : 0xFFFF;
+    call(line, "accepted, output of other numbers", bytes, len, len, content, 2048, want, numbers);
+
+    call(line, "output of 2047", bytes, len, len, NULL, 2047, too_short, NULL);
+    call(line, "output of 2044", bytes, len, len, NULL, 2044, too_short, NULL);
+    call(line, "output of 0", bytes, len, len, NULL, 0, too_short, NULL);
+    if (count < 2048)
+        call(line, "output of the rows only", bytes, len, len, NULL, count, too_short, NULL);
+}
+
+/* The sheet is refused, whether or not the output is too short as well. */
+static void refuse(int line, const uint8_t *bytes, size_t len, uint32_t number, uint32_t row)
+{
+    static const size_t lengths[] = {2048, 2048 + 70, 2047, 4, 0};
+    lw_record want = {.outcome = number, .row = row};
+    for (size_t i = 0; i < sizeof lengths / sizeof lengths[0]; i++)
+        call(line, "refused", bytes, len, len, NULL, lengths[i], want, NULL);
+}
+
+#define ACCEPT(...) accept(__LINE__, __VA_ARGS__)
+#define REFUSE(...) refuse(__LINE__, __VA_ARGS__)
+
+/* The header's numbers are those of the specification. */
+static void test_constants(void)
+{
+    static const int numbers[][2] = {
+        {LW_ACCEPTED, 0}, {LW_REFUSED_SHEET, 20}, {LW_REFUSED_NAMES, 21}, {LW_REFUSED_LINE, 22},
+        {LW_REFUSED_LINES, 23}, {LW_REFUSED_OUTPUT, 32}, {LW_MAX_SHEET, 16384}, {LW_TABLE_NUMBERS, 2048},
+        {LW_MAX_ROWS, 512}, {LW_ROW_NUMBERS, 4},
+    };
+    for (size_t i = 0; i < sizeof numbers / sizeof numbers[0]; i++)
+        check(numbers[i][0] == numbers[i][1], __FILE__, __LINE__, "constant %zu is %d, not %d", i,
+              numbers[i][0], numbers[i][1]);
+    group_done("the header's constants");
+}
+
+/* Sheets that are read. */
+static void test_sheets(void)
+{
+    static text t;
+
+    ACCEPT(TEXT(SHEET), ROWS);
+    ACCEPT(TEXT(NAMES), NO_ROWS);
+    ACCEPT(TEXT(NAMES "0 0 0 0\n"), TABLE(0, 0, 0, 0));
+    ACCEPT(TEXT(NAMES "65535 65535 65535 65535\n"), TABLE(65535, 65535, 65535, 65535));
+    ACCEPT(TEXT(NAMES "65535 0 65535 0\n0 65535 0 65535\n"), TABLE(65535, 0, 65535, 0, 0, 65535, 0, 65535));
+    ACCEPT(TEXT(NAMES "1 22 333 4444\n55555 6 77 888\n"), TABLE(1, 22, 333, 4444, 55555, 6, 77, 888));
+    ACCEPT(TEXT(NAMES "10 100 1000 10000\n"), TABLE(10, 100, 1000, 10000));
+
+    /* The reader tests no table: no kind, no name of a row, no width, no number of variables. */
+    ACCEPT(TEXT(NAMES "9 9 9 9\n"), TABLE(9, 9, 9, 9));
+    ACCEPT(TEXT(NAMES "9 0 0 0\n5 1 2 3\n65535 0 0 0\n"), TABLE(9, 0, 0, 0, 5, 1, 2, 3, 65535, 0, 0, 0));
+    ACCEPT(TEXT(NAMES "0 8 1 1\n2 7 7 0\n0 1025 0 0\n3 0 8 0\n4 0 2 0\n"),
+           TABLE(0, 8, 1, 1, 2, 7, 7, 0, 0, 1025, 0, 0, 3, 0, 8, 0, 4, 0, 2, 0));
+    static uint16_t variables[4 * 70];
+    t.len = 0;
+    put(&t, NAMES);
+    for (size_t i = 0; i < 70; i++) {
+        put(&t, "0 1024 0 0\n");
+        memcpy(variables + 4 * i, (const uint16_t[]){VARIABLE(1024)}, 8);
+    }
+    ACCEPT(ALL_OF(t), variables, 4 * 70);
+    group_done("sheets");
+}
+
+/* Every value, each in one place of 32 sheets; and those at which a digit more is needed, in each column. */
+static void test_values(void)
+{
+    static text t;
+    static uint16_t rows[2048];
+
+    for (unsigned from = 0; from < 65536; from += 2048) {
+        t.len = 0;
+        put(&t, NAMES);
+        for (unsigned i = 0; i < 2048; i++) {
+            put_number(&t, from + i);
+            put_byte(&t, i % 4 == 3 ? '\n' : ' ');
+            rows[i] = (uint16_t)(from + i);
+        }
+        ACCEPT(ALL_OF(t), rows, 2048);
+    }
+    static const uint16_t edges[] = {
+        0, 1, 9, 10, 11, 99, 100, 255, 256, 999, 1000, 9999, 10000, 32767, 32768, 65534, 65535,
+    };
+    for (size_t i = 0; i < sizeof edges / sizeof edges[0]; i++)
+        for (size_t column = 0; column < 4; column++) {
+            uint16_t row[4] = {5, 6, 7, 8};
+            row[column] = edges[i];
+            t.len = 0;
+            put(&t, NAMES);
+            for (size_t j = 0; j < 4; j++) {
+                put_number(&t, row[j]);
+                put_byte(&t, j == 3 ? '\n' : ' ');
+            }
+            ACCEPT(ALL_OF(t), row, 4);
+        }
+    group_done("values");
+}
+
+/* The names in each order, and every other row of four names; the columns are written as kind, a, b, c. */
+static void test_orders(void)
+{
+    static const char *const names[] = {"kind", "a", "b", "c"};
+    static text t;
+    size_t orders = 0;
+
+    ACCEPT(TEXT("c b a kind\n0 0 8 0\n"), TABLE(VARIABLE(8)));
+    ACCEPT(TEXT("a kind b c\n8 0 0 0\n0 3 6 3\n"), TABLE(VARIABLE(8), CUT(0, 6, 3)));
+    ACCEPT(TEXT("b c kind a\n3 4 1 2\n7 8 5 6\n11 12 9 10\n"), TABLE(1, 2, 3, 4, 5, 6, 7, 8, 9, 10, 11, 12));
+    for (size_t code = 0; code < 256; code++) {
+        const size_t place[4] = {code / 64, code / 16 % 4, code / 4 % 4, code % 4};
+        uint16_t rows[12];
+        bool seen[4] = {false, false, false, false};
+
+        t.len = 0;
+        for (size_t i = 0; i < 4; i++) {
+            put(&t, names[place[i]]);
+            put_byte(&t, i == 3 ? '\n' : ' ');
+            seen[place[i]] = true;
+        }
+        size_t names_len = t.len;
+        for (size_t r = 0; r < 3; r++)
+            for (size_t i = 0; i < 4; i++) {
+                uint16_t value = (uint16_t)(r * 20000 + i * 11 + code);
+                put_number(&t, value);
+                put_byte(&t, i == 3 ? '\n' : ' ');
+                rows[4 * r + place[i]] = value;
+            }
+        if (seen[0] && seen[1] && seen[2] && seen[3]) {
+            orders++;
+            ACCEPT(ALL_OF(t), rows, 12);
+            ACCEPT(t.bytes, names_len, NO_ROWS);
+        } else {
+            REFUSE(ALL_OF(t), 21, 0);
+            REFUSE(t.bytes, names_len, 21, 0);
+        }
+    }
+    check(orders == 24, __FILE__, __LINE__, "%zu orders of the names", orders);
+    group_done("the 24 orders of the names");
+}
+
+/* 21: an empty text, and each wrong line of names, before good lines, bad lines and none. */
+static void test_names(void)
+{
+    static const char *const wrong[] = {
+        /* a name missing, doubled, too much, unknown */
+        "a b c\n", "kind b c\n", "kind a c\n", "kind a b\n", "kind\n", "a\n",
+        "kind a b b\n", "kind kind b c\n", "a a b c\n", "kind a a c\n", "c c c c\n",
+        "kind a b c c\n", "kind a b c kind\n", "kind a b c d\n", "kind kind a b c\n",
+        "kind a b d\n", "d a b c\n", "kind a b cc\n", "kind aa b c\n", "kin a b c\n", "kinds a b c\n", "ind a b c\n",
+        "kid a b c\n", "knid a b c\n", "k a b c\n", "kindkind a b c\n", "kind a b row\n", "variable kind width fresh\n",
+        "kind a b 0\n", "0 8 0 0\n", "outcome pieces fresh free ties row\n",
+        /* upper case */
+        "Kind a b c\n", "KIND A B C\n", "kind A b c\n", "kind a B c\n", "kind a b C\n", "kinD a b c\n",
+        /* spaces: two, at the start, at the end, none; a space within a name */
+        "kind  a b c\n", "kind a  b c\n", "kind a b  c\n", " kind a b c\n", "kind a b c \n", "kind a b c  \n",
+        "kinda b c\n", "kind ab c\n", "kind a bc\n", "kindabc\n", "ki nd a b c\n", " \n", "    \n",
+        /* other bytes for the space */
+        "kind\ta b c\n", "kind a\tb c\n", "kind a b\tc\n", "kind,a,b,c\n", "kind, a, b, c\n", "kind\ra b c\n",
+        "kind\va b c\n", "kind\302\240a b c\n",
+        /* a tab or a carriage return at the start or the end; other ends; quotes, a comment, a byte order mark */
+        "\tkind a b c\n", "kind a b c\t\n", "\rkind a b c\n", "kind a b c\r\n", "kind a b c\r", "kind a b c\r\r\n",
+        "kind a b c\f\n", "kind a b c\v\n", "\"kind\" a b c\n", "# kind a b c\n", "\357\273\277kind a b c\n",
+        "kind a b \343\n", "\353ind a b c\n",
+        /* an empty line first, and the names on two lines */
+        "\n", "\nkind a b c\n", "\n\n", "kind\na b c\n", "kind a b\nc\n", "kind a b ",
+    };
+    static const char *const behind[] = {"", "0 8 0 0\n", "0 8 0 0\n1 1 8 0\n", "x\n", "\n", "0 8 0 0"};
+    static text t;
+
+    REFUSE((const uint8_t *)"", 0, 21, 0);
+    REFUSE(TEXT("kind a b c"), 21, 0); /* no line's end */
+    REFUSE(TEXT("kind a b c0 8 0 0\n"), 21, 0);
+    REFUSE(TEXT("kind a b c 0 8 0 0\n"), 21, 0);
+    for (size_t i = 0; i < sizeof wrong / sizeof wrong[0]; i++)
+        for (size_t j = 0; j < sizeof behind / sizeof behind[0]; j++) {
+            t.len = 0;
+            put(&t, wrong[i]);
+            put(&t, behind[j]);
+            REFUSE(ALL_OF(t), 21, 0);
+        }
+    REFUSE(TEXT("kind a b c\0\n0 8 0 0\n"), 21, 0);
+    REFUSE(TEXT("\0kind a b c\n0 8 0 0\n"), 21, 0);
+    REFUSE(TEXT("kind\0a b c\n0 8 0 0\n"), 21, 0);
+    REFUSE(TEXT("kind a b c\0"), 21, 0);
+    REFUSE(TEXT("kind a b c\212"), 21, 0); /* 10 with its high bit set */
+
+    /* No line's end at all. */
+    t.len = 0;
+    put_times(&t, "kind a b c ", 1000);
+    REFUSE(ALL_OF(t), 21, 0);
+    group_done("refusal 21");
+}
+
+/* 22: the line is the first of good ones, the only one, the last and a middle one; before and behind good lines. */
+static void refuse_line(int line, const char *words)
+{
+    static const size_t around[][2] = {{0, 0}, {0, 1}, {1, 0}, {1, 1}, {5, 5}, {511, 0}, {3, 600}};
+    static text t;
+
+    for (size_t i = 0; i < sizeof around / sizeof around[0]; i++) {
+        t.len = 0;
+        put(&t, NAMES);
+        put_times(&t, "0 8 0 0\n", around[i][0]);
+        put(&t, words);
+        put_times(&t, "0 8 0 0\n", around[i][1]);
+        refuse(line, ALL_OF(t), 22, (uint32_t)around[i][0]);
+    }
+}
+
+/* 22: each wrong value, in each of the four places of a line. */
+static void test_wrong_values(void)
+{
+    static const char *const wrong[] = {
+        /* empty: then there are two spaces, or one at the start or the end of the line */
+        "",
+        /* leading zeros */
+        "00", "01", "000", "007", "010", "00000", "000000", "000001", "065535", "0000065535", "00000000000000000008",
+        /* signs */
+        "+0", "+1", "-0", "-1", "+", "-", "--1", "+65535", "-65535", "1-", "1+",
+        /* above 65535: by a little, and by so much that a shorter number wraps */
+        "65536", "65537", "65540", "65544", "65599", "65600", "66000", "70000", "75535", "99999", "100000", "131071",
+        "131072", "655350", "655360", "999999", "1000000", "4294967295", "4294967296", "4294967297", "4294967304",
+        "9999999999", "42949672960", "18446744073709551615", "18446744073709551616", "18446744073709551617",
+        "18446744073709551624", "99999999999999999999", "10000000000000000000", "12345678901234567890",
+        "340282366920938463463374607431768211456", "340282366920938463463374607431768211464",
+        /* letters and other bytes, by themselves and beside digits */
+        "a", "kind", "x", "x1", "1x", "1a", "0x8", "0x", "0b1", "0o7", "8u", "8L", "1e3", "1E3", "one", "O", "l", "I",
+        "1.0", "1.", ".1", "1,0", "1,", "1'000", "1_000", "65,535", "1;", ":", "/", "0/", "0:", "9:", "*", "#", "\"1\"",
+        "\260", "1\260", "\270", "\302\262", "\331\241", "(1)", "1\b",
+        /* tabs, carriage returns and other white space beside it */
+        "\t1", "1\t", "\r1", "1\r", "\v1", "1\v", "\f1", "1\f", "\t", "\r", "\302\2401",
+    };
+    static text t;
+
+    for (size_t i = 0; i < sizeof wrong / sizeof wrong[0]; i++)
+        for (int place = 0; place < 4; place++) {
+            char line[256];
+            const char *words[4] = {"3", "0", "6", "1"};
+            words[place] = wrong[i];
+            snprintf(line, sizeof line, "%s %s %s %s\n", words[0], words[1], words[2], words[3]);
+            refuse_line(__LINE__, line);
+        }
+
+    /* A byte 0, and a value of as many digits as there is room for. */
+    REFUSE(TEXT(NAMES "0 8 0 0\0\n"), 22, 0);
+    REFUSE(TEXT(NAMES "0 8 0 \0\n"), 22, 0);
+    REFUSE(TEXT(NAMES "0 8 0 0\n0 8\0000 0 0\n"), 22, 1);
+    REFUSE(TEXT(NAMES "0 8 0 0\n\0"), 22, 1);
+    for (int digit = '0'; digit <= '9'; digit++) {
+        t.len = 0;
+        put(&t, NAMES "0 8 0 ");
+        while (t.len < 16383)
+            put_byte(&t, digit);
+        put_byte(&t, '\n');
+        REFUSE(ALL_OF(t), 22, 0);
+    }
+    group_done("refusal 22: wrong values");
+}
+
+/* 22: lines wrong otherwise. */
+static void test_wrong_lines(void)
+{
+    static const char *const wrong[] = {
+        /* too few, too many */
+        "0\n", "0 8\n", "0 8 0\n", "0 8 0 0 0\n", "0 8 0 0 0 0 0 0\n", "0 8 0 0 x\n", "0800\n", "0 80 0\n",
+        /* two spaces, at the start, at the end; other separators */
+        "0  8 0 0\n", "0 8  0 0\n", "0 8 0  0\n", " 0 8 0 0\n", "  0 8 0 0\n", "0 8 0 0 \n", "0 8 0 0  \n", " \n",
+        "   \n", "0 8 0 \n", " 8 0 0\n", "0\t8\t0\t0\n", "0 8 0\t0\n", "0,8,0,0\n", "0, 8, 0, 0\n", "\t0 8 0 0\n",
+        "0 8 0 0\t\n",
+        /* a carriage return before the end, or for it */
+        "0 8 0 0\r\n", "0 8 0 0\r\r\n", "\r\n", "\r0 8 0 0\n", "0 8 0 0\r0 8 0 0\n", "0 8 0 0\f\n", "0 8 0 0\v\n",
+        /* a line in two */
+        "0 8\n0 0\n", "0 8 0\n0\n", "0 8 0 \n0\n",
+        /* empty, names, a comment */
+        "\n", "\n\n", NAMES, "# 0 8 0 0\n", "0 8 0 0 # x\n", "x\n", ";\n", "0 8 0 0;\n",
+    };
+    static text t;
+
+    for (size_t i = 0; i < sizeof wrong / sizeof wrong[0]; i++)
+        refuse_line(__LINE__, wrong[i]);
+
+    /* An empty line in the middle, at the end, right behind the names; two of them. */
+    REFUSE(TEXT(NAMES "0 8 0 0\n\n3 0 6 3\n"), 22, 1);
+    REFUSE(TEXT(NAMES "0 8 0 0\n3 0 6 3\n\n"), 22, 2);
+    REFUSE(TEXT(NAMES "\n0 8 0 0\n"), 22, 0);
+    REFUSE(TEXT(NAMES "\n"), 22, 0);
+    REFUSE(TEXT(NAMES "\n\n"), 22, 0);
+    REFUSE(TEXT(SHEET "\n"), 22, 4);
+    REFUSE(TEXT(SHEET "\n\n"), 22, 4);
+
+    /* The last line without its end: whole, cut short, with another byte for its end. */
+    static const char *const last[] = {
+        "0 8 0 0", "0 8 0 ", "0 8 0", "0 8 ", "0 8", "0 ", "0", " ", "x", "65536", "0 8 0 00", "0 8 0 0 ", "0 8 0 0\r",
+        "0 8 0 0\t", "0 8 0 0\212", "0 8 0 0\v", "0 8 0 65535", "0 8 0 65536", "\r",
+    };
+    for (size_t i = 0; i < sizeof last / sizeof last[0]; i++)
+        for (size_t lines = 0; lines < 512; lines = 2 * lines + 1) {
+            t.len = 0;
+            put(&t, NAMES);
+            put_times(&t, "0 8 0 0\n", lines);
+            put(&t, last[i]);
+            REFUSE(ALL_OF(t), 22, (uint32_t)lines);
+        }
+
+    /* Two bad lines: the first. */
+    REFUSE(TEXT(NAMES "0 8 0 0\nx\n0 8 0 0\ny\n"), 22, 1);
+    REFUSE(TEXT(NAMES "0 8 0 0\n0 8 0 0\n0 8 0 \n0 8 0 0"), 22, 2);
+    REFUSE(TEXT(NAMES "0 8 0 0\n\n0 8 0 0"), 22, 1);
+    group_done("refusal 22: wrong lines");
+}
+
+/* 512 and 513 lines, and a malformed line among many. */
+static void test_lines(void)
+{
+    static const char *const more[] = {
+        "0 8 0 0\n", "65535 65535 65535 65535\n", "x\n", "\n", "\n\n", "0 8 0 0", "0 8 0", "0", " ", "x", "0 8 0 0\r\n",
+        "0 8 0 65536\n", "00 8 0 0\n", "\r", "\r\n", "0 8 0 0\n0 8 0 0\n", "0 8 0 0\nx\n", "0 8 0 0\n0 8 0 0", NAMES,
+    };
+    static text t, lines;
+    static uint16_t rows[2048];
+
+    /* 508 to 512 lines, each with numbers of its own. */
+    lines.len = 0;
+    put(&lines, "b kind c a\n");
+    for (size_t i = 0; i < 512; i++) {
+        uint16_t *row = rows + 4 * i;
+        row[0] = (uint16_t)i, row[1] = (uint16_t)(65535 - i), row[2] = (uint16_t)(i * i), row[3] = (uint16_t)(7 * i);
+        put_number(&lines, row[2]);
+        put_byte(&lines, ' ');
+        put_number(&lines, row[0]);
+        put_byte(&lines, ' ');
+        put_number(&lines, row[3]);
+        put_byte(&lines, ' ');
+        put_number(&lines, row[1]);
+        put_byte(&lines, '\n');
+        if (i >= 508 - 1)
+            ACCEPT(ALL_OF(lines), rows, 4 * (i + 1));
+    }
+
+    /* A 513th line is 23 whatever it holds. */
+    for (size_t i = 0; i < sizeof more / sizeof more[0]; i++) {
+        t = lines;
+        put(&t, more[i]);
+        REFUSE(ALL_OF(t), 23, 512);
+    }
+    for (size_t count = 514; count < 1500; count += 241) {
+        t.len = 0;
+        put(&t, NAMES);
+        put_times(&t, "0 8 0 0\n", count);
+        REFUSE(ALL_OF(t), 23, 512);
+    }
+
+    /* Lines 0 to 511 come first: a malformed line of 600 is 22, and from line 512 on it is not looked at. */
+    for (size_t bad = 0; bad < 600; bad++) {
+        bool often = bad < 8 || (bad >= 508 && bad < 516) || bad == 599;
+        if (!often && bad % 50 != 0)
+            continue;
+        for (int kind = 0; kind < 3; kind++) {
+            t.len = 0;
+            put(&t, NAMES);
+            put_times(&t, "0 8 0 0\n", bad);
+            put(&t, kind == 0 ? "x\n" : kind == 1 ? "\n" : "0 8 0 65536\n");
+            put_times(&t, "0 8 0 0\n", 600 - bad - 1);
+            if (bad < 512)
+                REFUSE(ALL_OF(t), 22, (uint32_t)bad);
+            else
+                REFUSE(ALL_OF(t), 23, 512);
+        }
+    }
+
+    /* Line 5 and a later one; the last of 512 without its end. */
+    t.len = 0;
+    put(&t, NAMES);
+    put_times(&t, "0 8 0 0\n", 5);
+    put(&t, "0 8 0 0 \n");
+    put_times(&t, "0 8 0 0\n", 506);
+    put(&t, "0 8 0 0");
+    REFUSE(ALL_OF(t), 22, 5);
+    t.len = 0;
+    put(&t, NAMES);
+    put_times(&t, "0 8 0 0\n", 511);
+    put(&t, "0 8 0 0");
+    REFUSE(ALL_OF(t), 22, 511);
+
+    /* The names are tested before the lines. */
+    t.len = 0;
+    put(&t, "kind a b C\n");
+    put_times(&t, "0 8 0 0\n", 600);
+    REFUSE(ALL_OF(t), 21, 0);
+    group_done("512 lines, and a 513th");
+}
+
+/* 20: over 16384 bytes, whatever they are. */
+static void test_size(void)
+{
+    static text t;
+    static uint16_t rows[2048];
+
+    /* The longest good sheet has 12299 bytes: 512 lines of values of five digits. */
+    t.len = 0;
+    put(&t, NAMES);
+    put_times(&t, "65535 65535 65535 65535\n", 512);
+    for (size_t i = 0; i < 2048; i++)
+        rows[i] = 65535;
+    check(t.len == 12299, __FILE__, __LINE__, "the longest good sheet has %zu bytes", t.len);
+    ACCEPT(ALL_OF(t), rows, 2048);
+
+    /*
+      So one of 16384 bytes has some fault, which is then the refusal: names, a
+      line, too many lines. With one byte more it is 20, and so are all longer
+      ones, also those whose length is that of a good sheet as a 16-bit number.
+    */
+    static const struct { const char *start, *line; uint32_t number, row; } sheets[] = {
+        {"", "kind a b c ", 21, 0},
+        {"", "k", 21, 0},
+        {"", "\n", 21, 0},
+        {"kind a b b\n", "0 8 0 0\n", 21, 0},
+        {NAMES, "9", 22, 0},
+        {NAMES, "0", 22, 0},
+        {NAMES, "\n", 22, 0},
+        {NAMES "0 8 0 0\n1 1 8 0\n", "x\n", 22, 2},
+        {NAMES "0 8 0 0\n1 1 8 0\n", "0 0 0 0 ", 22, 2},
+        {NAMES, "0 8 0 0\n", 23, 512},
+        {NAMES "0 8 0 0\n", "65535 65535 65535 65535\n", 23, 512},
+    };
+    static const size_t longer[] = {16385, 16386, 16400, 32768, 65535, 65536, 65536 + 11, 65536 + 19, 131072 + 11};
+    for (size_t i = 0; i < sizeof sheets / sizeof sheets[0]; i++) {
+        t.len = 0;
+        put(&t, sheets[i].start);
+        while (t.len < 140000)
+            put(&t, sheets[i].line);
+        REFUSE(t.bytes, 16384, sheets[i].number, sheets[i].row);
+        REFUSE(t.bytes, 16383, sheets[i].number, sheets[i].row);
+        for (size_t j = 0; j < sizeof longer / sizeof longer[0]; j++)
+            REFUSE(t.bytes, longer[j], 20, 0);
+    }
+
+    /* Good lines only, of exactly 16384 and 16385 bytes. */
+    for (int more = 0; more < 2; more++) {
+        t.len = 0;
+        put(&t, NAMES "0 0 0 0\n");
+        put_times(&t, "65535 65535 65535 65535\n", 681);
+        put(&t, more == 0 ? "10000 10000 10000 10\n" : "10000 10000 10000 100\n");
+        check(t.len == 16384 + (size_t)more, __FILE__, __LINE__, "%zu bytes", t.len);
+        if (more == 0)
+            REFUSE(ALL_OF(t), 23, 512);
+        else
+            REFUSE(ALL_OF(t), 20, 0);
+    }
+    group_done("16384 bytes, and 16385");
+}
+
+/* 32: an output below 2048 numbers, however few the rows are; tested last. */
+static void test_output(void)
+{
+    static text t;
+    static uint16_t rows[2048];
+    static const size_t long_lengths[] = {
+        2048, 2049, 2050, 2051, 2052, 4096, 65535, 65536, 65537, 65536 + 2047, 200000,
+    };
+
+    t.len = 0;
+    put(&t, NAMES);
+    for (size_t i = 0; i < 512; i++) {
+        put(&t, "3 1 4 15\n");
+        memcpy(rows + 4 * i, (const uint16_t[]){3, 1, 4, 15}, 8);
+    }
+    for (size_t len = 0; len < 2048; len++) {
+        lw_record want = {.outcome = 32};
+        call(__LINE__, "short output", TEXT(SHEET), sizeof SHEET - 1, NULL, len, want, NULL);
+        if (len % 64 == 0 || len >= 2040 || len < 8) {
+            call(__LINE__, "short output, no rows", TEXT(NAMES), sizeof NAMES - 1, NULL, len, want, NULL);
+            call(__LINE__, "short output, 512 rows", ALL_OF(t), t.len, NULL, len, want, NULL);
+        }
+    }
+    for (size_t i = 0; i < sizeof long_lengths / sizeof long_lengths[0]; i++) {
+        call(__LINE__, "long output", TEXT(NAMES "3 1 4 15\n"), sizeof NAMES + 8, NULL, long_lengths[i],
+             (lw_record){.pieces = 1}, rows);
+        call(__LINE__, "long output, no rows", TEXT(NAMES), sizeof NAMES - 1, NULL, long_lengths[i],
+             (lw_record){.pieces = 0}, NULL);
+        call(__LINE__, "long output, 512 rows", ALL_OF(t), t.len, NULL, long_lengths[i],
+             (lw_record){.pieces = 512}, rows);
+    }
+
+    /* Behind every other refusal; most are had with short outputs by refuse() too. */
+    put(&t, "3 1 4 15");
+    call(__LINE__, "23 before 32", ALL_OF(t), t.len, NULL, 2047, (lw_record){.outcome = 23, .row = 512}, NULL);
+    call(__LINE__, "22 before 32", ALL_OF(t), t.len - 9, NULL, 2047, (lw_record){.outcome = 22, .row = 511}, NULL);
+    call(__LINE__, "21 before 32", ALL_OF(t), 10, NULL, 2047, (lw_record){.outcome = 21}, NULL);
+    group_done("refusal 32");
+}
+
+/* Every start of a sheet that goes on behind what is lent: nothing behind it is read. */
+static void test_starts(void)
+{
+    static const char sheet[] = SHEET;
+    static const uint16_t rows[] = {0, 8, 0, 0, 3, 0, 6, 3, 3, 0, 4, 1, 4, 1, 2, 0};
+    size_t len = sizeof sheet - 1, lines = 0; /* that end within what is lent */
+
+    for (size_t lent = 0; lent <= len; lent++) {
+        lw_record want = {.outcome = 0};
+        if (lent != 0 && sheet[lent - 1] == '\n')
+            lines++;
+        if (lines == 0)
+            want.outcome = 21;
+        else if (sheet[lent - 1] == '\n')
+            want.pieces = (uint32_t)(lines - 1);
+        else
+            want.outcome = 22, want.row = (uint32_t)(lines - 1);
+        call(__LINE__, "start of a sheet", (const uint8_t *)sheet, len, lent, NULL, 2048, want, rows);
+    }
+    group_done("every start of a sheet");
+}
+
+/* NULL with length 0 for each buffer. */
+static void test_null(void)
+{
+    static uint16_t numbers[2048];
+    static const uint8_t bytes[] = {'k', 'i', 'n', 'd', ' ', 'a', ' ', 'b', ' ', 'c', 10};
+    for (size_t i = 0; i < 2048; i++)
+        numbers[i] = 9;
+
+#define REFUSE_NULL(name, number, ...) \
+    check_record(__LINE__, name, lw_read_sheet(__VA_ARGS__), (lw_record){.outcome = (number)})
+    REFUSE_NULL("both NULL", 21, NULL, 0, NULL, 0);
+    REFUSE_NULL("sheet NULL", 21, NULL, 0, numbers, 2048);
+    REFUSE_NULL("sheet NULL, short output", 21, NULL, 0, numbers, 2047);
+    REFUSE_NULL("table NULL", 32, bytes, sizeof bytes, NULL, 0);
+    REFUSE_NULL("table NULL, names refused", 21, bytes, sizeof bytes - 1, NULL, 0);
+#undef REFUSE_NULL
+    for (size_t i = 0; i < 2048; i++)
+        if (!check(numbers[i] == 9, __FILE__, __LINE__, "table written by a refusal"))
+            break;
+    group_done("NULL with length 0");
+}
+
+/* The specification's sheet, read and then worked on. */
+static void test_use(void)
+{
+    static uint16_t numbers[2048], form[4096];
+    static const uint8_t pattern[] = {1, 0, 1, 1, 0, 0, 1, 0};
+    static const struct { size_t row, width; uint8_t value[8]; uint16_t form[4]; } rows[] = {
+        {0, 8, {1, 0, 1, 1, 0, 0, 1, 0}, {PART_OF(7, 0)}},
+        {1, 4, {0, 1, 1, 0}, {PART_OF(6, 3)}},
+        {2, 4, {1, 0, 0, 1}, {PART_OF(4, 1)}},
+    };
+    uint8_t value[8];
+
+    lw_record read = lw_read_sheet(TEXT(SHEET), numbers, 2048);
+    check_record(__LINE__, "read", read, (lw_record){.pieces = 4});
+    size_t len = 4 * (size_t)read.pieces;
+    for (size_t i = 0; i < sizeof rows / sizeof rows[0]; i++) {
+        check_record(__LINE__, "value", lw_value(numbers, len, rows[i].row, pattern, 8, value, 8),
+                     (lw_record){.free = (uint32_t)rows[i].width});
+        check(memcmp(value, rows[i].value, rows[i].width) == 0, __FILE__, __LINE__, "value of row %zu", rows[i].row);
+        check_record(__LINE__, "normal form", lw_normal_form(numbers, len, rows[i].row, form, 4096),
+                     (lw_record){.pieces = 1, .free = (uint32_t)rows[i].width});
+        check(memcmp(form, rows[i].form, 8) == 0, __FILE__, __LINE__, "normal form of row %zu", rows[i].row);
+    }
+    check_record(__LINE__, "an equation", lw_value(numbers, len, 3, pattern, 8, value, 8), (lw_record){.outcome = 30});
+
+    /* A kind of 9 is read, and refused by the call that works on the table. */
+    read = lw_read_sheet(TEXT(NAMES "0 8 0 0\n9 0 0 0\n"), numbers, 2048);
+    check_record(__LINE__, "kind 9", read, (lw_record){.pieces = 2});
+    check_record(__LINE__, "kind 9", lw_value(numbers, 4 * (size_t)read.pieces, 0, pattern, 8, value, 8),
+                 (lw_record){.outcome = 12, .row = 1});
+
+    /* No rows. */
+    read = lw_read_sheet(TEXT(NAMES), numbers, 2048);
+    check_record(__LINE__, "no rows", read, (lw_record){.pieces = 0});
+    check_record(__LINE__, "no rows", lw_normal_form(numbers, 4 * (size_t)read.pieces, 0, form, 4096),
+                 (lw_record){.outcome = 30});
+    group_done("a sheet read and used");
+}
+
+/* Against the reference. */
+
+static uint32_t compare(int line, const char *name, const text *t, size_t table_len)
+{
+    static uint16_t numbers[2048];
+    lw_record want = ref_read_sheet(t->bytes, t->len, numbers, table_len);
+    call(line, name, t->bytes, t->len, t->len, NULL, table_len, want, want.outcome == 0 ? numbers : NULL);
+    return want.outcome;
+}
+
+static void remove_bytes(text *t, size_t at, size_t count)
+{
+    memmove(t->bytes + at, t->bytes + at + count, t->len - at - count);
+    t->len -= count;
+}
+
+/* Inserts a copy of bytes of the text, or of others. */
+static void insert_bytes(text *t, size_t at, const uint8_t *bytes, size_t count)
+{
+    static uint8_t copy[sizeof t->bytes];
+    if (t->len + count > sizeof t->bytes)
+        return;
+    memcpy(copy, bytes, count);
+    memmove(t->bytes + at + count, t->bytes + at, t->len - at);
+    memcpy(t->bytes + at, copy, count);
+    t->len += count;
+}
+
+/* Every text that one changed, inserted or removed byte makes of a short sheet. */
+static void test_one_byte(void)
+{
+    static const char *const sheets[] = {NAMES, "c a kind b\n10 0 65535 7\n", SHEET};
+    static text t, good;
+    unsigned long texts = 0, accepted = 0;
+
+    for (size_t i = 0; i < sizeof sheets / sizeof sheets[0]; i++) {
+        good.len = 0;
+        put(&good, sheets[i]);
+        for (size_t at = 0; at <= good.len; at++)
+            for (int byte = 0; byte < 256; byte++)
+                for (int kind = 0; kind < 3; kind++) {
+                    uint8_t b = (uint8_t)byte;
+                    t.len = good.len;
+                    memcpy(t.bytes, good.bytes, good.len);
+                    if (kind == 0)
+                        insert_bytes(&t, at, &b, 1);
+                    else if (at == good.len || (kind == 2 && byte != 0))
+                        continue;
+                    else if (kind == 1)
+                        t.bytes[at] = b;
+                    else
+                        remove_bytes(&t, at, 1);
+                    texts++;
+                    if (compare(__LINE__, "one byte", &t, 2048) == 0)
+                        accepted++;
+                }
+    }
+    printf("%lu texts with one byte changed, inserted or removed: %lu accepted\n", texts, accepted);
+    group_done("one byte, against the reference");
+}
+
+/* Every word of up to three bytes of these, as the second and as the last value. */
+static void test_words(void)
+{
+    static const char bytes[] = {'0', '1', '6', '9', ' ', '\n', '\r', '\t', '+', '-', 'a'};
+    static text t;
+    size_t count = sizeof bytes;
+    unsigned long texts = 0, accepted = 0;
+
+    for (size_t len = 0, words = 1; len <= 3; len++, words *= count)
+        for (size_t word = 0; word < words; word++)
+            for (int place = 0; place < 2; place++) {
+                t.len = 0;
+                put(&t, place == 0 ? "kind b a c\n3 " : "kind b a c\n3 1 5 ");
+                for (size_t i = 0, rest = word; i < len; i++, rest /= count)
+                    put_byte(&t, bytes[rest % count]);
+                put(&t, place == 0 ? " 5 7\n" : "\n");
+                texts++;
+                if (compare(__LINE__, "word", &t, 2048) == 0)
+                    accepted++;
+            }
+    printf("%lu texts with a word of up to three bytes: %lu accepted\n", texts, accepted);
+    group_done("words, against the reference");
+}
+
+static unsigned random_value(void)
+{
+    static const unsigned edges[] = {0, 1, 9, 10, 99, 100, 999, 1000, 6553, 6554, 9999, 10000, 65529, 65534, 65535};
+    return one_in(4) ? edges[below(sizeof edges / sizeof edges[0])]
+         : (unsigned)(one_in(2) ? below(12) : one_in(2) ? below(1025) : below(65536));
+}
+
+/* A good sheet of so many lines. */
+static void make_sheet(text *t, size_t lines)
+{
+    static const char *const names[] = {"kind", "a", "b", "c"};
+    size_t order[4] = {0, 1, 2, 3};
+
+    for (size_t i = 4; i > 1; i--) {
+        size_t j = below(i), kept = order[j];
+        order[j] = order[i - 1], order[i - 1] = kept;
+    }
+    t->len = 0;
+    for (size_t i = 0; i < 4; i++) {
+        put(t, names[order[i]]);
+        put_byte(t, i == 3 ? '\n' : ' ');
+    }
+    for (size_t i = 0; i < 4 * lines; i++) {
+        put_number(t, random_value());
+        put_byte(t, i % 4 == 3 ? '\n' : ' ');
+    }
+}
+
+/* Mostly a byte that a sheet may have. */
+static uint8_t random_byte(void)
+{
+    static const char bytes[] = "0123456789 \nkindabc\r\t+-";
+    return one_in(4) ? (uint8_t)below(256) : one_in(2) ? (uint8_t)bytes[below(12)]
+         : (uint8_t)bytes[below(sizeof bytes - 1)];
+}
+
+/* The line that has this byte, its end included, as far as it has one. */
+static void line_at(const text *t, size_t at, size_t *from, size_t *count)
+{
+    size_t to = at;
+    *from = at;
+    while (*from != 0 && t->bytes[*from - 1] != '\n')
+        (*from)--;
+    while (to + 1 < t->len && t->bytes[to] != '\n')
+        to++;
+    *count = to + 1 - *from;
+}
+
+enum { CHANGE, INSERT, REMOVE, DOUBLE, SWAP, SWAP_NEXT, CUT_SHORT, DOUBLE_LINE, REMOVE_LINE, LENGTHEN, MUTATIONS };
+
+static const char *const mutation_names[MUTATIONS] = {
+    "a byte changed", "inserted", "removed", "doubled", "two swapped", "two neighbours swapped",
+    "cut short", "a line doubled", "a line removed", "lines up to some 16384 bytes",
+};
+
+static void mutate(text *t, int mutation)
+{
+    if (t->len == 0)
+        return;
+    size_t at = below(t->len), other = mutation == SWAP_NEXT ? (at + 1) % t->len : below(t->len), from, count;
+    uint8_t byte = random_byte();
+
+    switch (mutation) {
+    case CHANGE:
+        t->bytes[at] = byte;
+        break;
+    case INSERT:
+        insert_bytes(t, below(t->len + 1), &byte, 1);
+        break;
+    case REMOVE:
+        remove_bytes(t, at, 1);
+        break;
+    case DOUBLE:
+        insert_bytes(t, at, t->bytes + at, 1);
+        break;
+    case SWAP:
+    case SWAP_NEXT:
+        byte = t->bytes[at];
+        t->bytes[at] = t->bytes[other];
+        t->bytes[other] = byte;
+        break;
+    case CUT_SHORT:
+        t->len = one_in(3) ? t->len - 1 : at;
+        break;
+    case DOUBLE_LINE:
+        line_at(t, at, &from, &count);
+        insert_bytes(t, from, t->bytes + from, count);
+        break;
+    case REMOVE_LINE:
+        line_at(t, at, &from, &count);
+        remove_bytes(t, from, count);
+        break;
+    case LENGTHEN: /* the last line again and again; then cut at 16384 bytes, or up to two fewer or more, or not */
+        line_at(t, t->len - 1, &from, &count);
+        while (t->len < 16384 + 2)
+            insert_bytes(t, t->len, t->bytes + from, count);
+        if (!one_in(4))
+            t->len = 16382 + below(5);
+        break;
+    }
+}
+
+static void test_random(unsigned long sheets)
+{
+    static const uint32_t outcomes[] = {0, 20, 21, 22, 23, 32};
+    static const char *const row_names[] = {"0", "1 to 9", "10 to 510", "511"};
+    unsigned long seen[33] = {0}, rows[4] = {0}, reads[4] = {0}, mutations[MUTATIONS] = {0}, kept = 0;
+    static text t, good;
+    static uint16_t numbers[2048];
+    char name[64];
+
+    for (unsigned long i = 0; i < sheets; i++) {
+        size_t lines = one_in(50) ? (one_in(2) ? 505 + below(8) : below(513)) : below(one_in(4) ? 40 : 6);
+        make_sheet(&good, lines);
+        t.len = good.len;
+        memcpy(t.bytes, good.bytes, good.len);
+        for (size_t count = one_in(5) ? below(5) : 1; count != 0; count--) {
+            int mutation = one_in(150) ? LENGTHEN : (int)below(LENGTHEN);
+            if (lines >= 505 && one_in(2))
+                mutation = DOUBLE_LINE;
+            mutations[mutation]++;
+            mutate(&t, mutation);
+        }
+        if (lines == 512 && one_in(3)) { /* something at the last line */
+            t.len = good.len;
+            memcpy(t.bytes, good.bytes, good.len);
+            if (one_in(2))
+                t.bytes[t.len - 1 - below(8)] = random_byte();
+            else
+                for (size_t count = 1 + below(3); count != 0; count--)
+                    put_byte(&t, random_byte());
+        }
+        size_t table_len = 2048 + (one_in(3) ? below(70) : 0);
+        if (one_in(20))
+            table_len = one_in(2) ? 2047 : below(2048);
+
+        lw_record want = ref_read_sheet(t.bytes, t.len, numbers, table_len);
+        snprintf(name, sizeof name, "random sheet %lu", i);
+        call(__LINE__, name, t.bytes, t.len, t.len, NULL, table_len, want, want.outcome == 0 ? numbers : NULL);
+        seen[want.outcome]++;
+        size_t n = want.outcome == 0 ? want.pieces : want.row;
+        size_t class = n == 0 ? 0 : n < 10 ? 1 : n < 511 ? 2 : 3;
+        if (want.outcome == 0)
+            reads[class]++;
+        if (want.outcome == 22)
+            rows[class]++;
+        if (want.outcome == 0 && (t.len != good.len || memcmp(t.bytes, good.bytes, t.len) != 0))
+            kept++;
+    }
+
+    printf("%lu random sheets:", sheets);
+    for (size_t i = 0; i < sizeof outcomes / sizeof outcomes[0]; i++)
+        printf(" %s%u %lu", i == 0 ? "outcome " : "", outcomes[i], seen[outcomes[i]]);
+    printf("\n  changed and yet read %lu; rows read", kept);
+    for (size_t i = 0; i < 4; i++)
+        printf("%s %s %lu", i == 0 ? "" : ",", i == 3 ? "511 or 512" : row_names[i], reads[i]);
+    printf("\n  outcome 22 in row");
+    for (size_t i = 0; i < 4; i++)
+        printf("%s %s: %lu", i == 0 ? "" : ",", row_names[i], rows[i]);
+    printf("\n");
+    for (int i = 0; i < MUTATIONS; i++)
+        printf("    %-46s %lu\n", mutation_names[i], mutations[i]);
+
+    for (size_t i = 0; i < sizeof outcomes / sizeof outcomes[0]; i++)
+        check(seen[outcomes[i]] != 0, __FILE__, __LINE__, "no random sheet has outcome %u", outcomes[i]);
+    for (size_t i = 0; i < 4; i++) {
+        check(reads[i] != 0, __FILE__, __LINE__, "no random sheet read has rows %s", row_names[i]);
+        check(rows[i] != 0, __FILE__, __LINE__, "no random sheet is refused 22 in row %s", row_names[i]);
+    }
+    for (int i = 0; i < MUTATIONS; i++)
+        check(mutations[i] != 0, __FILE__, __LINE__, "no random sheet has this: %s", mutation_names[i]);
+    check(kept != 0, __FILE__, __LINE__, "no changed sheet is read");
+    group_done("random sheets against the reference");
+}
+
+/* Speed. */
+
+enum { TIMES = 101, CALLS = 20 };
+
+static double now(void) /* in seconds */
+{
+    struct timespec t;
+    clock_gettime(CLOCK_MONOTONIC, &t);
+    return (double)t.tv_sec + 1e-9 * (double)t.tv_nsec;
+}
+
+static int by_size(const void *a, const void *b)
+{
+    double x = *(const double *)a, y = *(const double *)b;
+    return (x > y) - (x < y);
+}
+
+static double call_time(const text *t)
+{
+    static uint16_t numbers[2048];
+    double start = now();
+    for (int i = 0; i < CALLS; i++)
+        lw_read_sheet(t->bytes, t->len, numbers, 2048);
+    return (now() - start) / CALLS;
+}
+
+/* The time grows with the text, not with its square. Both are timed in turn, and the medians compared. */
+static void test_speed(void)
+{
+    static text small, large;
+    static uint16_t rows[2048];
+    double small_times[TIMES], large_times[TIMES];
+
+    small.len = large.len = 0;
+    put(&small, NAMES);
+    put_times(&small, "65535 65535 65535 65535\n", 64);
+    put(&large, NAMES);
+    put_times(&large, "65535 65535 65535 65535\n", 512);
+    for (size_t i = 0; i < 2048; i++)
+        rows[i] = 65535;
+    ACCEPT(ALL_OF(small), rows, 4 * 64);
+    ACCEPT(ALL_OF(large), rows, 4 * 512);
+    for (int i = 0; i < TIMES; i++) {
+        small_times[i] = call_time(&small);
+        large_times[i] = call_time(&large);
+    }
+    qsort(small_times, TIMES, sizeof small_times[0], by_size);
+    qsort(large_times, TIMES, sizeof large_times[0], by_size);
+    double few = small_times[TIMES / 2], many = large_times[TIMES / 2];
+    printf("a call on a sheet of 64 lines: %.2f us, of 512 lines: %.2f us\n", 1e6 * few, 1e6 * many);
+    printf("time for 512 lines / 64 lines: %.1f\n", many / few);
+    check(many <= 16 * few, __FILE__, __LINE__, "512 lines take over 16 times as long as 64");
+    group_done("speed");
+}
+
+int main(int argc, char **argv)
+{
+    unsigned long sheets = argc > 1 ? strtoul(argv[1], NULL, 10) : 100000;
+
+    setvbuf(stdout, NULL, _IOLBF, BUFSIZ); /* a crash leaves the lines before it */
+    test_constants();
+    test_sheets();
+    test_values();
+    test_orders();
+    test_names();
+    test_wrong_values();
+    test_wrong_lines();
+    test_lines();
+    test_size();
+    test_output();
+    test_starts();
+    test_null();
+    test_use();
+    test_one_byte();
+    test_words();
+    test_random(sheets);
+    test_speed();
+    return run_done("sheet");
+}
