@@ -9,3 +9,4 @@ pub mod Writing
 pub mod Written
 pub mod SheetCases
 pub mod Theorems
+pub mod PrintedText

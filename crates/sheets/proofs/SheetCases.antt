@@ -1,4 +1,5 @@
--- Two of document 01's cases, as far as they are about reading: its first sheet, and the empty one. Assumes nothing.
+-- Two of document 01's cases, as far as they are about reading and printing: its first sheet, and the empty one. Assumes
+-- nothing.
 use mathlib.Core.Path.{_≡_, refl}
 use mathlib.Core.List.{List, [], _∷_}
 use Prim.Native.Nat.{ℕ}
@@ -8,6 +9,7 @@ use Rattle.sheets.specs.Text.{digitOf, moreDigits, afterZero, numberHere
 use Rattle.sheets.specs.Sheet.{foundFrom, rowsFrom, sheetFound, sheetRows}
 use Rattle.sheets.specs.Writing.{digits, decimal, nameBytes, column, name, value, namesLine, valuesLine, linesText, sheetText}
 use Rattle.sheets.specs.Call.{sheetNumber}
+use Rattle.sheets.specs.Print.{field, recordValues, recordText, answerValues, answerLines, answerText}
 
 -- kind a b c
 -- 0 8 0 0
@@ -40,3 +42,26 @@ case-1-written = refl
 pub case-10 : (sheetFound [] ≡ WrongNames) × (sheetNumber (sheetFound []) ≡ 21)
 unfolding sees seesKind columnAt nameAt namesAt sheetFound
 case-10 = (refl, refl)
+
+-- Document 01's answer to it, as it is printed.
+abbrev pub printedRecord : List ℕ
+printedRecord =
+    111 ∷ 117 ∷ 116 ∷ 99 ∷ 111 ∷ 109 ∷ 101 ∷ 32 ∷ 112 ∷ 105 ∷ 101 ∷ 99 ∷ 101 ∷ 115 ∷ 32 ∷ 102 ∷ 114 ∷ 101 ∷ 115 ∷ 104 ∷ 32 ∷ 102 ∷ 114 ∷ 101 ∷ 101 ∷ 32 ∷ 116 ∷ 105 ∷ 101 ∷ 115 ∷ 32 ∷ 114 ∷ 111 ∷ 119 ∷ 10
+    ∷ 50 ∷ 32 ∷ 53 ∷ 32 ∷ 51 ∷ 32 ∷ 52 ∷ 32 ∷ 52 ∷ 32 ∷ 48 ∷ 10 ∷ []
+
+abbrev pub printedTable : List ℕ
+printedTable =
+    118 ∷ 97 ∷ 114 ∷ 105 ∷ 97 ∷ 98 ∷ 108 ∷ 101 ∷ 32 ∷ 107 ∷ 105 ∷ 110 ∷ 100 ∷ 32 ∷ 119 ∷ 105 ∷ 100 ∷ 116 ∷ 104 ∷ 32 ∷ 102 ∷ 114 ∷ 101 ∷ 115 ∷ 104 ∷ 10
+    ∷ 48 ∷ 32 ∷ 50 ∷ 32 ∷ 49 ∷ 32 ∷ 48 ∷ 10
+    ∷ 48 ∷ 32 ∷ 50 ∷ 32 ∷ 50 ∷ 32 ∷ 49 ∷ 10
+    ∷ 48 ∷ 32 ∷ 50 ∷ 32 ∷ 50 ∷ 32 ∷ 49 ∷ 10
+    ∷ 48 ∷ 32 ∷ 50 ∷ 32 ∷ 50 ∷ 32 ∷ 49 ∷ 10
+    ∷ 48 ∷ 32 ∷ 50 ∷ 32 ∷ 49 ∷ 32 ∷ 50 ∷ 10 ∷ []
+
+pub case-1-record : recordText (record { outcome = 2; pieces = 5; fresh = 3; free = 4; ties = 4; row = 0 }) ≡ printedRecord
+unfolding recordText recordValues field digits
+case-1-record = refl
+
+pub case-1-table : answerText (0 ∷ 2 ∷ 1 ∷ 0 ∷ 0 ∷ 2 ∷ 2 ∷ 1 ∷ 0 ∷ 2 ∷ 2 ∷ 1 ∷ 0 ∷ 2 ∷ 2 ∷ 1 ∷ 0 ∷ 2 ∷ 1 ∷ 2 ∷ []) ≡ printedTable
+unfolding answerText answerLines answerValues field digits
+case-1-table = refl

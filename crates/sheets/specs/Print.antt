@@ -3,7 +3,7 @@ use mathlib.Core.Bool.{cond}
 use mathlib.Core.List.{List, [], _∷_, _++_}
 use Prim.Native.Nat.{ℕ, _+_}
 use lib.Dec.{ltb}
-use lib.ListN.{length, replicate, set}
+use lib.ListN.{length, replicate, set, take}
 use Rattle.terms.specs.Calls.{overwrite}
 use Rattle.terms.specs.declared.Record.{Record}
 use Rattle.sheets.specs.declared.Text.{Text}
@@ -20,6 +20,10 @@ pushAll t (byte ∷ bytes) = pushAll (pushed t byte) bytes
 -- A line of text: its bytes, and 0 in the rest of the array.
 unfoldable pub lineOf : List ℕ → Text
 lineOf bytes = record { bytes = overwrite bytes (replicate 80 0); len = length bytes }
+
+-- The bytes that a line has.
+unfoldable pub shown : Text → List ℕ
+shown t = take (t .len) (t .bytes)
 
 -- A number of up to 32 bits, and the byte behind it.
 unfoldable pub field : ℕ → ℕ → List ℕ
