@@ -16,12 +16,12 @@
 
 #define _POSIX_C_SOURCE 199309L /* clock_gettime */
 
-#include <time.h>
 
 #include "guard.h"
 #include "linkwords.h"
 #include "random_table.h"
 #include "reference.h"
+#include "timing.h"
 
 /* Pieces. A form is written down as a table is: see TABLE. */
 
@@ -988,29 +988,12 @@ static void test_small(unsigned long tables)
 
 /* Speed. */
 
-enum { TIMES = 101, CALLS = 20 };
-
-static double now(void) /* in seconds */
-{
-    struct timespec t;
-    clock_gettime(CLOCK_MONOTONIC, &t);
-    return (double)t.tv_sec + 1e-9 * (double)t.tv_nsec;
-}
-
-static int by_size(const void *a, const void *b)
-{
-    double x = *(const double *)a, y = *(const double *)b;
-    return (x > y) - (x < y);
-}
-
-/* The time of a call for the last row of a table of chained cuts. */
-static double call_time(const table *t)
+/* The form of the last row of a table. */
+static void make_form(const void *input)
 {
     static uint16_t form[4096];
-    double start = now();
-    for (int i = 0; i < CALLS; i++)
-        lw_normal_form(t->numbers, t->len, t->len / 4 - 1, form, 4096);
-    return (now() - start) / CALLS;
+    const table *t = input;
+    lw_normal_form(t->numbers, t->len, t->len / 4 - 1, form, 4096);
 }
 
 /* A variable of 1024 bits, and cuts of the row before, each by one bit less. */
@@ -1022,26 +1005,19 @@ static void make_chain(table *t, size_t rows)
         add(t, CUT(i - 1, 1024 - i, 1));
 }
 
-/* The time grows with the rows passed, not with their square. Both are timed in turn, and the medians compared. */
+/* The time grows with the rows passed, not with their square. */
 static void test_speed(void)
 {
     static table small, large;
-    double small_times[TIMES], large_times[TIMES];
 
     make_chain(&small, 64);
     make_chain(&large, 512);
     ACCEPT(ALL(small), 63, 961, FORM(PART(0, 1023, 63)));
     ACCEPT(ALL(large), 511, 513, FORM(PART(0, 1023, 511)));
-    for (int i = 0; i < TIMES; i++) {
-        small_times[i] = call_time(&small);
-        large_times[i] = call_time(&large);
-    }
-    qsort(small_times, TIMES, sizeof small_times[0], by_size);
-    qsort(large_times, TIMES, sizeof large_times[0], by_size);
-    double few = small_times[TIMES / 2], many = large_times[TIMES / 2];
-    printf("a call on 64 rows of chained cuts: %.2f us, on 512 rows: %.2f us\n", 1e6 * few, 1e6 * many);
-    printf("time for 512 rows of chained cuts / 64 rows: %.1f\n", many / few);
-    check(many <= 16 * few, __FILE__, __LINE__, "512 rows take over 16 times as long as 64");
+    medians t = time_both(make_form, &small, &large);
+    printf("a call on 64 rows of chained cuts: %.2f us, on 512 rows: %.2f us\n", 1e6 * t.small, 1e6 * t.large);
+    printf("time for 512 rows of chained cuts / 64 rows: %.1f\n", t.large / t.small);
+    check(t.large <= 16 * t.small, __FILE__, __LINE__, "512 rows take over 16 times as long as 64");
     group_done("speed");
 }
 

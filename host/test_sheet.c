@@ -16,12 +16,12 @@
 
 #define _POSIX_C_SOURCE 199309L /* clock_gettime */
 
-#include <time.h>
 
 #include "guard.h"
 #include "linkwords.h"
 #include "random_table.h"
 #include "reference.h"
+#include "timing.h"
 
 /* Texts. */
 
@@ -979,36 +979,18 @@ static void test_random(unsigned long sheets)
 
 /* Speed. */
 
-enum { TIMES = 101, CALLS = 20 };
-
-static double now(void) /* in seconds */
-{
-    struct timespec t;
-    clock_gettime(CLOCK_MONOTONIC, &t);
-    return (double)t.tv_sec + 1e-9 * (double)t.tv_nsec;
-}
-
-static int by_size(const void *a, const void *b)
-{
-    double x = *(const double *)a, y = *(const double *)b;
-    return (x > y) - (x < y);
-}
-
-static double call_time(const text *t)
+static void read_text(const void *input)
 {
     static uint16_t numbers[2048];
-    double start = now();
-    for (int i = 0; i < CALLS; i++)
-        lw_read_sheet(t->bytes, t->len, numbers, 2048);
-    return (now() - start) / CALLS;
+    const text *t = input;
+    lw_read_sheet(t->bytes, t->len, numbers, 2048);
 }
 
-/* The time grows with the text, not with its square. Both are timed in turn, and the medians compared. */
+/* The time grows with the text, not with its square. */
 static void test_speed(void)
 {
     static text small, large;
     static uint16_t rows[2048];
-    double small_times[TIMES], large_times[TIMES];
 
     small.len = large.len = 0;
     put(&small, NAMES);
@@ -1019,16 +1001,10 @@ static void test_speed(void)
         rows[i] = 65535;
     ACCEPT(ALL_OF(small), rows, 4 * 64);
     ACCEPT(ALL_OF(large), rows, 4 * 512);
-    for (int i = 0; i < TIMES; i++) {
-        small_times[i] = call_time(&small);
-        large_times[i] = call_time(&large);
-    }
-    qsort(small_times, TIMES, sizeof small_times[0], by_size);
-    qsort(large_times, TIMES, sizeof large_times[0], by_size);
-    double few = small_times[TIMES / 2], many = large_times[TIMES / 2];
-    printf("a call on a sheet of 64 lines: %.2f us, of 512 lines: %.2f us\n", 1e6 * few, 1e6 * many);
-    printf("time for 512 lines / 64 lines: %.1f\n", many / few);
-    check(many <= 16 * few, __FILE__, __LINE__, "512 lines take over 16 times as long as 64");
+    medians t = time_both(read_text, &small, &large);
+    printf("a call on a sheet of 64 lines: %.2f us, of 512 lines: %.2f us\n", 1e6 * t.small, 1e6 * t.large);
+    printf("time for 512 lines / 64 lines: %.1f\n", t.large / t.small);
+    check(t.large <= 16 * t.small, __FILE__, __LINE__, "512 lines take over 16 times as long as 64");
     group_done("speed");
 }
 
