@@ -1,0 +1,9 @@
+pub mod Booleans
+pub mod Relabelling
+pub mod Agreement
+pub mod Counting
+pub mod Exact
+pub mod Conflicts
+pub mod Equations
+pub mod Order
+pub mod Theorems

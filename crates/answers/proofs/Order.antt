@@ -1,0 +1,86 @@
+-- What pairs say depends on the assignments that satisfy them alone, so neither on their order nor on the order of their sides.
+use mathlib.Core.Path.{_≡_, refl, sym, _∙_, ap, ap₂}
+use mathlib.Core.Bool.{Bool, true, false, not, _&&_, _||_, cond}
+use mathlib.Core.List.{List, [], _∷_, _++_, map}
+use Prim.Native.Nat.{ℕ, zero, suc, _+_}
+use lib.Dec.{eqb}
+use Rattle.terms.specs.Assignments.{every}
+use Rattle.terms.specs.Table.{bitOf}
+use Rattle.answers.specs.Pairs.{Pair, satisfiesPairs, equals, least, representative, turned}
+use Rattle.answers.proofs.Booleans.{same-test}
+use borrow.Author.Tests.{eqb-true, eq-eqb}
+
+pub every-ext : (n : ℕ) (f g : List ℕ → Bool) → ((p : List ℕ) → f p ≡ g p) → every n f ≡ every n g
+unfolding every
+every-ext zero f g h = h []
+every-ext (suc n) f g h =
+    ap₂ _&&_ (every-ext n (λ p. f (0 ∷ p)) (λ p. g (0 ∷ p)) (λ p. h (0 ∷ p))) (every-ext n (λ p. f (1 ∷ p)) (λ p. g (1 ∷ p)) (λ p. h (1 ∷ p)))
+
+least-ext : (f g : ℕ → Bool) → ((k : ℕ) → f k ≡ g k) → (k d : ℕ) → least f k d ≡ least g k d
+unfolding least
+least-ext f g h k zero = refl
+least-ext f g h k (suc d) = ap₂ (λ (b : Bool) (x : ℕ). cond b k x) (h k) (least-ext f g h (suc k) d)
+
+abbrev pub SaySame : List Pair → List Pair → Type 0
+SaySame qs rs = (p : List ℕ) → satisfiesPairs p qs ≡ satisfiesPairs p rs
+
+pub equals-same : (n : ℕ) (qs rs : List Pair) → SaySame qs rs → (s t : ℕ) → equals n qs s t ≡ equals n rs s t
+unfolding equals
+equals-same n qs rs h s t =
+    every-ext n (λ p. not (satisfiesPairs p qs) || eqb (bitOf p s) (bitOf p t)) (λ p. not (satisfiesPairs p rs) || eqb (bitOf p s) (bitOf p t))
+    (λ p. ap (λ (b : Bool). not b || eqb (bitOf p s) (bitOf p t)) (h p))
+
+pub representative-same : (n : ℕ) (qs rs : List Pair) → SaySame qs rs → (s : ℕ) → representative n qs s ≡ representative n rs s
+unfolding representative
+representative-same n qs rs h s = least-ext (equals n qs s) (equals n rs s) (equals-same n qs rs h s) 0 s
+
+-- pairs in two parts, in either order
+and-swap : (a b : Bool) → a && b ≡ b && a
+and-swap true true = refl
+and-swap true false = refl
+and-swap false true = refl
+and-swap false false = refl
+
+and-group : (a b c : Bool) → a && (b && c) ≡ (a && b) && c
+and-group true b c = refl
+and-group false b c = refl
+
+pub satisfies-append : (p : List ℕ) (qs rs : List Pair) → satisfiesPairs p (qs ++ rs) ≡ satisfiesPairs p qs && satisfiesPairs p rs
+unfolding satisfiesPairs
+satisfies-append p [] rs = refl
+satisfies-append p (q ∷ qs) rs =
+    ap (λ (b : Bool). eqb (bitOf p (q .left)) (bitOf p (q .right)) && b) (satisfies-append p qs rs)
+    ∙ and-group (eqb (bitOf p (q .left)) (bitOf p (q .right))) (satisfiesPairs p qs) (satisfiesPairs p rs)
+
+pub parts-exchanged : (qs rs : List Pair) → SaySame (qs ++ rs) (rs ++ qs)
+parts-exchanged qs rs p =
+    satisfies-append p qs rs ∙ and-swap (satisfiesPairs p qs) (satisfiesPairs p rs) ∙ sym (satisfies-append p rs qs)
+
+-- the sides of each pair, in either order
+eqb-swap : (x y : ℕ) → eqb x y ≡ eqb y x
+eqb-swap x y = same-test (eqb x y) (eqb y x) (λ h. eq-eqb y x (sym (eqb-true x y h))) (λ h. eq-eqb x y (sym (eqb-true y x h)))
+
+pub sides-exchanged : (qs : List Pair) → SaySame (map turned qs) qs
+unfolding satisfiesPairs
+sides-exchanged [] p = refl
+sides-exchanged (q ∷ qs) p = ap₂ _&&_ (eqb-swap (bitOf p (q .right)) (bitOf p (q .left))) (sides-exchanged qs p)
+
+-- the same pairs in another order: neighbours exchanged, any number of times
+pub data Reordered : List Pair → List Pair → Type 0 where
+  unchanged : {qs : List Pair} → Reordered qs qs
+  exchanged : {q r : Pair} {qs : List Pair} → Reordered (q ∷ r ∷ qs) (r ∷ q ∷ qs)
+  behind : {q : Pair} {qs rs : List Pair} → Reordered qs rs → Reordered (q ∷ qs) (q ∷ rs)
+  again : {qs rs ss : List Pair} → Reordered qs rs → Reordered rs ss → Reordered qs ss
+
+and-past : (a b c : Bool) → a && (b && c) ≡ b && (a && c)
+and-past true b c = refl
+and-past false true c = refl
+and-past false false c = refl
+
+pub order-free : {qs rs : List Pair} → Reordered qs rs → SaySame qs rs
+unfolding satisfiesPairs
+order-free unchanged p = refl
+order-free (exchanged {q = q} {r = r} {qs = qs}) p =
+    and-past (eqb (bitOf p (q .left)) (bitOf p (q .right))) (eqb (bitOf p (r .left)) (bitOf p (r .right))) (satisfiesPairs p qs)
+order-free (behind {q = q} h) p = ap (λ (b : Bool). eqb (bitOf p (q .left)) (bitOf p (q .right)) && b) (order-free h p)
+order-free (again h k) p = order-free h p ∙ order-free k p

@@ -1,0 +1,15 @@
+-- `higher` meets its contract, for either order of a and b. Assumes nothing.
+use native.Mathlib.Omega.{arith}
+use Rattle.classes.proofs.higher.Statement.{statement}
+use Rattle.classes.proofs.higher.Tie as tie
+use Rattle.classes.proofs.higher.Reads as reads
+use Rattle.classes.proofs.higher.Lts as lts
+
+returns : tie.Need-returns
+returns c = omega (arith, c .if1 .taken)
+
+returns-2 : tie.Need-returns-2
+returns-2 c = omega (arith, c .if1 .left)
+
+pub higher-spec : {M : Type 1} → statement M
+higher-spec = tie.close (tie.spec returns returns-2)

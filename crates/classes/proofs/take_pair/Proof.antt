@@ -1,0 +1,99 @@
+-- `take_pair` meets its contract, for each of the three that a pair can be. Assumes nothing.
+use mathlib.Core.Path.{_≡_, refl, sym, ap, _∙_}
+use native.Mathlib.Omega.{arith}
+use Rattle.classes.proofs.Roots.{found-rel, taken-is, taken-tie}
+use Rattle.classes.proofs.Links.{link-same, link-conflict}
+use borrow.Author.Needs.{needs}
+use Rattle.classes.proofs.take_pair.Statement.{statement}
+use Rattle.classes.proofs.take_pair.Tie as tie
+use Rattle.classes.proofs.take_pair.Reads as reads
+use Rattle.classes.proofs.take_pair.Lts as lts
+use Rattle.classes.proofs.find.Reads as find-reads
+use Rattle.classes.proofs.higher.Reads as higher-reads
+use Rattle.classes.proofs.lower.Reads as lower-reads
+use Rattle.classes.proofs.put.Reads as put-reads
+use Rattle.terms.proofs.wide.Reads as wide-reads
+
+-- src/lib.rt:68:9
+find-requires : tie.Need-find-requires
+find-requires c κs = tt
+
+-- src/lib.rt:69:9
+find-requires-2 : tie.Need-find-requires-2
+find-requires-2 c κs = tt
+
+-- src/lib.rt:71:9
+same-length : tie.Need-same-length
+same-length c = c .before .before .before .find2 .kept .0 ∙ c .before .before .before .before .before .before .before .find .kept .0
+
+-- src/lib.rt:71:9
+returns : tie.Need-returns
+returns c =
+    let a = c .before .before .before .before .before .before .before .find in
+    let b = c .before .before .before .find2 in
+    λ low hs ht.
+    let f = a .ensures low hs in
+    let g = b .ensures (f .low) (omega (arith, ht, a .kept .0)) in
+    taken-is _ _ _ _ _ low (g .low) (link-same _ (a .last .0) (b .last .0) _ _ (a .result) (b .result) (found-rel _ _ _ _ f) (found-rel _ _ _ _ g) (c .if1 .taken))
+
+-- src/lib.rt:73:9
+higher-requires : tie.Need-higher-requires
+higher-requires c κs = tt
+
+-- src/lib.rt:75:9
+same-length-2 : tie.Need-same-length-2
+same-length-2 c = c .before .before .before .before .before .find2 .kept .0 ∙ c .before .before .before .before .before .before .before .before .before .find .kept .0
+
+-- src/lib.rt:75:9
+returns-2 : tie.Need-returns-2
+returns-2 c =
+    let a = c .before .before .before .before .before .before .before .before .before .find in
+    let b = c .before .before .before .before .before .find2 in
+    λ low hs ht.
+    let f = a .ensures low hs in
+    let g = b .ensures (f .low) (omega (arith, ht, a .kept .0)) in
+    taken-is _ _ _ _ _ low (g .low) (link-conflict _ (a .last .0) (b .last .0) _ _ (a .result) (b .result) (found-rel _ _ _ _ f) (found-rel _ _ _ _ g) (c .before .before .if1 .left) (sym (c .before .higher .ensures) ∙ c .if2 .taken))
+
+-- src/lib.rt:77:16
+wide-requires : tie.Need-wide-requires
+wide-requires c κs = tt
+
+-- src/lib.rt:77:34
+lower-requires : tie.Need-lower-requires
+lower-requires c κs = tt
+
+-- src/lib.rt:77:5
+put-requires : tie.Need-put-requires
+put-requires c κs = tt
+
+-- src/lib.rt:65:1
+same-length-3 : tie.Need-same-length-3
+same-length-3 c = c .before .before .put .kept .0 ∙ c .before .before .before .before .before .before .before .before .before .before .before .find2 .kept .0 ∙ c .before .before .before .before .before .before .before .before .before .before .before .before .before .before .before .find .kept .0
+
+-- src/lib.rt:65:1
+returns-3 : tie.Need-returns-3
+returns-3 c =
+    let a = c .before .before .before .before .before .before .before .before .before .before .before .before .before .before .before .find in
+    let b = c .before .before .before .before .before .before .before .before .before .before .before .find2 in
+    λ low hs ht.
+    let f = a .ensures low hs in
+    let g = b .ensures (f .low) (omega (arith, ht, a .kept .0)) in
+    rw (c .before .before .put .ensures, c .before .before .before .before .wide .ensures .0, c .before .before .before .lower .ensures, c .before .before .before .before .before .before .before .higher .ensures)
+    (taken-tie _ (a .last .0) (b .last .0) _ _ (a .result) (b .result) low (found-rel _ _ _ _ f) (found-rel _ _ _ _ g) (a .kept .0) (b .kept .0) (c .before .before .before .before .before .before .before .before .if1 .left) (λ e. c .before .before .before .before .before .before .if2 .left (c .before .before .before .before .before .before .before .higher .ensures ∙ e)))
+
+pub take-pair-spec : {M : Type 1} → statement M
+take-pair-spec =
+    tie.close
+    (tie.spec
+    find-requires
+    find-requires-2
+    same-length
+    returns
+    higher-requires
+    same-length-2
+    returns-2
+    wide-requires
+    lower-requires
+    put-requires
+    same-length-3
+    returns-3)

@@ -1,0 +1,95 @@
+// Classes of equal bits (document 01, "tied bits") over a lent run of numbers: each source links to a lower one of its class, or to
+// itself. Sources 0 and 1 are the fixed bits, place i is i + 2. Each function takes every input; what it promises of the classes is for
+// links that point down.
+ghost use mathlib.Core.Path.{_≡_};
+ghost use Prim.Native.Nat.{min, max};
+ghost use lib.ListN.{set};
+ghost use Rattle.classes.specs.Links.{numberOf, Finds, Takes, Settles};
+
+fn higher(a: u16, b: u16) -> u16
+    ensures { λ r. ⌜ r ≡ max a b ⌝ }
+{
+    if a < b {
+        return b;
+    }
+    a
+}
+
+fn lower(a: u16, b: u16) -> u16
+    ensures { λ r. ⌜ r ≡ min a b ⌝ }
+{
+    if a < b {
+        return a;
+    }
+    b
+}
+
+// Writes one link, if there is room.
+fn put(links: &mut [u16], i: usize, x: u16)
+    ensures { λ _. ⌜ now (links .exit) ≡ set (now (links .entry)) i x ⌝ }
+{
+    if i < links.len() {
+        links[i] = x;
+    }
+}
+
+// The root of a source; each second link on the way is halved.
+pub fn find(links: &mut [u16], s: u16) -> u16
+    ensures { λ r. ⌜ Finds (now (links .entry)) (now (links .exit)) s r ⌝ }
+{
+    let mut x = terms::wide(s);
+    if links.len() <= x {
+        return s;
+    }
+    let mut p = links[x];
+    while terms::wide(p) < x {
+        let g = links[terms::wide(p)];
+        if p < g {
+            return p;
+        }
+        put(links, x, g);
+        x = terms::wide(g);
+        p = links[x];
+    }
+    x as u16
+}
+
+// What a pair says: nothing new, a tie, or that two different fixed bits meet.
+pub enum Pairing {
+    Nothing,
+    Tie,
+    Conflict,
+}
+
+// Takes the pair of two sources.
+pub fn take_pair(links: &mut [u16], s: u16, t: u16) -> Pairing
+    ensures { λ r. ⌜ Takes (now (links .entry)) (now (links .exit)) s t (numberOf r) ⌝ }
+{
+    let a = find(links, s);
+    let b = find(links, t);
+    if a == b {
+        return Pairing::Nothing;
+    }
+    let top = higher(a, b);
+    if top == 1 {
+        return Pairing::Conflict;
+    }
+    put(links, terms::wide(top), lower(a, b));
+    Pairing::Tie
+}
+
+// The closing sweep: each link its root.
+pub fn settle(links: &mut [u16])
+    ensures { λ _. ⌜ Settles (now (links .entry)) (now (links .exit)) ⌝ }
+{
+    let mut i = 0;
+    while i < links.len() {
+        let v = terms::wide(links[i]);
+        if links.len() <= v {
+            return;
+        }
+        let g = links[v];
+        put(links, i, g);
+        i += 1;
+    }
+}
