@@ -48,7 +48,7 @@ module _ (t : List Row) (p : List ℕ) (sound : Sound t) (whole : length p ≡ b
           ∙ pair-words p (sourceOf t (row .a)) (sourceOf t (row .b)) (source-length t sound (row .a) a ∙ kept-sides t r k e ∙ sym (source-length t sound (row .b) b))
           ∙ sym (ap (satisfiesPairs p) (else-kind (row .kind) [] [] [] [] (paired (sourceOf t (row .a)) (sourceOf t (row .b))) e))
 
-  rows-pairs : (rs : List Row) → ((r : ℕ) → r < length rs → sidesAgree (valuesOf t p) (rowAt rs r) ≡ satisfiesPairs p (pairsOf t (rowAt rs r)))
+  pub rows-pairs : (rs : List Row) → ((r : ℕ) → r < length rs → sidesAgree (valuesOf t p) (rowAt rs r) ≡ satisfiesPairs p (pairsOf t (rowAt rs r)))
       → allRows (sidesAgree (valuesOf t p)) rs ≡ satisfiesAll p (pairsIn t rs)
   unfolding allRows satisfiesAll pairsIn
   rows-pairs [] h = refl

@@ -1,6 +1,6 @@
 -- The executable twin of Pairs.antt: a list that has for each source the lowest of its class, changed pair by pair. The theorems
 -- of this crate say that it comes to the same.
-use mathlib.Core.Bool.{cond}
+use mathlib.Core.Bool.{Bool, cond}
 use mathlib.Core.List.{List, [], _∷_, map}
 use Prim.Native.Nat.{ℕ, zero, suc, _+_, min, max}
 use lib.Dec.{eqb}
@@ -10,6 +10,10 @@ use Rattle.answers.specs.Pairs.{Pair}
 
 abbrev pub rep : List ℕ → ℕ → ℕ
 rep c s = getD c s 0
+
+-- Whether two sources are of one class.
+unfoldable pub inClass : List ℕ → ℕ → ℕ → Bool
+inClass c s t = eqb (rep c s) (rep c t)
 
 unfoldable pub relabel : ℕ → ℕ → ℕ → ℕ
 relabel high low v = cond (eqb v high) low v
@@ -44,3 +48,8 @@ conflictAt c (e ∷ es) = cond (eqb (rep (run c e) 1) 0) 0 (suc (conflictAt (run
 unfoldable pub linksBefore : List ℕ → List (List Pair) → ℕ
 linksBefore c [] = 0
 linksBefore c (e ∷ es) = cond (eqb (rep (run c e) 1) 0) 0 (links c e + linksBefore (run c e) es)
+
+-- Several equations taken one after the other.
+unfoldable pub runAll : List ℕ → List (List Pair) → List ℕ
+runAll c [] = c
+runAll c (e ∷ es) = runAll (run c e) es

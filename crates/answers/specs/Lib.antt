@@ -1,2 +1,5 @@
 pub mod Pairs
 pub mod Classes
+pub mod Answer
+pub mod Systems
+pub mod Solve

@@ -24,15 +24,6 @@ fn lower(a: u16, b: u16) -> u16
     b
 }
 
-// Writes one link, if there is room.
-fn put(links: &mut [u16], i: usize, x: u16)
-    ensures { λ _. ⌜ now (links .exit) ≡ set (now (links .entry)) i x ⌝ }
-{
-    if i < links.len() {
-        links[i] = x;
-    }
-}
-
 // The root of a source; each second link on the way is halved.
 pub fn find(links: &mut [u16], s: u16) -> u16
     ensures { λ r. ⌜ Finds (now (links .entry)) (now (links .exit)) s r ⌝ }
@@ -47,7 +38,7 @@ pub fn find(links: &mut [u16], s: u16) -> u16
         if p < g {
             return p;
         }
-        put(links, x, g);
+        terms::store(links, x, g);
         x = terms::wide(g);
         p = links[x];
     }
@@ -74,7 +65,7 @@ pub fn take_pair(links: &mut [u16], s: u16, t: u16) -> Pairing
     if top == 1 {
         return Pairing::Conflict;
     }
-    put(links, terms::wide(top), lower(a, b));
+    terms::store(links, terms::wide(top), lower(a, b));
     Pairing::Tie
 }
 
@@ -89,7 +80,7 @@ pub fn settle(links: &mut [u16])
             return;
         }
         let g = links[v];
-        put(links, i, g);
+        terms::store(links, i, g);
         i += 1;
     }
 }

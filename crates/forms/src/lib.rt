@@ -41,16 +41,6 @@ fn plus(x: u16, y: u16) -> u16
     ((terms::wide(x) + terms::wide(y)) % 65536) as u16
 }
 
-// A number of a list, 0 past its end.
-fn at(numbers: &[u16], i: usize) -> u16
-    ensures { λ r. ⌜ r ≡ getD (now (numbers .entry)) i 0 ⌝ }
-{
-    if i < numbers.len() {
-        return numbers[i];
-    }
-    0
-}
-
 // Whether two neighbours are one piece.
 fn meet(p: Piece, q: Piece) -> bool
     ensures { λ r. ⌜ r ≡ meets p q ⌝ }
@@ -150,7 +140,7 @@ fn push(out: &mut [u16], n: usize, q: Piece) -> usize
 }
 
 // Appends the normal form of a row.
-fn put_form(
+pub fn put_form(
     table: &[u16],
     widths: &[u16],
     variables: &[u16],
@@ -165,7 +155,7 @@ fn put_form(
     let r = terms::row_at(table, row);
     let kind = r.kind;
     if kind == terms::VARIABLE {
-        let v = at(variables, row);
+        let v = terms::load(variables, row);
         return push(
             out,
             n,
@@ -222,7 +212,7 @@ fn put_cut(
     let r = terms::row_at(table, row);
     let kind = r.kind;
     if kind == terms::VARIABLE {
-        let v = at(variables, row);
+        let v = terms::load(variables, row);
         return push(
             out,
             n,
@@ -266,14 +256,14 @@ fn put_cut(
     if row <= b {
         return n;
     }
-    let right = at(widths, b);
+    let right = terms::load(widths, b);
     if high < right {
         if minus(high, low) == minus(right, 1) {
             return put_form(table, widths, variables, b, out, n);
         }
         return put_cut(table, widths, variables, b, high, low, out, n);
     }
-    let left = at(widths, a);
+    let left = terms::load(widths, a);
     if right <= low {
         if minus(high, low) == minus(left, 1) {
             return put_form(table, widths, variables, a, out, n);
@@ -301,15 +291,6 @@ fn put_cut(
     put_cut(table, widths, variables, b, minus(right, 1), low, out, m)
 }
 
-// Writes one number, if there is room.
-fn put(buffer: &mut [u16], i: usize, x: u16)
-    ensures { λ _. ⌜ now (buffer .exit) ≡ set (now (buffer .entry)) i x ⌝ }
-{
-    if i < buffer.len() {
-        buffer[i] = x;
-    }
-}
-
 // 1 for a variable.
 fn one(kind: u16) -> u16
     ensures { λ r. ⌜ (r ≡ cond (eqb kind 0) 1 0) × (r ≤ 1) ⌝ }
@@ -321,7 +302,7 @@ fn one(kind: u16) -> u16
 }
 
 // For each of the first 512 rows, how many variables stand before it.
-fn number(table: &[u16], variables: &mut [u16])
+pub fn number(table: &[u16], variables: &mut [u16])
     ensures { λ _. ⌜ now (variables .exit) ≡ overwrite (variablesIn (take 512 (rowsOf (now (table .entry))))) (now (variables .entry)) ⌝ }
 {
     let mut count: u16 = 0;
@@ -330,7 +311,7 @@ fn number(table: &[u16], variables: &mut [u16])
         if table.len() / 4 <= r {
             break;
         }
-        put(variables, r, count);
+        terms::store(variables, r, count);
         let row = terms::row_at(table, r);
         count = count + one(row.kind);
         r += 1;

@@ -291,24 +291,15 @@ pub enum Sheet {
     Rows(u16),
 }
 
-// Writes one number, if there is room.
-fn put(table: &mut [u16], i: usize, x: u16)
-    ensures { λ _. ⌜ now (table .exit) ≡ set (now (table .entry)) i x ⌝ }
-{
-    if i < table.len() {
-        table[i] = x;
-    }
-}
-
 // Writes row k of a table, as far as there is room.
 fn put_row(table: &mut [u16], k: u16, row: Row)
     ensures { λ _. ⌜ now (table .exit) ≡ putRow (now (table .entry)) k row ⌝ }
 {
     let at = terms::wide(k) * 4;
-    put(table, at, row.kind);
-    put(table, at + 1, row.a);
-    put(table, at + 2, row.b);
-    put(table, at + 3, row.c);
+    terms::store(table, at, row.kind);
+    terms::store(table, at + 1, row.a);
+    terms::store(table, at + 2, row.b);
+    terms::store(table, at + 3, row.c);
 }
 
 // The lines of values from a place on. Their rows are written to the beginning of a table.
@@ -399,7 +390,7 @@ fn copy(from: &[u16], n: usize, table: &mut [u16])
         if from.len() <= i {
             return;
         }
-        put(table, i, from[i]);
+        terms::store(table, i, from[i]);
         i += 1;
     }
 }

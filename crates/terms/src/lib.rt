@@ -444,7 +444,26 @@ pub fn check(table: &[u16], widths: &mut [u16]) -> Fault
     Fault::Accepted
 }
 
+// A number of a list, 0 past its end.
+pub fn load(numbers: &[u16], i: usize) -> u16
+    ensures { λ r. ⌜ r ≡ getD (now (numbers .entry)) i 0 ⌝ }
+{
+    if i < numbers.len() {
+        return numbers[i];
+    }
+    0
+}
+
 // Writes one number, if there is room.
+pub fn store(buffer: &mut [u16], i: usize, x: u16)
+    ensures { λ _. ⌜ now (buffer .exit) ≡ set (now (buffer .entry)) i x ⌝ }
+{
+    if i < buffer.len() {
+        buffer[i] = x;
+    }
+}
+
+// The same for wider numbers.
 fn put(buffer: &mut [u32], i: usize, x: u32)
     ensures { λ _. ⌜ now (buffer .exit) ≡ set (now (buffer .entry)) i x ⌝ }
 {

@@ -10,7 +10,7 @@ use Rattle.classes.proofs.find.Statement.{statement}
 use Rattle.classes.proofs.find.Tie as tie
 use Rattle.classes.proofs.find.Reads as reads
 use Rattle.classes.proofs.find.Lts as lts
-use Rattle.classes.proofs.put.Reads as put-reads
+use Rattle.terms.proofs.store.Reads as store-reads
 use Rattle.terms.proofs.wide.Reads as wide-reads
 
 abbrev Inv-loop : tie.InvT-loop
@@ -72,8 +72,8 @@ returns-2 c =
     λ low small. absurd (omega (arith, c .if3 .taken, ap (λ (n : ℕ). getD (w .links) n 0) (c .before .before .wide3 .ensures .0), w .inv .4 low small .low (w .p)))
 
 -- src/lib.rt:50:9
-put-requires : tie.Need-put-requires Inv-loop μ-loop
-put-requires c κs = tt
+store-requires : tie.Need-store-requires Inv-loop μ-loop
+store-requires c κs = tt
 
 -- src/lib.rt:51:9
 wide-requires-4 : tie.Need-wide-requires-4 Inv-loop μ-loop
@@ -85,7 +85,7 @@ mul-p-2 c = omega (arith, c .wide4 .ensures .1)
 
 -- src/lib.rt:52:13
 slice-read-p-2 : tie.Need-slice-read-p-2 Inv-loop μ-loop
-slice-read-p-2 c = omega (arith, c .before .wide4 .ensures .0, c .before .before .before .before .before .before .if3 .left, c .before .before .before .before .before .before .before .before .before .if2 .taken, c .before .before .before .before .before .before .before .before .before .before .wide2 .ensures .0, c .before .before .before .before .before .before .before .before .before .before .before .loop .inv .1, c .before .before .before .before .put .kept .0)
+slice-read-p-2 c = omega (arith, c .before .wide4 .ensures .0, c .before .before .before .before .before .before .if3 .left, c .before .before .before .before .before .before .before .before .before .if2 .taken, c .before .before .before .before .before .before .before .before .before .before .wide2 .ensures .0, c .before .before .before .before .before .before .before .before .before .before .before .loop .inv .1, c .before .before .before .before .store .kept .0)
 
 -- src/lib.rt:45:5
 loop-less : tie.Need-loop-less Inv-loop μ-loop
@@ -95,11 +95,11 @@ loop-less c = omega (arith, c .before .wide4 .ensures .0, c .before .before .bef
 loop-again : tie.Need-loop-again Inv-loop μ-loop
 loop-again c =
     let w = c .before .before .before .before .before .before .before .before .before .before .before .loop in (
-      c .before .before .before .before .put .kept .0 ∙ w .inv .0,
-      omega (arith, c .before .wide4 .ensures .0, c .before .before .before .before .before .before .if3 .left, c .before .before .before .before .before .before .before .before .before .if2 .taken, c .before .before .before .before .before .before .before .before .before .before .wide2 .ensures .0, w .inv .1, c .before .before .before .before .put .kept .0),
+      c .before .before .before .before .store .kept .0 ∙ w .inv .0,
+      omega (arith, c .before .wide4 .ensures .0, c .before .before .before .before .before .before .if3 .left, c .before .before .before .before .before .before .before .before .before .if2 .taken, c .before .before .before .before .before .before .before .before .before .before .wide2 .ensures .0, w .inv .1, c .before .before .before .before .store .kept .0),
       omega (arith, c .before .wide4 .ensures .1),
       refl,
-      λ low small. rw (c .before .before .before .before .put .ensures, c .before .wide4 .ensures .0) (finding-more _ (w .links) _ (w .x) (w .p) _ (w .inv .4 low small) (ap (λ (n : ℕ). getD (w .links) n 0) (c .before .before .before .before .before .before .before .before .wide3 .ensures .0))),
+      λ low small. rw (c .before .before .before .before .store .ensures, c .before .wide4 .ensures .0) (finding-more _ (w .links) _ (w .x) (w .p) _ (w .inv .4 low small) (ap (λ (n : ℕ). getD (w .links) n 0) (c .before .before .before .before .before .before .before .before .wide3 .ensures .0))),
     )
 
 -- src/lib.rt:54:5
@@ -135,7 +135,7 @@ find-spec =
     slice-read-g
     same-length
     returns-2
-    put-requires
+    store-requires
     wide-requires-4
     mul-p-2
     slice-read-p-2

@@ -10,7 +10,7 @@ use Rattle.classes.proofs.settle.Statement.{statement}
 use Rattle.classes.proofs.settle.Tie as tie
 use Rattle.classes.proofs.settle.Reads as reads
 use Rattle.classes.proofs.settle.Lts as lts
-use Rattle.classes.proofs.put.Reads as put-reads
+use Rattle.terms.proofs.store.Reads as store-reads
 use Rattle.terms.proofs.wide.Reads as wide-reads
 
 abbrev Inv-loop : tie.InvT-loop
@@ -54,8 +54,8 @@ slice-read-g : tie.Need-slice-read-g Inv-loop μ-loop
 slice-read-g c = omega (arith, c .before .if1 .left)
 
 -- src/lib.rt:92:9
-put-requires : tie.Need-put-requires Inv-loop μ-loop
-put-requires c κs = tt
+store-requires : tie.Need-store-requires Inv-loop μ-loop
+store-requires c κs = tt
 
 -- src/lib.rt:93:9
 add-i : tie.Need-add-i Inv-loop μ-loop
@@ -69,9 +69,9 @@ loop-less c = omega (arith, c .before .before .before .before .before .before .b
 loop-again : tie.Need-loop-again Inv-loop μ-loop
 loop-again c =
     let w = c .before .before .before .before .before .before .before .before .before .loop in (
-      omega (arith, c .before .before .before .before .before .before .before .before .loop-test .taken, c .before .before .put .kept .0),
-      c .before .before .put .kept .0 ∙ w .inv .1,
-      λ low. rw (c .before .before .put .ensures, c .before .before .before .before .before .before .wide .ensures .0) (swept-more _ (w .links) (w .i) (omega (arith, c .before .before .before .before .before .before .before .before .loop-test .taken)) low (w .inv .2 low)),
+      omega (arith, c .before .before .before .before .before .before .before .before .loop-test .taken, c .before .before .store .kept .0),
+      c .before .before .store .kept .0 ∙ w .inv .1,
+      λ low. rw (c .before .before .store .ensures, c .before .before .before .before .before .before .wide .ensures .0) (swept-more _ (w .links) (w .i) (omega (arith, c .before .before .before .before .before .before .before .before .loop-test .taken)) low (w .inv .2 low)),
     )
 
 -- src/lib.rt:82:1
@@ -96,7 +96,7 @@ settle-spec =
     returns
     mul-g
     slice-read-g
-    put-requires
+    store-requires
     add-i
     loop-less
     loop-again

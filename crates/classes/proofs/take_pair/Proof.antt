@@ -11,7 +11,7 @@ use Rattle.classes.proofs.take_pair.Lts as lts
 use Rattle.classes.proofs.find.Reads as find-reads
 use Rattle.classes.proofs.higher.Reads as higher-reads
 use Rattle.classes.proofs.lower.Reads as lower-reads
-use Rattle.classes.proofs.put.Reads as put-reads
+use Rattle.terms.proofs.store.Reads as store-reads
 use Rattle.terms.proofs.wide.Reads as wide-reads
 
 -- src/lib.rt:68:9
@@ -63,12 +63,12 @@ lower-requires : tie.Need-lower-requires
 lower-requires c κs = tt
 
 -- src/lib.rt:77:5
-put-requires : tie.Need-put-requires
-put-requires c κs = tt
+store-requires : tie.Need-store-requires
+store-requires c κs = tt
 
 -- src/lib.rt:65:1
 same-length-3 : tie.Need-same-length-3
-same-length-3 c = c .before .before .put .kept .0 ∙ c .before .before .before .before .before .before .before .before .before .before .before .find2 .kept .0 ∙ c .before .before .before .before .before .before .before .before .before .before .before .before .before .before .before .find .kept .0
+same-length-3 c = c .before .before .store .kept .0 ∙ c .before .before .before .before .before .before .before .before .before .before .before .find2 .kept .0 ∙ c .before .before .before .before .before .before .before .before .before .before .before .before .before .before .before .find .kept .0
 
 -- src/lib.rt:65:1
 returns-3 : tie.Need-returns-3
@@ -78,7 +78,7 @@ returns-3 c =
     λ low hs ht.
     let f = a .ensures low hs in
     let g = b .ensures (f .low) (omega (arith, ht, a .kept .0)) in
-    rw (c .before .before .put .ensures, c .before .before .before .before .wide .ensures .0, c .before .before .before .lower .ensures, c .before .before .before .before .before .before .before .higher .ensures)
+    rw (c .before .before .store .ensures, c .before .before .before .before .wide .ensures .0, c .before .before .before .lower .ensures, c .before .before .before .before .before .before .before .higher .ensures)
     (taken-tie _ (a .last .0) (b .last .0) _ _ (a .result) (b .result) low (found-rel _ _ _ _ f) (found-rel _ _ _ _ g) (a .kept .0) (b .kept .0) (c .before .before .before .before .before .before .before .before .if1 .left) (λ e. c .before .before .before .before .before .before .if2 .left (c .before .before .before .before .before .before .before .higher .ensures ∙ e)))
 
 pub take-pair-spec : {M : Type 1} → statement M
@@ -94,6 +94,6 @@ take-pair-spec =
     returns-2
     wide-requires
     lower-requires
-    put-requires
+    store-requires
     same-length-3
     returns-3)

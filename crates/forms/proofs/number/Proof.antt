@@ -13,8 +13,8 @@ use Rattle.forms.proofs.number.Tie as tie
 use Rattle.forms.proofs.number.Reads as reads
 use Rattle.forms.proofs.number.Lts as lts
 use Rattle.forms.proofs.one.Reads as one-reads
-use Rattle.forms.proofs.put.Reads as put-reads
-use Rattle.terms.proofs.row_at.Reads as row-at-reads
+use Rattle.terms.proofs.store.Reads as store-reads
+use Rattle.terms.proofs.row_at.Reads as row-load-reads
 
 abbrev Inv-loop : tie.InvT-loop
 Inv-loop table variables₀ count₀ r₀ variables count r = (r ≤ 512) × Numbering table variables₀ variables count r
@@ -25,8 +25,8 @@ abbrev μ-loop : tie.MeasureT-loop
 loop-holds : tie.Need-loop-holds Inv-loop μ-loop
 loop-holds c = (omega arith, numbering-first _ _)
 
-put-requires : tie.Need-put-requires Inv-loop μ-loop
-put-requires c κs = tt
+store-requires : tie.Need-store-requires Inv-loop μ-loop
+store-requires c κs = tt
 
 row-at-requires : tie.Need-row-at-requires Inv-loop μ-loop
 row-at-requires c κs = tt
@@ -46,7 +46,7 @@ loop-less c = omega arith
 loop-again : tie.Need-loop-again Inv-loop μ-loop
 loop-again c =
     let l : c .before .before .before .before .before .before .before .before .loop .r < length (rowsOf (now (c .before .before .before .before .before .before .before .before .before .before .before .args .table))) = omega (arith, rows-length (now (c .before .before .before .before .before .before .before .before .before .before .before .args .table)), c .before .before .before .before .before .before .if1 .left) in
-    (omega arith, numbering-more _ _ _ _ _ (c .before .before .before .before .before .before .before .before .loop .inv .1) l _ _ _ (c .before .row-at .ensures) (c .one .ensures .0) (c .one .ensures .1) (c .before .before .before .before .put .ensures))
+    (omega arith, numbering-more _ _ _ _ _ (c .before .before .before .before .before .before .before .before .loop .inv .1) l _ _ _ (c .before .row-at .ensures) (c .one .ensures .0) (c .one .ensures .1) (c .before .before .before .before .store .ensures))
 
 same-length : tie.Need-same-length Inv-loop μ-loop
 same-length c = numbering-length _ _ _ _ _ (c .before .loop .inv .1)
@@ -67,7 +67,7 @@ number-spec =
     Inv-loop
     μ-loop
     loop-holds
-    put-requires
+    store-requires
     row-at-requires
     one-requires
     add-count

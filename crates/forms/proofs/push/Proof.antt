@@ -16,7 +16,7 @@ use Rattle.forms.proofs.push.Reads as reads
 use Rattle.forms.proofs.push.Lts as lts
 use Rattle.forms.proofs.meet.Reads as meet-reads
 use Rattle.forms.proofs.merge.Reads as merge-reads
-use Rattle.forms.proofs.piece_at.Reads as piece-at-reads
+use Rattle.forms.proofs.piece_at.Reads as piece-load-reads
 use Rattle.forms.proofs.put_piece.Reads as put-piece-reads
 
 returns : tie.Need-returns

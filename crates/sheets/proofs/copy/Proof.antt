@@ -11,7 +11,7 @@ use Rattle.sheets.proofs.copy.Statement.{statement}
 use Rattle.sheets.proofs.copy.Tie as tie
 use Rattle.sheets.proofs.copy.Reads as reads
 use Rattle.sheets.proofs.copy.Lts as lts
-use Rattle.sheets.proofs.put.Reads as put-reads
+use Rattle.terms.proofs.store.Reads as store-reads
 
 abbrev Inv-loop : tie.InvT-loop
 Inv-loop from n table₀ i₀ table i = (i ≤ n) × (i ≤ length from) × (length table ≡ length table₀) × (table ≡ overwrite (take i from) table₀)
@@ -31,14 +31,14 @@ returns c =
     let k = c .before .before .loop .inv in
     k .3 ∙ ap (λ (l : List ℕ). overwrite l (now (c .before .before .before .before .before .args .table))) (copy-short (now (c .before .before .before .before .before .args .from)) (c .before .before .loop .i) (c .before .before .before .before .before .args .n) (c .if1 .taken) (k .0))
 
-mul-put : tie.Need-mul-put Inv-loop μ-loop
-mul-put c = omega arith
+mul-store : tie.Need-mul-store Inv-loop μ-loop
+mul-store c = omega arith
 
-shared-slice-read-put : tie.Need-shared-slice-read-put Inv-loop μ-loop
-shared-slice-read-put c = omega (arith, c .before .before .if1 .left)
+shared-slice-read-store : tie.Need-shared-slice-read-store Inv-loop μ-loop
+shared-slice-read-store c = omega (arith, c .before .before .if1 .left)
 
-put-requires : tie.Need-put-requires Inv-loop μ-loop
-put-requires c κs = tt
+store-requires : tie.Need-store-requires Inv-loop μ-loop
+store-requires c κs = tt
 
 add-i : tie.Need-add-i Inv-loop μ-loop
 add-i c = omega (arith, c .before .before .before .before .before .before .loop-test .taken)
@@ -51,8 +51,8 @@ loop-again c =
     let k = c .before .before .before .before .before .before .before .loop .inv in (
       omega (arith, c .before .before .before .before .before .before .loop-test .taken),
       omega (arith, c .before .before .before .before .before .if1 .left),
-      c .before .before .put .kept .0 ∙ k .2,
-      copy-more _ _ _ _ (c .before .before .before .before .before .before .before .loop .i) (c .before .before .before .before .before .if1 .left) (k .3) (c .before .before .put .ensures),
+      c .before .before .store .kept .0 ∙ k .2,
+      copy-more _ _ _ _ (c .before .before .before .before .before .before .before .loop .i) (c .before .before .before .before .before .if1 .left) (k .3) (c .before .before .store .ensures),
     )
 
 same-length-2 : tie.Need-same-length-2 Inv-loop μ-loop
@@ -73,9 +73,9 @@ copy-spec =
     loop-holds
     same-length
     returns
-    mul-put
-    shared-slice-read-put
-    put-requires
+    mul-store
+    shared-slice-read-store
+    store-requires
     add-i
     loop-less
     loop-again

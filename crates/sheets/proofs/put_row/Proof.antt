@@ -9,7 +9,7 @@ use Rattle.sheets.proofs.put_row.Statement.{statement}
 use Rattle.sheets.proofs.put_row.Tie as tie
 use Rattle.sheets.proofs.put_row.Reads as reads
 use Rattle.sheets.proofs.put_row.Lts as lts
-use Rattle.sheets.proofs.put.Reads as put-reads
+use Rattle.terms.proofs.store.Reads as store-reads
 use Rattle.terms.proofs.wide.Reads as wide-reads
 
 wide-requires : tie.Need-wide-requires
@@ -18,26 +18,26 @@ wide-requires c κs = search needs
 mul-at : tie.Need-mul-at
 mul-at c = search needs
 
-put-requires : tie.Need-put-requires
-put-requires c κs = search needs
+store-requires : tie.Need-store-requires
+store-requires c κs = search needs
 
-add-put : tie.Need-add-put
-add-put c = search needs
+add-store : tie.Need-add-store
+add-store c = search needs
 
-put-requires-2 : tie.Need-put-requires-2
-put-requires-2 c κs = search needs
+store-requires-2 : tie.Need-store-requires-2
+store-requires-2 c κs = search needs
 
-add-put-2 : tie.Need-add-put-2
-add-put-2 c = search needs
+add-store-2 : tie.Need-add-store-2
+add-store-2 c = search needs
 
-put-requires-3 : tie.Need-put-requires-3
-put-requires-3 c κs = search needs
+store-requires-3 : tie.Need-store-requires-3
+store-requires-3 c κs = search needs
 
-add-put-3 : tie.Need-add-put-3
-add-put-3 c = search needs
+add-store-3 : tie.Need-add-store-3
+add-store-3 c = search needs
 
-put-requires-4 : tie.Need-put-requires-4
-put-requires-4 c κs = search needs
+store-requires-4 : tie.Need-store-requires-4
+store-requires-4 c κs = search needs
 
 same-length : tie.Need-same-length
 same-length c = search needs
@@ -48,9 +48,9 @@ returns c =
     let w = c .before .before .before .before .before .before .before .before .before .before .before .before .before .before .before .before .wide .result in
     let row = c .before .before .before .before .before .before .before .before .before .before .before .before .before .before .before .before .before .before .args .row in
     rw (← c .before .before .before .before .before .before .before .before .before .before .before .before .before .before .before .before .wide .ensures .0)
-    (c .before .before .put4 .ensures
+    (c .before .before .store4 .ensures
     ∙ ap (λ (o : List ℕ). set o (w * 4 + 3) (row .c))
-    (c .before .before .before .before .before .before .put3 .ensures ∙ ap (λ (o : List ℕ). set o (w * 4 + 2) (row .b)) (c .before .before .before .before .before .before .before .before .before .before .put2 .ensures ∙ ap (λ (o : List ℕ). set o (w * 4 + 1) (row .a)) (c .before .before .before .before .before .before .before .before .before .before .before .before .before .before .put .ensures))))
+    (c .before .before .before .before .before .before .store3 .ensures ∙ ap (λ (o : List ℕ). set o (w * 4 + 2) (row .b)) (c .before .before .before .before .before .before .before .before .before .before .store2 .ensures ∙ ap (λ (o : List ℕ). set o (w * 4 + 1) (row .a)) (c .before .before .before .before .before .before .before .before .before .before .before .before .before .before .store .ensures))))
 
 pub put-row-spec : {M : Type 1} → statement M
 put-row-spec =
@@ -58,12 +58,12 @@ put-row-spec =
     (tie.spec
     wide-requires
     mul-at
-    put-requires
-    add-put
-    put-requires-2
-    add-put-2
-    put-requires-3
-    add-put-3
-    put-requires-4
+    store-requires
+    add-store
+    store-requires-2
+    add-store-2
+    store-requires-3
+    add-store-3
+    store-requires-4
     same-length
     returns)

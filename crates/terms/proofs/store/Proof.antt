@@ -1,12 +1,12 @@
--- `put` meets its contract: a store past the end changes nothing. Assumes nothing.
+-- `store` meets its contract: a store past the end changes nothing. Assumes nothing.
 use lib.Seq.{set-out}
 use denote.Ref.{now}
 use mathlib.Core.Path.{sym}
 use borrow.Author.Needs.{needs}
-use Rattle.forms.proofs.put.Statement.{statement}
-use Rattle.forms.proofs.put.Tie as tie
-use Rattle.forms.proofs.put.Reads as reads
-use Rattle.forms.proofs.put.Lts as lts
+use Rattle.terms.proofs.store.Statement.{statement}
+use Rattle.terms.proofs.store.Tie as tie
+use Rattle.terms.proofs.store.Reads as reads
+use Rattle.terms.proofs.store.Lts as lts
 
 mul-buffer : tie.Need-mul-buffer
 mul-buffer c = search needs
@@ -23,5 +23,5 @@ returns c = search needs
 returns-2 : tie.Need-returns-2
 returns-2 c = sym (set-out (now (c .before .args .buffer)) (c .before .args .i) (c .before .args .x) (c .if1 .left))
 
-pub put-spec : {M : Type 1} → statement M
-put-spec = tie.close (tie.spec mul-buffer slice-write-buffer same-length returns returns-2)
+pub store-spec : {M : Type 1} → statement M
+store-spec = tie.close (tie.spec mul-buffer slice-write-buffer same-length returns returns-2)

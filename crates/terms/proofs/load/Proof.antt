@@ -1,12 +1,12 @@
--- `at` meets its contract. Assumes nothing.
+-- `load` meets its contract. Assumes nothing.
 use denote.Ref.{now}
 use lib.ListN.{List·getD-eq-default}
 use mathlib.Core.Path.{sym}
 use borrow.Author.Needs.{needs}
-use Rattle.forms.proofs.at.Statement.{statement}
-use Rattle.forms.proofs.at.Tie as tie
-use Rattle.forms.proofs.at.Reads as reads
-use Rattle.forms.proofs.at.Lts as lts
+use Rattle.terms.proofs.load.Statement.{statement}
+use Rattle.terms.proofs.load.Tie as tie
+use Rattle.terms.proofs.load.Reads as reads
+use Rattle.terms.proofs.load.Lts as lts
 
 mul-result : tie.Need-mul-result
 mul-result c = search needs
@@ -20,5 +20,5 @@ returns c = search needs
 returns-2 : tie.Need-returns-2
 returns-2 c = sym (List·getD-eq-default (now (c .before .args .numbers)) 0 (c .if1 .left))
 
-pub at-spec : {M : Type 1} → statement M
-at-spec = tie.close (tie.spec mul-result shared-slice-read-result returns returns-2)
+pub load-spec : {M : Type 1} → statement M
+load-spec = tie.close (tie.spec mul-result shared-slice-read-result returns returns-2)

@@ -1,0 +1,230 @@
+-- Demands 2 and 3, for every accepted table. They speak of the definitions in specs/ alone; the solver's contract is an equation with
+-- the same definitions. Assumes nothing.
+use mathlib.Core.Path.{_≡_, refl, sym, _∙_, ap, ap₂, subst}
+use mathlib.Core.Logic.{_⊎_, inl, inr, _≢_}
+use mathlib.Core.Bool.{Bool, true, false, not, cond}
+use mathlib.Core.List.{List, [], _∷_, reverse}
+use Prim.Native.Nat.{ℕ, zero, suc, _+_, _^_, _≤_, _<_}
+use native.Mathlib.Omega.{arith}
+use lib.ListN.{length, drop}
+use borrow.Author.Tests.{not-true}
+use Rattle.terms.specs.declared.Row.{Row}
+use Rattle.terms.specs.declared.Record.{Record}
+use Rattle.terms.specs.declared.Fault.the-variants.{Accepted}
+use Rattle.terms.specs.Assignments.{Assignment, every, count}
+use Rattle.terms.specs.Faults.{firstFault}
+use Rattle.terms.specs.Table.{rowsOf, bitsOf, satisfies}
+use Rattle.terms.proofs.Assignments.{every-at, every-of, count-none-of, count-none-at, count-all-of, count-all-at}
+use Rattle.answers.specs.Pairs.{Pair, pairsIn, satisfiesPairs}
+use Rattle.answers.specs.Classes.{rep, inClass, roots}
+use Rattle.answers.specs.Answer.{AnswerRow, equalUnder, variableWidths, begins, answerRows, freshPieces, freeBits, instantiate}
+use Rattle.answers.specs.Systems.{Part, SolvedSystem, freshCount, systemBits, Filling, Gives}
+use Rattle.answers.specs.Solve.{valid, unsatisfiable, pairsTogether, tiesTo, solvedRows, answerRecord}
+use Rattle.answers.proofs.Agreement.{Represents, satisfies-reverse}
+use Rattle.answers.proofs.Slots.{fresh}
+use Rattle.answers.proofs.OurPieces.{mark}
+use Rattle.answers.proofs.FreeBits.{free-widths}
+use Rattle.answers.proofs.GeneralSystems.{widthSum, minimal-system}
+use Rattle.answers.proofs.Instantiating.{fresh-pieces, free-bits, filling-satisfies, fillingOf, filling-bits, filling-gives, filling-unique}
+use Rattle.answers.proofs.Variables.{widths-sum, begins-first, begins-behind, system-bits}
+use Rattle.answers.proofs.Tables.{tableClasses, represent, satisfies-is, apart-one, solved-rows, table-count, roots-ties, valid-to, valid-of, every-same, equal-same, not-valid}
+
+-- The one filling of the rows that gives an assignment.
+pub record TheFilling (rows : List AnswerRow) (p : List ℕ) : Type 0 where
+  pub filling : List ℕ
+  pub bits : Assignment (freeBits rows) filling
+  pub gives : instantiate rows filling ≡ p
+  pub only : (g : List ℕ) → Assignment (freeBits rows) g → instantiate rows g ≡ p → g ≡ filling
+
+-- Demand 2: every filling of the fresh pieces gives an assignment that satisfies the table, and each that does comes from exactly one.
+pub record Demand2 (t : List Row) : Type 0 where
+  pub every-filling : (f : List ℕ) → Assignment (freeBits (solvedRows t)) f
+      → Assignment (bitsOf t) (instantiate (solvedRows t) f) × (satisfies t (instantiate (solvedRows t) f) ≡ true)
+  pub one-filling : (p : List ℕ) → Assignment (bitsOf t) p → satisfies t p ≡ true → TheFilling (solvedRows t) p
+
+-- Demand 3: the number of assignments that satisfy the table is zero exactly when the answer is never, all of them exactly when it is
+-- always, and otherwise two to the power of free, the fresh pieces' summed widths, each piece once. Then fresh is the number of fresh
+-- pieces in the answer's rows, and no solved system with the same patterns has fewer.
+pub record Demand3 (t : List Row) : Type 0 where
+  pub one-of-three : answerRecord t .outcome ≤ 2
+  pub never-of : count (bitsOf t) (satisfies t) ≡ 0 → answerRecord t .outcome ≡ 1
+  pub never-to : answerRecord t .outcome ≡ 1 → count (bitsOf t) (satisfies t) ≡ 0
+  pub always-of : count (bitsOf t) (satisfies t) ≡ 2 ^ bitsOf t → answerRecord t .outcome ≡ 0
+  pub always-to : answerRecord t .outcome ≡ 0 → count (bitsOf t) (satisfies t) ≡ 2 ^ bitsOf t
+  pub solved-count : answerRecord t .outcome ≡ 2 → count (bitsOf t) (satisfies t) ≡ 2 ^ answerRecord t .free
+  pub solved-fresh : answerRecord t .outcome ≡ 2 → answerRecord t .fresh ≡ freshPieces (solvedRows t)
+  pub solved-free : answerRecord t .outcome ≡ 2 → answerRecord t .free ≡ freeBits (solvedRows t)
+  pub fewest : answerRecord t .outcome ≡ 2 → (sides : List (List Part)) → SolvedSystem (variableWidths t) sides → Gives (bitsOf t) (satisfies t) sides
+      → answerRecord t .fresh ≤ freshCount sides
+  pub free-and-ties : answerRecord t .outcome ≢ 1 → answerRecord t .free + answerRecord t .ties ≡ bitsOf t
+
+-- which of the three
+data Which (t : List Row) : Type 0 where
+  always : valid t ≡ true → answerRecord t .outcome ≡ 0 → Which t
+  never : unsatisfiable t ≡ true → answerRecord t .outcome ≡ 1 → Which t
+  solved : valid t ≡ false → unsatisfiable t ≡ false → answerRecord t .outcome ≡ 2 → Which t
+
+which : (t : List Row) → Which t
+unfolding answerRecord
+which t = go (valid t) refl (unsatisfiable t) refl
+  where
+    go : (a : Bool) → valid t ≡ a → (b : Bool) → unsatisfiable t ≡ b → Which t
+    go true h b k = always h (rw h)
+    go false h true k = never k (rw (h, k))
+    go false h false k = solved h k (rw (h, k))
+
+module _ (table : List ℕ) (accepted : firstFault table ≡ Accepted) where
+  abbrev t : List Row
+  t = rowsOf table
+
+  abbrev n : ℕ
+  n = bitsOf (rowsOf table)
+
+  abbrev ws : List ℕ
+  ws = variableWidths (rowsOf table)
+
+  abbrev c : List ℕ
+  c = tableClasses table accepted
+
+  abbrev seen : List Pair
+  seen = reverse (pairsTogether (pairsIn (rowsOf table) (rowsOf table)))
+
+  abbrev inv : Represents n c seen
+  inv = represent table accepted
+
+  begin : begins ws 0 ≡ true
+  begin = begins-first ws
+
+  last : begins ws n ≡ true
+  last = ap (begins ws) (sym (widths-sum t)) ∙ begins-behind ws
+
+  by-seen : (p : List ℕ) → Assignment n p → satisfies t p ≡ satisfiesPairs p seen
+  by-seen p a = satisfies-is table accepted p a ∙ sym (satisfies-reverse p (pairsTogether (pairsIn t t)))
+
+  module _ (some : unsatisfiable (rowsOf table) ≡ false) where
+    abbrev one : rep c 1 ≡ 1
+    one = apart-one table accepted some
+
+    rows-are : solvedRows t ≡ answerRows n ws (inClass c)
+    rows-are = solved-rows table accepted some
+
+    -- the fresh bits are the places that represent themselves
+    free-are : freeBits (solvedRows t) ≡ roots 2 (drop 2 c)
+    free-are = ap freeBits rows-are ∙ free-bits n c seen inv one ws begin last ∙ sym (free-widths n c seen inv one (begins ws) begin last)
+
+    fresh-are : freshPieces (solvedRows t) ≡ fresh n (begins ws) (λ i. rep c (suc (suc i)))
+    unfolding fresh mark
+    fresh-are = ap freshPieces rows-are ∙ fresh-pieces n c seen inv one ws begin last
+
+    pub filled-2 : Demand2 t
+    filled-2 =
+        record {
+          every-filling = λ f a.
+              let h = filling-satisfies n c seen inv one ws begin last f (subst (λ (rows : List AnswerRow). Assignment (freeBits rows) f) rows-are a) in
+              rw rows-are (h .0, by-seen (instantiate (answerRows n ws (inClass c)) f) (h .0) ∙ h .1);
+          one-filling = λ p a s. rw rows-are (the-one p a (sym (by-seen p a) ∙ s));
+        }
+      where
+        the-one : (p : List ℕ) → Assignment n p → satisfiesPairs p seen ≡ true → TheFilling (answerRows n ws (inClass c)) p
+        the-one p a s =
+            let f = fillingOf n c seen inv one ws begin last p a s in
+            let b = filling-bits n c seen inv one ws begin last p a s in
+            let g = filling-gives n c seen inv one ws begin last p a s in
+            record {
+              filling = f;
+              bits = b;
+              gives = g;
+              only = λ h d e. filling-unique n c seen inv one ws begin last h f d b (e ∙ sym g);
+            }
+
+    counted : count n (satisfies t) ≡ 2 ^ freeBits (solvedRows t)
+    counted = table-count table accepted some ∙ ap (λ (x : ℕ). 2 ^ x) (sym free-are)
+
+    summed : freeBits (solvedRows t) + tiesTo t (length t) ≡ n
+    summed = ap (λ (x : ℕ). x + tiesTo t (length t)) free-are ∙ roots-ties table accepted some
+
+    least-many : (sides : List (List Part)) → SolvedSystem ws sides → Gives n (satisfies t) sides → freshPieces (solvedRows t) ≤ freshCount sides
+    least-many sides S G =
+        omega (
+          arith,
+          fresh-are,
+          minimal-system n c seen inv one ws (widths-sum t) sides S (record {
+            passes = λ φ h. let a : Assignment n (systemBits φ sides) = subst (λ (x : ℕ). Assignment x (systemBits φ sides)) (widths-sum t) (system-bits ws sides S φ h) in
+                sym (by-seen (systemBits φ sides) a) ∙ G .passes φ h;
+            reaches = λ p a s. G .reaches p a (by-seen p a ∙ s);
+          }),
+        )
+
+  -- Demand 2.
+  pub demand-2 : answerRecord t .outcome ≡ 2 → Demand2 t
+  demand-2 e = go (which t)
+    where
+      go : Which t → Demand2 t
+      go (always h o) = absurd (omega (arith, e, o))
+      go (never h o) = absurd (omega (arith, e, o))
+      go (solved h k o) = filled-2 k
+
+  zero-none : unsatisfiable t ≡ true → count n (satisfies t) ≡ 0
+  unfolding unsatisfiable
+  zero-none k = count-none-of n (satisfies t) (λ p a. not-true (satisfies t p) (every-at n (λ p. not (satisfies t p)) k p a))
+
+  none-zero : count n (satisfies t) ≡ 0 → unsatisfiable t ≡ true
+  unfolding unsatisfiable
+  none-zero e = every-of n (λ p. not (satisfies t p)) (λ p a. ap not (count-none-at n (satisfies t) e p a))
+
+  all-whole : valid t ≡ true → count n (satisfies t) ≡ 2 ^ n
+  unfolding valid
+  all-whole h = count-all-of n (satisfies t) (every-at n (satisfies t) h)
+
+  whole-all : count n (satisfies t) ≡ 2 ^ n → valid t ≡ true
+  unfolding valid
+  whole-all e = every-of n (satisfies t) (count-all-at n (satisfies t) e)
+
+  clash : {A : Type 0} (b : Bool) → b ≡ true → b ≡ false → A
+  clash b h k = let z : _≡_ {A = ℕ} 0 1 = cc in absurd (omega arith)
+
+  -- Demand 3.
+  pub demand-3 : Demand3 t
+  unfolding answerRecord
+  demand-3 = go (which t)
+    where
+      go : Which t → Demand3 t
+      go (always h o) =
+          record {
+            one-of-three = omega (arith, o);
+            never-of = λ e. clash (valid t) h (not-valid table accepted (none-zero e));
+            never-to = λ e. absurd (omega (arith, o, e));
+            always-of = λ e. o;
+            always-to = λ e. all-whole h;
+            solved-count = λ e. absurd (omega (arith, o, e));
+            solved-fresh = λ e. absurd (omega (arith, o, e));
+            solved-free = λ e. absurd (omega (arith, o, e));
+            fewest = λ e. absurd (omega (arith, o, e));
+            free-and-ties = λ e. rw h (omega arith);
+          }
+      go (never k o) =
+          record {
+            one-of-three = omega (arith, o);
+            never-of = λ e. o;
+            never-to = λ e. zero-none k;
+            always-of = λ e. clash (valid t) (whole-all e) (not-valid table accepted k);
+            always-to = λ e. absurd (omega (arith, o, e));
+            solved-count = λ e. absurd (omega (arith, o, e));
+            solved-fresh = λ e. absurd (omega (arith, o, e));
+            solved-free = λ e. absurd (omega (arith, o, e));
+            fewest = λ e. absurd (omega (arith, o, e));
+            free-and-ties = λ e. absurd (e o);
+          }
+      go (solved h k o) =
+          record {
+            one-of-three = omega (arith, o);
+            never-of = λ e. clash (unsatisfiable t) (none-zero e) k;
+            never-to = λ e. absurd (omega (arith, o, e));
+            always-of = λ e. clash (valid t) (whole-all e) h;
+            always-to = λ e. absurd (omega (arith, o, e));
+            solved-count = λ e. rw (h, k) (counted k);
+            solved-fresh = λ e. rw (h, k) refl;
+            solved-free = λ e. rw (h, k) refl;
+            fewest = λ e sides S G. rw (h, k) (least-many k sides S G);
+            free-and-ties = λ e. rw (h, k) (summed k);
+          }

@@ -1,0 +1,243 @@
+-- Every solved system with the same patterns has as many fresh pieces, or more.
+use mathlib.Core.Path.{_≡_, refl, sym, ap, ap₂, _∙_, subst}
+use mathlib.Core.Logic.{_⊎_, inl, inr, _≢_}
+use mathlib.Core.Bool.{Bool, true, false, not, _&&_, _||_, cond, and-true, and-false}
+use mathlib.Core.List.{List, [], _∷_, _++_, map, reverse, reverseAux}
+use Prim.Native.Nat.{ℕ, zero, suc, _+_, _-_, _^_, _≤_, _<_, pred}
+use native.Mathlib.Omega.{arith}
+use lib.Dec.{eqb, ltb, leb}
+use lib.ListN.{length, getD, drop, List·getD-eq-default}
+use borrow.Author.Tests.{eqb-true, eqb-false, eq-eqb, ne-eqb, ltb-true, ltb-false, leb-true, leb-false, le-leb, lt-leb, not-true}
+use Rattle.terms.specs.Assignments.{Assignment}
+use Rattle.terms.specs.Table.{bitOf}
+use Rattle.terms.proofs.Assignments.{every-of, assignment-of}
+use Rattle.answers.specs.Pairs.{Pair, satisfiesPairs, equals}
+use Rattle.answers.specs.Classes.{rep}
+use Rattle.answers.specs.Answer.{below, tally, member, distinct}
+use Rattle.answers.proofs.Booleans.{and-first, and-second, and-both, same-test}
+use Rattle.answers.proofs.Relabelling.{dec-eq}
+use Rattle.answers.proofs.Agreement.{Represents, dec-lt, bit-past}
+use Rattle.answers.proofs.Exact.{equals-to}
+use Rattle.answers.proofs.Tallies.{below-of, pigeon}
+use Rattle.answers.proofs.Slots.{equals-from, tab, tab-at, tab-assignment, Slot, fill, part, value, System, loose, glued, heads, fresh}
+
+module _ (n : ℕ) (c : List ℕ) (seen : List Pair) (inv : Represents n c seen) (one : rep c 1 ≡ 1) (start : ℕ → Bool) (last : start n ≡ true) (S : System n start seen) where
+  abbrev C : ℕ → ℕ
+  C i = rep c (suc (suc i))
+
+  pub place-bit : (p : List ℕ) (i : ℕ) → bitOf p (suc (suc i)) ≡ getD p i 0
+  unfolding bitOf
+  place-bit p i = refl
+
+  -- what holds in every pattern is in the classes, and the other way round
+  pub class-i : (s t : ℕ) → ((p : List ℕ) → Assignment n p → satisfiesPairs p seen ≡ true → bitOf p s ≡ bitOf p t) → rep c s ≡ rep c t
+  class-i s t h = equals-to n c seen inv one s t (equals-from n seen s t h)
+
+  pub class-e : (s t : ℕ) → rep c s ≡ rep c t → (p : List ℕ) → Assignment n p → satisfiesPairs p seen ≡ true → bitOf p s ≡ bitOf p t
+  class-e s t e p h m = cc (inv .just p h m s, inv .just p h m t)
+
+  -- one place of the system: one class
+  slot-class : (i j f o : ℕ) → i < n → j < n → S .slot i ≡ part f o → S .slot j ≡ part f o → C i ≡ C j
+  unfolding C
+  slot-class i j f o a b s t =
+      class-i (suc (suc i)) (suc (suc j)) (λ p h m.
+      let k = S .takes p h m in
+      cc (k .1 i a, k .1 j b, place-bit p i, place-bit p j))
+
+  -- the pattern of a filling
+  given : (ℕ → ℕ → ℕ) → List ℕ
+  given φ = tab n (λ i. value φ (S .slot i))
+
+  given-assignment : (φ : ℕ → ℕ → ℕ) → ((f o : ℕ) → φ f o ≤ 1) → Assignment n (given φ)
+  unfolding given
+  given-assignment φ h = tab-assignment n (λ i. value φ (S .slot i)) (λ i. go (S .slot i) (λ b. S .bits i b))
+    where
+      go : (x : Slot) → ((b : ℕ) → x ≡ fill b → b ≤ 1) → value φ x ≤ 1
+      go (fill b) k = k b refl
+      go (part f o) k = h f o
+
+  given-at : (φ : ℕ → ℕ → ℕ) (i : ℕ) → i < n → bitOf (given φ) (suc (suc i)) ≡ value φ (S .slot i)
+  unfolding given
+  given-at φ i l = place-bit (given φ) i ∙ tab-at n (λ j. value φ (S .slot j)) i l
+
+  -- the filling with 1 at bit o of piece f alone
+  mark : ℕ → ℕ → ℕ → ℕ → ℕ
+  mark f o g u = cond (eqb g f && eqb u o) 1 0
+
+  mark-le : (f o g u : ℕ) → mark f o g u ≤ 1
+  unfolding mark
+  mark-le f o g u = go (eqb g f && eqb u o)
+    where
+      go : (t : Bool) → cond {A = ℕ} t 1 0 ≤ 1
+      go true = omega arith
+      go false = omega arith
+
+  mark-self : (f o : ℕ) → mark f o f o ≡ 1
+  unfolding mark
+  mark-self f o = rw (eq-eqb f f refl, eq-eqb o o refl)
+
+  mark-one : (f o g u : ℕ) → mark f o g u ≡ 1 → (g ≡ f) × (u ≡ o)
+  unfolding mark
+  mark-one f o g u e = go (eqb g f) (eqb u o) refl refl e
+    where
+      go : (a b : Bool) → eqb g f ≡ a → eqb u o ≡ b → cond {A = ℕ} (a && b) 1 0 ≡ 1 → (g ≡ f) × (u ≡ o)
+      go true true s t k = (eqb-true g f s, eqb-true u o t)
+      go true false s t k = absurd (omega arith)
+      go false b s t k = absurd (omega arith)
+
+  -- two bits of one class have one value under every filling
+  class-value : (i j : ℕ) → i < n → j < n → C i ≡ C j → (φ : ℕ → ℕ → ℕ) → ((f o : ℕ) → φ f o ≤ 1) → value φ (S .slot i) ≡ value φ (S .slot j)
+  unfolding C given
+  class-value i j a b e φ h = cc (class-e (suc (suc i)) (suc (suc j)) e (given φ) (given-assignment φ h) (S .gives φ h), given-at φ i a, given-at φ j b)
+
+  class-slot : (i j f o : ℕ) → i < n → j < n → C i ≡ C j → S .slot i ≡ part f o → S .slot j ≡ part f o
+  class-slot i j f o a b e s = go (S .slot j) refl
+    where
+      one-at : (φ : ℕ → ℕ → ℕ) → ((f o : ℕ) → φ f o ≤ 1) → φ f o ≡ value φ (S .slot j)
+      one-at φ h = ap (value φ) (sym s) ∙ class-value i j a b e φ h
+
+      go : (x : Slot) → S .slot j ≡ x → S .slot j ≡ part f o
+      go (fill v) t =
+          let k1 : mark f o f o ≡ v = one-at (mark f o) (mark-le f o) ∙ ap (value (mark f o)) t in
+          let k0 : 0 ≡ v = one-at (λ g u. 0) (λ g u. omega arith) ∙ ap (value (λ g u. 0)) t in
+          absurd (omega (arith, mark-self f o))
+      go (part g u) t =
+          let k : mark f o f o ≡ mark f o g u = one-at (mark f o) (mark-le f o) ∙ ap (value (mark f o)) t in
+          let m = mark-one f o g u (sym k ∙ mark-self f o) in
+          cc
+
+  -- the class of a fixed bit
+  pub fixed-class : (b : ℕ) → b ≤ 1 → rep c b ≡ b
+  fixed-class zero l = omega (arith, inv .low 0)
+  fixed-class (suc zero) l = one
+  fixed-class (suc (suc b)) l = absurd (omega arith)
+
+  pub fixed-bit : (p : List ℕ) (b : ℕ) → b ≤ 1 → bitOf p b ≡ b
+  unfolding bitOf
+  fixed-bit p zero l = refl
+  fixed-bit p (suc zero) l = refl
+  fixed-bit p (suc (suc b)) l = absurd (omega arith)
+
+  loose-slot : (i : ℕ) → i < n → 2 ≤ C i → (f : ℕ) × (o : ℕ) × (S .slot i ≡ part f o)
+  unfolding C
+  loose-slot i l h = go (S .slot i) refl
+    where
+      go : (x : Slot) → S .slot i ≡ x → (f : ℕ) × (o : ℕ) × (S .slot i ≡ part f o)
+      go (fill b) t =
+          let s = S .bits i b t in
+          let e = class-i (suc (suc i)) b (λ p k m. let w = S .takes p k m in cc (w .1 i l, place-bit p i, fixed-bit p b s)) in
+          absurd (omega (arith, fixed-class b s))
+      go (part f o) t = (f, o, t)
+
+  part-loose : (i f o : ℕ) → i < n → S .slot i ≡ part f o → 2 ≤ C i
+  unfolding C given
+  part-loose i f o l t = go (dec-lt (C i) 2)
+    where
+      go : (C i < 2) ⊎ (2 ≤ C i) → 2 ≤ C i
+      go (inr h) = h
+      go (inl h) =
+          let b : ℕ = C i in
+          let e : rep c (suc (suc i)) ≡ rep c b = sym (fixed-class b (omega arith)) in
+          let at : (φ : ℕ → ℕ → ℕ) → ((f o : ℕ) → φ f o ≤ 1) → φ f o ≡ b = λ φ k. cc (class-e (suc (suc i)) b e (given φ) (given-assignment φ k) (S .gives φ k), given-at φ i l, fixed-bit (given φ) b (omega arith)) in
+          absurd (omega (arith, mark-self f o, at (mark f o) (mark-le f o), at (λ g u. 0) (λ g u. omega arith)))
+
+  -- where the other system goes on with a piece, so does the rule
+  glue : (i f o : ℕ) → suc i < n → S .slot (suc i) ≡ part f (suc o) → glued n start C i ≡ true
+  unfolding glued
+  glue i f o l t =
+      and-both (a && b && d && below n back) (below n on) (and-both (a && b && d) (below n back) (and-both (a && b) d (and-both a b a1 b1) d1) (below-of n back back1)) (below-of n on on1)
+    where
+      a : Bool
+      a = loose C i
+
+      b : Bool
+      b = loose C (suc i)
+
+      d : Bool
+      d = not (start (suc i))
+
+      back : ℕ → Bool
+      back k = not (eqb (C k) (C (suc i))) || (not (start k) && eqb (C (pred k)) (C i))
+
+      on : ℕ → Bool
+      on k = not (eqb (C k) (C i)) || (not (start (suc k)) && eqb (C (suc k)) (C (suc i)))
+
+      low : (start (suc i) ≡ false) × (S .slot i ≡ part f o)
+      low = S .before i f o l t
+
+      a1 : a ≡ true
+      a1 = le-leb 2 (C i) (part-loose i f o (omega arith) (low .1))
+
+      b1 : b ≡ true
+      b1 = le-leb 2 (C (suc i)) (part-loose (suc i) f (suc o) l t)
+
+      d1 : d ≡ true
+      d1 = rw (low .0)
+
+      back1 : (k : ℕ) → k < n → back k ≡ true
+      back1 k m = go (eqb (C k) (C (suc i))) refl
+        where
+          at : (k : ℕ) → k < n → S .slot k ≡ part f (suc o) → not (start k) && eqb (C (pred k)) (C i) ≡ true
+          at zero m s = absurd (S .first f o s)
+          at (suc k) m s =
+              let u = S .before k f o m s in
+              rw (u .0) (eq-eqb (C k) (C i) (slot-class k i f o (omega arith) (omega arith) (u .1) (low .1)))
+
+          go : (x : Bool) → eqb (C k) (C (suc i)) ≡ x → not x || (not (start k) && eqb (C (pred k)) (C i)) ≡ true
+          go false e = refl
+          go true e = at k m (class-slot (suc i) k f (suc o) l m (sym (eqb-true (C k) (C (suc i)) e)) t)
+
+      on1 : (k : ℕ) → k < n → on k ≡ true
+      on1 k m = go (eqb (C k) (C i)) refl
+        where
+          go : (x : Bool) → eqb (C k) (C i) ≡ x → not x || (not (start (suc k)) && eqb (C (suc k)) (C (suc i))) ≡ true
+          go false e = refl
+          go true e =
+              let s = class-slot i k f o (omega arith) m (sym (eqb-true (C k) (C i) e)) (low .1) in
+              let u = S .after k f o m s (S .inside (suc i) f (suc o) l t .1) in
+              let w : suc k ≢ n = λ q. let z : false ≡ true = sym (u .0) ∙ ap start q ∙ last in let y : _≡_ {A = ℕ} 0 1 = cc in omega arith in
+              rw (u .0) (eq-eqb (C (suc k)) (C (suc i)) (slot-class (suc k) (suc i) f (suc o) (omega arith) l (u .1) t))
+
+  heads-loose : (i : ℕ) → heads n start C i ≡ true → 2 ≤ C i
+  unfolding heads
+  heads-loose zero h = leb-true 2 (C zero) h
+  heads-loose (suc i) h = leb-true 2 (C (suc i)) (and-first (loose C (suc i)) (not (glued n start C i)) h)
+
+  -- the head of a piece of ours is the head of a piece of the system
+  head-zero : (i f o : ℕ) → i < n → heads n start C i ≡ true → S .slot i ≡ part f o → o ≡ 0
+  unfolding heads
+  head-zero i f zero l h t = refl
+  head-zero zero f (suc o) l h t = absurd (S .first f o t)
+  head-zero (suc i) f (suc o) l h t =
+      let g = glue i f o l t in
+      let k = not-true (glued n start C i) (and-second (loose C (suc i)) (not (glued n start C i)) h) in
+      cc
+
+  piece : Slot → ℕ
+  piece (fill b) = 0
+  piece (part f o) = f
+
+  pub minimal : fresh n start C ≤ distinct (S .labels)
+  unfolding fresh piece
+  minimal = pigeon (S .labels) n (λ i. eqb (C i) (suc (suc i)) && heads n start C i) (λ i. piece (S .slot i)) below inj
+    where
+      root : (i : ℕ) → eqb (C i) (suc (suc i)) && heads n start C i ≡ true → C i ≡ suc (suc i)
+      root i h = eqb-true (C i) (suc (suc i)) (and-first (eqb (C i) (suc (suc i))) (heads n start C i) h)
+
+      at : (i : ℕ) → i < n → eqb (C i) (suc (suc i)) && heads n start C i ≡ true → (f : ℕ) × (S .slot i ≡ part f 0)
+      at i l h =
+          let k = and-second (eqb (C i) (suc (suc i))) (heads n start C i) h in
+          let u = loose-slot i l (heads-loose i k) in
+          (u .0, u .2 ∙ ap (part (u .0)) (head-zero i (u .0) (u .1) l k (u .2)))
+
+      below : (i : ℕ) → i < n → eqb (C i) (suc (suc i)) && heads n start C i ≡ true → member (piece (S .slot i)) (S .labels) ≡ true
+      below i l h = let u = at i l h in rw (u .1) (S .inside i (u .0) 0 l (u .1) .0)
+
+      inj : (i j : ℕ) → i < n → j < n → eqb (C i) (suc (suc i)) && heads n start C i ≡ true → eqb (C j) (suc (suc j)) && heads n start C j ≡ true
+          → piece (S .slot i) ≡ piece (S .slot j) → i ≡ j
+      inj i j a b s t e =
+          let u = at i a s in
+          let w = at j b t in
+          let f : u .0 ≡ w .0 = sym (ap piece (u .1)) ∙ e ∙ ap piece (w .1) in
+          let same = slot-class i j (u .0) 0 a b (u .1) (w .1 ∙ ap (λ (x : ℕ). part x 0) (sym f)) in
+          omega (arith, root i s, root j t)

@@ -1,0 +1,164 @@
+-- The right sides of a solved table (document 01, "The solver's answer"), from the widths of the variables and from which bits are
+-- equal. `same s t` says whether two sources are equal in every assignment that satisfies the table; there is no algorithm here.
+use mathlib.Core.Bool.{Bool, true, false, not, _&&_, _||_, cond}
+use mathlib.Core.List.{List, [], _∷_, _++_, reverse}
+use Prim.Native.Nat.{ℕ, zero, suc, _+_, _-_, pred}
+use lib.Dec.{eqb, ltb}
+use lib.ListN.{take, drop, replicate}
+use Rattle.terms.specs.declared.Row.{Row}
+use Rattle.terms.specs.Assignments.{every}
+use Rattle.terms.specs.Table.{bitOf, byKind}
+use Rattle.answers.specs.Pairs.{least}
+
+-- Whether two sources have the same bit in every assignment of n bits that passes a test.
+unfoldable pub equalUnder : ℕ → (List ℕ → Bool) → ℕ → ℕ → Bool
+equalUnder n test s t = every n (λ p. not (test p) || eqb (bitOf p s) (bitOf p t))
+
+-- The widths of the variables of a table, variable 0 first.
+unfoldable pub variableWidths : List Row → List ℕ
+variableWidths [] = []
+variableWidths (r ∷ rs) =
+    byKind (r .kind) (r .a ∷ variableWidths rs) (variableWidths rs) (variableWidths rs) (variableWidths rs) (variableWidths rs)
+
+-- Whether a variable begins at place i, with its high bit; the end of the last variable counts too. And the variable of place i.
+unfoldable pub begins : List ℕ → ℕ → Bool
+begins [] i = true
+begins (w ∷ ws) i = cond (ltb i w) (eqb i 0) (begins ws (i - w))
+
+unfoldable pub variableAt : List ℕ → ℕ → ℕ
+variableAt [] i = 0
+variableAt (w ∷ ws) i = cond (ltb i w) 0 (suc (variableAt ws (i - w)))
+
+-- Whether a test holds at each number below n; at how many it does.
+unfoldable pub below : ℕ → (ℕ → Bool) → Bool
+below zero f = true
+below (suc n) f = f n && below n f
+
+unfoldable pub tally : ℕ → (ℕ → Bool) → ℕ
+tally zero f = 0
+tally (suc n) f = cond (f n) 1 0 + tally n f
+
+abbrev pub implies : Bool → Bool → Bool
+implies a b = not a || b
+
+-- Whether places i and j are tied; whether place i is fixed to the bit b; whether it is unfixed.
+abbrev pub tied : (ℕ → ℕ → Bool) → ℕ → ℕ → Bool
+tied same i j = same (suc (suc i)) (suc (suc j))
+
+abbrev pub fixedTo : (ℕ → ℕ → Bool) → ℕ → ℕ → Bool
+fixedTo same i b = same (suc (suc i)) b
+
+abbrev pub unfixed : (ℕ → ℕ → Bool) → ℕ → Bool
+unfixed same i = not (fixedTo same i 0) && not (fixedTo same i 1)
+
+-- Whether the neighbouring places i and i + 1 lie in one fresh piece: both are unfixed and of one variable, and wherever the tied bits
+-- of either one stand, those of the other stand beside them in the same variable and the same order.
+unfoldable pub contiguous : ℕ → List ℕ → (ℕ → ℕ → Bool) → ℕ → Bool
+contiguous n ws same i =
+    unfixed same i
+    && unfixed same (suc i)
+    && not (begins ws (suc i))
+    && below n (λ k. implies (tied same k (suc i)) (not (begins ws k) && tied same (pred k) i))
+    && below n (λ k. implies (tied same k i) (not (begins ws (suc k)) && tied same (suc k) (suc i)))
+
+-- Whether places i and i + 1 are fixed to the same bit.
+unfoldable pub fixedAlike : (ℕ → ℕ → Bool) → ℕ → Bool
+fixedAlike same i = (fixedTo same i 0 && fixedTo same (suc i) 0) || (fixedTo same i 1 && fixedTo same (suc i) 1)
+
+-- Whether place i goes on with the row of the place before it: a fill as long as the run of its bit within its variable, or a fresh
+-- piece.
+unfoldable pub goesOn : ℕ → List ℕ → (ℕ → ℕ → Bool) → ℕ → Bool
+goesOn n ws same zero = false
+goesOn n ws same (suc i) = not (begins ws (suc i)) && (fixedAlike same i || contiguous n ws same i)
+
+-- The lowest place that is tied to place i.
+unfoldable pub lowest : (ℕ → ℕ → Bool) → ℕ → ℕ
+lowest same i = least (tied same i) 0 i
+
+-- Whether a fresh piece begins at place i that has not appeared before.
+unfoldable pub appears : ℕ → List ℕ → (ℕ → ℕ → Bool) → ℕ → Bool
+appears n ws same i = eqb (lowest same i) i && (unfixed same i && not (goesOn n ws same i))
+
+-- A row of the answer table.
+pub record AnswerRow : Type 0 where
+  pub variable : ℕ
+  pub kind : ℕ
+  pub width : ℕ
+  pub fresh : ℕ
+
+-- A place as a row of one bit: 0 or 1 a fill, 2 a fresh piece. The number of a fresh piece that begins there is how many appear
+-- before it does for the first time.
+unfoldable pub placeRow : ℕ → List ℕ → (ℕ → ℕ → Bool) → ℕ → AnswerRow
+placeRow n ws same i =
+    record {
+      variable = variableAt ws i;
+      kind = cond (fixedTo same i 0) 0 (cond (fixedTo same i 1) 1 2);
+      width = 1;
+      fresh = cond (unfixed same i) (tally (lowest same i) (appears n ws same)) 0;
+    }
+
+-- A row with one bit more.
+abbrev pub widened : AnswerRow → AnswerRow
+widened r = record { variable = r .variable; kind = r .kind; width = suc (r .width); fresh = r .fresh }
+
+-- One place more behind rows that stand last first: the last row goes on, or a row begins.
+unfoldable pub placed : Bool → AnswerRow → List AnswerRow → List AnswerRow
+placed on r [] = r ∷ []
+placed on r (s ∷ rows) = cond on (widened s ∷ rows) (r ∷ s ∷ rows)
+
+-- The rows of the places below i, last first; and the answer's rows.
+unfoldable pub rowsTo : ℕ → List ℕ → (ℕ → ℕ → Bool) → ℕ → List AnswerRow
+rowsTo n ws same zero = []
+rowsTo n ws same (suc i) = placed (goesOn n ws same i) (placeRow n ws same i) (rowsTo n ws same i)
+
+unfoldable pub answerRows : ℕ → List ℕ → (ℕ → ℕ → Bool) → List AnswerRow
+answerRows n ws same = reverse (rowsTo n ws same n)
+
+-- An answer table as it is written: four numbers for each row.
+unfoldable pub answerNumbers : List AnswerRow → List ℕ
+answerNumbers [] = []
+answerNumbers (r ∷ rows) = r .variable ∷ r .kind ∷ r .width ∷ r .fresh ∷ answerNumbers rows
+
+-- How many different numbers a list has.
+unfoldable pub member : ℕ → List ℕ → Bool
+member x [] = false
+member x (y ∷ ys) = eqb x y || member x ys
+
+unfoldable pub distinct : List ℕ → ℕ
+distinct [] = 0
+distinct (x ∷ xs) = cond (member x xs) 0 1 + distinct xs
+
+-- The fresh numbers in a table's rows; how many fresh pieces it has; the width of fresh piece k, from its first row; where its bits
+-- begin among the fresh bits (fresh piece 0 first); and how many fresh bits there are, each piece once.
+abbrev pub isFresh : AnswerRow → Bool
+isFresh r = not (ltb (r .kind) 2)
+
+unfoldable pub freshNumbers : List AnswerRow → List ℕ
+freshNumbers [] = []
+freshNumbers (r ∷ rows) = cond (isFresh r) (r .fresh ∷ freshNumbers rows) (freshNumbers rows)
+
+unfoldable pub freshPieces : List AnswerRow → ℕ
+freshPieces rows = distinct (freshNumbers rows)
+
+unfoldable pub freshWidth : List AnswerRow → ℕ → ℕ
+freshWidth [] k = 0
+freshWidth (r ∷ rows) k = cond (isFresh r && eqb (r .fresh) k) (r .width) (freshWidth rows k)
+
+unfoldable pub freshStart : List AnswerRow → ℕ → ℕ
+freshStart rows zero = 0
+freshStart rows (suc k) = freshStart rows k + freshWidth rows k
+
+unfoldable pub freeBits : List AnswerRow → ℕ
+freeBits rows = freshStart rows (freshPieces rows)
+
+-- The bits of a row of a table at the fresh bits f (a filling): a fill's copies, or those of its fresh piece.
+unfoldable pub rowBits : List AnswerRow → List ℕ → AnswerRow → List ℕ
+rowBits rows f r = cond (isFresh r) (take (r .width) (drop (freshStart rows (r .fresh)) f)) (replicate (r .width) (r .kind))
+
+unfoldable pub bitsOfRows : List AnswerRow → List ℕ → List AnswerRow → List ℕ
+bitsOfRows rows f [] = []
+bitsOfRows rows f (r ∷ rs) = rowBits rows f r ++ bitsOfRows rows f rs
+
+-- The assignment (pattern) that an answer table gives at the fresh bits f.
+unfoldable pub instantiate : List AnswerRow → List ℕ → List ℕ
+instantiate rows f = bitsOfRows rows f rows
