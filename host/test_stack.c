@@ -33,7 +33,9 @@ typedef struct {
     uint16_t form[LW_FORM_NUMBERS];
     uint8_t sheet[LW_MAX_SHEET + 1];
     size_t sheet_len;
-    lw_record record;
+    uint16_t answer[LW_SOLVER_NUMBERS], work[LW_SOLVER_NUMBERS];
+    size_t work_len, rows_in_use, variable;
+    lw_record record; /* of a right side: its length as free */
 } call;
 
 static void add(call *c, size_t kind, size_t a, size_t b, size_t low)
@@ -110,6 +112,99 @@ static void bad_pattern(call *c)
     c->pattern[1023] = 2;
 }
 
+/* Tables to be solved. */
+
+/*
+  Puts an equation in place of the last rows: row 508, which has this width,
+  without its low bit and without its high bit.
+*/
+static void shift(call *c, size_t width)
+{
+    c->table_len = 4 * 509;
+    add(c, LW_CUT, 508, width - 1, 1);
+    add(c, LW_CUT, 508, width - 2, 0);
+    add(c, LW_EQUATION, 509, 510, 0);
+}
+
+static void solve_cuts(call *c)
+{
+    cuts(c);
+    shift(c, 1024);
+}
+
+static void solve_left_joins(call *c)
+{
+    left_joins(c);
+    shift(c, 508);
+}
+
+static void solve_right_joins(call *c)
+{
+    right_joins(c);
+    shift(c, 508);
+}
+
+static void solve_cuts_and_joins(call *c)
+{
+    cuts_and_joins(c);
+    shift(c, 255);
+}
+
+/* 64 variables of 64 bits, joined to four words of 1024 bits, and so many equations between these. */
+static void words(call *c, size_t equations)
+{
+    size_t word[4];
+    for (size_t v = 0; v < 64; v++)
+        add(c, LW_VARIABLE, 64, 0, 0);
+    for (size_t g = 0; g < 4; g++) {
+        word[g] = 16 * g;
+        for (size_t i = 1; i < 16; i++) {
+            add(c, LW_JOIN, word[g], 16 * g + i, 0);
+            word[g] = c->table_len / 4 - 1;
+        }
+    }
+    for (size_t e = 0; e < equations; e++)
+        add(c, LW_EQUATION, word[e % 4], word[(e + 1) % 4], 0);
+}
+
+static void solve_words(call *c)
+{
+    words(c, 64);
+}
+
+/* The last equation cannot be met. */
+static void solve_never(call *c)
+{
+    words(c, 63);
+    add(c, LW_FILL, 0, 1, 0);
+    add(c, LW_FILL, 1, 1, 0);
+    add(c, LW_EQUATION, c->table_len / 4 - 2, c->table_len / 4 - 1, 0);
+}
+
+static void short_work(call *c)
+{
+    words(c, 64);
+    c->work_len--;
+}
+
+/* Answer tables. */
+
+static void all_rows(call *c)
+{
+    c->rows_in_use = LW_SOLVER_NUMBERS / 4;
+}
+
+static void no_such_variable(call *c)
+{
+    all_rows(c);
+    c->variable = 1;
+}
+
+static void too_many_rows(call *c)
+{
+    c->rows_in_use = LW_SOLVER_NUMBERS / 4 + 1;
+}
+
 /* Sheets; their tables are lent whole. */
 
 static void lines(call *c, const char *line, size_t count)
@@ -172,6 +267,8 @@ static void short_output(call *c)
 typedef lw_record value_function(const uint16_t *, size_t, size_t, const uint8_t *, size_t, uint8_t *, size_t);
 typedef lw_record form_function(const uint16_t *, size_t, size_t, uint16_t *, size_t);
 typedef lw_record sheet_function(const uint8_t *, size_t, uint16_t *, size_t);
+typedef lw_record solve_function(const uint16_t *, size_t, uint16_t *, size_t, uint16_t *, size_t);
+typedef lw_part part_function(const uint16_t *, size_t, size_t, size_t);
 
 enum { STACK = 1 << 20 };
 
@@ -212,9 +309,28 @@ static lw_record sheet_entry(const uint8_t *sheet, size_t sheet_len, uint16_t *t
     return (lw_record){.outcome = 1};
 }
 
+__attribute__((noinline))
+static lw_record solve_entry(const uint16_t *table, size_t table_len, uint16_t *answer, size_t answer_len,
+                             uint16_t *work, size_t work_len)
+{
+    (void)table, (void)table_len, (void)answer, (void)answer_len, (void)work, (void)work_len;
+    entry = ENTRY;
+    return (lw_record){.outcome = 1};
+}
+
+__attribute__((noinline))
+static lw_part part_entry(const uint16_t *answer, size_t answer_len, size_t rows_in_use, size_t variable)
+{
+    (void)answer, (void)answer_len, (void)rows_in_use, (void)variable;
+    entry = ENTRY;
+    return (lw_part){1, 1};
+}
+
 static value_function *volatile const value_functions[] = {value_entry, lw_value};
 static form_function *volatile const form_functions[] = {form_entry, lw_normal_form};
 static sheet_function *volatile const sheet_functions[] = {sheet_entry, lw_read_sheet};
+static solve_function *volatile const solve_functions[] = {solve_entry, lw_solve};
+static part_function *volatile const part_functions[] = {part_entry, lw_right_side};
 
 static void count(void)
 {
@@ -249,6 +365,26 @@ static void *run_sheet(void *argument)
     for (size_t i = 0; i < 2; i++)
         c->record = sheet_functions[i](c->sheet, c->sheet_len, c->table, c->table_len);
     count();
+    return NULL;
+}
+
+static void *run_solve(void *argument)
+{
+    call *c = argument;
+    for (size_t i = 0; i < 2; i++)
+        c->record = solve_functions[i](c->table, c->table_len, c->answer, LW_SOLVER_NUMBERS, c->work, c->work_len);
+    count();
+    return NULL;
+}
+
+static void *run_part(void *argument)
+{
+    call *c = argument;
+    lw_part part = {0, 0};
+    for (size_t i = 0; i < 2; i++)
+        part = part_functions[i](c->answer, LW_SOLVER_NUMBERS, c->rows_in_use, c->variable);
+    count();
+    c->record.free = (uint32_t)part.len;
     return NULL;
 }
 
@@ -311,6 +447,7 @@ static void measure_all(const char *name, void *(*run)(void *), const test *test
         size_t use = 0;
         for (size_t f = 0; f < sizeof fillings; f++) {
             memset(&c, 0, sizeof c);
+            c.work_len = LW_SOLVER_NUMBERS;
             tests[i].make(&c);
             c.row = c.table_len / 4 - 1;
             c.value_len = sizeof c.value;
@@ -348,6 +485,23 @@ int main(int argc, char **argv)
         {"16384 bytes, refused 23", many_lines, LW_REFUSED_LINES, 0},
         {"refused 32", short_output, LW_REFUSED_OUTPUT, 0},
     };
+    static const test solves[] = {
+        {"one variable", one_variable, LW_ALWAYS, 1024},
+        {"512 rows, chained cuts", solve_cuts, LW_SOLVED, 1},
+        {"512 rows, joins chained on the left", solve_left_joins, LW_ALWAYS, 1},
+        {"512 rows, joins chained on the right", solve_right_joins, LW_ALWAYS, 1},
+        {"512 rows, cuts and joins in turn", solve_cuts_and_joins, LW_ALWAYS, 1},
+        {"64 equations of 1024 bits", solve_words, LW_SOLVED, 1024},
+        {"never at the last of 64 equations", solve_never, LW_NEVER, 0},
+        {"refused 10", short_work, LW_REFUSED_MEMORY, 0},
+        {"refused 11", no_whole_row, LW_REFUSED_TABLE, 0},
+        {"refused 16 at row 511", bad_cut, LW_REFUSED_CUT, 0},
+    };
+    static const test parts[] = {
+        {"4096 rows of one variable", all_rows, 0, LW_SOLVER_NUMBERS},
+        {"no such variable", no_such_variable, 0, 0},
+        {"too many rows", too_many_rows, 0, 0},
+    };
     size_t count = sizeof tests / sizeof tests[0];
     const char *header = argc == 2 ? argv[1] : "";
     void *memory;
@@ -358,6 +512,8 @@ int main(int argc, char **argv)
     /* all but the last, which only a value refuses */
     measure_all("lw_normal_form", run_form, tests, count - 1, stated(header, "lw_normal_form"));
     measure_all("lw_read_sheet", run_sheet, sheets, sizeof sheets / sizeof sheets[0], stated(header, "lw_read_sheet"));
+    measure_all("lw_solve", run_solve, solves, sizeof solves / sizeof solves[0], stated(header, "lw_solve"));
+    measure_all("lw_right_side", run_part, parts, sizeof parts / sizeof parts[0], stated(header, "lw_right_side"));
     free(memory);
     return run_done("stack");
 }

@@ -5,7 +5,9 @@
   two words (concatenation) or a cut out of a word (extraction), and equations
   stand between terms. The caller describes the terms in a table of numbers,
   which can also be read from a text; the calls take that table and leave their
-  results in buffers of the caller.
+  results in buffers of the caller. One of them solves the equations: it tells
+  whether every, no or some choice of the variables' bits meets them all, and
+  for some it describes these choices.
 
   The library is proved: for every input each call yields the record and the
   buffer contents that this header names, and it always returns. It is linked
@@ -72,6 +74,55 @@
   normal forms are the same, piece by piece.
 
 
+                              Solved systems
+
+  A pattern meets a table if in each equation both sides have the same value. A
+  table without equations is met by every pattern.
+
+  A variable bit is fixed if it is 0 in every pattern that meets the table, or 1
+  in every such pattern. Two variable bits are tied if they are equal in every
+  such pattern; a bit is tied to itself.
+
+  If some patterns meet the table and some do not, the table has a solved
+  system. It gives each variable a right side as wide as it: fills, which stand
+  where its bits are fixed, and fresh pieces, words whose bits are free. A fresh
+  piece may stand at several places, in one variable or in several, and has the
+  same bits at all of them. Each choice of bits for the fresh pieces, put into
+  the right sides, gives one pattern, and these are exactly the patterns that
+  meet the table: two choices give two patterns.
+
+  A fill is as long as the run of that fixed bit within its variable. Of two
+  unfixed bits that are neighbours in a variable, p the higher and q the lower,
+  both lie in one fresh piece exactly if each bit tied to p has a next lower bit
+  in its variable and that one is tied to q, and each bit tied to q has a next
+  higher bit in its variable and that one is tied to p. So fresh pieces are as
+  few and as long as they can be.
+
+  An answer table is a solved system as numbers: the right sides, variable 0
+  first, each from its high end on. A row of it is four 16-bit numbers, in this
+  order:
+
+     variable    kind         width  fresh
+     its number  0 or 1       width  0          fill, all bits are kind
+     its number  2 LW_FRESH   width  its number fresh piece
+
+  The fresh pieces are numbered from 0 in the order in which they first appear;
+  a fresh piece that stands at several places has one number and one width. A
+  variable that no equation bears on is one fresh piece.
+
+  The sheet that stands under Sheets has this answer table, in which fresh piece
+  1 stands three times:
+
+     0 2 1 0
+     0 2 2 1
+     0 2 2 1
+     0 2 2 1
+     0 2 1 2
+
+  So the variable is s t t t u, with any words s, t and u of one, two and one
+  bits: 16 patterns meet the table.
+
+
                                   Sheets
 
   A sheet is the numbers of a table as text: a line of names, and then for each
@@ -108,9 +159,9 @@
 
                                Every call
 
-  Lengths count elements, not bytes: 16-bit numbers for a table and for a normal
-  form, bytes for a pattern, for a value and for a sheet. A table of R rows has
-  length 4 * R.
+  Lengths count elements, not bytes: 16-bit numbers for a table, for a normal
+  form, for an answer table and for a work area, bytes for a pattern, for a
+  value and for a sheet. A table of R rows has length 4 * R.
 
   Each pointer is to as many elements as its length says, aligned for their
   type. The buffers of one call must not overlap. A pointer may be NULL where
@@ -128,6 +179,8 @@
      lw_value        44224 bytes
      lw_normal_form  133184 bytes
      lw_read_sheet   4288 bytes
+     lw_solve        999999 bytes (to be measured)
+     lw_right_side   9999 bytes (to be measured)
 */
 
 #ifndef LINKWORDS_H
@@ -152,11 +205,16 @@ extern "C" {
 /* Kind of a piece that is a part of a variable; a fill has its bit as kind. */
 #define LW_PART 2
 
+/* Kind of an answer table's row that is a fresh piece; a fill has its bit as kind. */
+#define LW_FRESH 2
+
 /* Limits. */
 #define LW_ROW_NUMBERS          4 /* numbers of a row: kind, a, b, c */
 #define LW_PIECE_NUMBERS        4 /* of a piece: kind, variable, high, low */
+#define LW_ANSWER_ROW_NUMBERS   4 /* of an answer table's row: variable, kind, width, fresh */
 #define LW_FORM_NUMBERS      4096 /* least output of a normal form */
 #define LW_TABLE_NUMBERS     2048 /* least output of a sheet's reading */
+#define LW_SOLVER_NUMBERS   16384 /* least answer table and least work area of a solve */
 #define LW_MAX_SHEET        16384 /* bytes of a sheet */
 #define LW_MAX_ROWS           512
 #define LW_MAX_WIDTH         1024
@@ -164,9 +222,14 @@ extern "C" {
 #define LW_MAX_VARIABLE_BITS 4096
 #define LW_MAX_EQUATIONS       64
 
-/* Outcomes. Anything but LW_ACCEPTED is a refusal. */
+/* Outcomes of an accepted call: of lw_solve the last three, of the others the first. */
 #define LW_ACCEPTED 0
+#define LW_ALWAYS   0 /* every pattern meets the table */
+#define LW_NEVER    1 /* no pattern does */
+#define LW_SOLVED   2 /* every other table */
 
+/* Refusals. */
+#define LW_REFUSED_MEMORY    10 /* answer table or work area below 16384 numbers */
 #define LW_REFUSED_TABLE     11 /* length no multiple of 4, or over 512 rows */
 #define LW_REFUSED_KIND      12 /* kind above 4 */
 #define LW_REFUSED_UNUSED    13 /* a column that the kind does not use is not 0 */
@@ -186,18 +249,23 @@ extern "C" {
 /* the record */
 
 /*
-  What each call yields. Every call says which fields it sets; the others
-  are 0. A refusal has its number as outcome, in row the place given at the
+  What each call but lw_right_side yields. Every call says which fields it sets;
+  the others are 0. A refusal has its number as outcome, in row the place given at the
   call, and 0 in all other fields.
 */
 typedef struct {
-    uint32_t outcome; /* 0, or the number of the refusal */
+    uint32_t outcome; /* 0 to 2, or the number of the refusal */
     uint32_t pieces;
-    uint32_t fresh;
+    uint32_t fresh;   /* a number of fresh pieces */
     uint32_t free;    /* a number of bits */
-    uint32_t ties;
-    uint32_t row;     /* of a refusal: its place, mostly a row of the table */
+    uint32_t ties;    /* a number of bit pairs */
+    uint32_t row;     /* of a refusal: its place, mostly a row of the table; of LW_NEVER: an equation's row */
 } lw_record;
+
+/* A part of the caller's answer table: its first number, and how many they are. */
+typedef struct {
+    size_t start, len; /* both count numbers, not rows */
+} lw_part;
 
 /* calls */
 
@@ -342,6 +410,100 @@ lw_record lw_read_sheet(const uint8_t *sheet, size_t sheet_len,
      The numbers are not tested as a table: the call that works on them does so.
 
      The sheet is only read.
+*/
+
+lw_record lw_solve(const uint16_t *table, size_t table_len,
+                   uint16_t *answer, size_t answer_len,
+                   uint16_t *work, size_t work_len);
+/*
+     Solves the equations of the table. If some patterns meet it and some do
+     not, it writes the solved system as an answer table.
+
+     An equation gives bit pairs: the high bits of its two sides, then the next
+     lower ones, and so on. A tie is a pair whose two bits are not yet equal in
+     every pattern that meets all pairs before it, those of earlier equations
+     and those before it in its own.
+
+     There are three outcomes of an accepted call:
+
+     0 LW_ALWAYS  Every pattern meets the table. The field free is the number of
+                  the table's variable bits, and all other fields are 0. Nothing
+                  is written to answer.
+     1 LW_NEVER   No pattern meets the table. The field row is the lowest row of
+                  an equation such that no pattern meets the equations up to
+                  and including that row; ties is the number of ties of the
+                  equations before it, and all other fields are 0. Nothing is
+                  written to answer.
+     2 LW_SOLVED  Every other table. The field pieces is the number of rows of
+                  the answer table, which is at least 1 and at most 4096; fresh
+                  is the number of fresh pieces; free is the number of their
+                  bits, each fresh piece once; ties is the number of ties of all
+                  equations; row is 0. The first 4 * pieces numbers of answer
+                  are then the rows of the answer table (see Solved systems),
+                  each as variable, kind, width and fresh number; the numbers of
+                  answer that follow keep their content.
+
+     After LW_ALWAYS and LW_SOLVED, free plus ties is the number of the table's
+     variable bits, and the patterns that meet the table are 2 to the free.
+
+     work is memory for the call to work in, and may hold anything before it.
+     After an accepted call, whatever the outcome, each number of work is 0, all
+     work_len of them, also those past the 16384th.
+
+     Otherwise outcome is the first refusal that applies, in the order below,
+     and nothing is written to answer nor to work. The lengths of the two are
+     tested first, before anything of the table, and also where the outcome
+     would need no answer table; then the table. Its rows are tested from the
+     lowest up, and each by all of 12 to 18 before the next row, so that the
+     refusal is about the lowest row at fault.
+
+     outcome                 cause                               field row
+     10 LW_REFUSED_MEMORY    answer_len or work_len is below     0
+                             LW_SOLVER_NUMBERS (16384), however
+                             small the table is
+     11 LW_REFUSED_TABLE     table_len is no multiple of 4, or   512
+                             is above 2048 (over 512 rows)
+     12 LW_REFUSED_KIND      the kind is above 4                 that row
+     13 LW_REFUSED_UNUSED    b or c of a variable is not 0, or   that row
+                             c of a fill, a join or an equation
+     14 LW_REFUSED_NAME      a or b of a join or an equation,    that row
+                             or a of a cut, is not the number
+                             of an earlier row, or is the number
+                             of an equation
+     15 LW_REFUSED_WIDTH     the width of a variable, a fill or  that row
+                             a join is outside 1 to 1024, or the
+                             bit of a fill is above 1
+     16 LW_REFUSED_CUT       high of a cut is not below the      that row
+                             width of the row it cuts, or low is
+                             above high
+     17 LW_REFUSED_MAXIMUM   the row is the 65th variable or the that row
+                             65th equation, or a variable with
+                             which the variable bits exceed 4096
+     18 LW_REFUSED_SIDES     the sides of an equation have       that row
+                             unequal widths
+
+     The table is only read. No two of table, answer and work may overlap.
+*/
+
+lw_part lw_right_side(const uint16_t *answer, size_t answer_len,
+                      size_t rows_in_use, size_t variable);
+/*
+     Finds the right side of a variable in an answer table. rows_in_use is the
+     number of rows that count, mostly the field pieces of lw_solve's record;
+     what stands behind them in answer is not looked at.
+
+     The part that is yielded is the run from the first row of that variable
+     through the rows of it that follow directly: len numbers of answer, from
+     answer[start] on. Both start and len are multiples of 4. Rows of the same
+     variable behind another variable's row do not belong to it; after lw_solve
+     there are none.
+
+     The part is empty, start 0 and len 0, if none of the rows in use is of that
+     variable (always so for a variable above 65535), or if rows_in_use is more
+     than the whole rows of answer, that is answer_len / 4 rounded down.
+
+     Nothing is asked of the numbers in answer, and there is no refusal. The
+     answer table is only read.
 */
 
 #ifdef __cplusplus

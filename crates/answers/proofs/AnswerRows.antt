@@ -120,7 +120,7 @@ module _ (n : ℕ) (c : List ℕ) (seen : List Pair) (inv : Represents n c seen)
   unfolding placeRow
   unit-wide j = refl
 
-  tally-same : (m : ℕ) → tally m (appears n ws (inClass c)) ≡ tally m marked
+  pub tally-same : (m : ℕ) → tally m (appears n ws (inClass c)) ≡ tally m marked
   unfolding tally mark
   tally-same zero = refl
   tally-same (suc m) = ap₂ (λ (b : Bool) (x : ℕ). cond b 1 0 + x) (appears-is n c seen inv one ws m) (tally-same m)

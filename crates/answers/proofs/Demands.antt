@@ -17,13 +17,14 @@ use Rattle.terms.specs.Table.{rowsOf, bitsOf, satisfies}
 use Rattle.terms.proofs.Assignments.{every-at, every-of, count-none-of, count-none-at, count-all-of, count-all-at}
 use Rattle.answers.specs.Pairs.{Pair, pairsIn, satisfiesPairs}
 use Rattle.answers.specs.Classes.{rep, inClass, roots}
-use Rattle.answers.specs.Answer.{AnswerRow, equalUnder, variableWidths, begins, answerRows, freshPieces, freeBits, instantiate}
+use Rattle.answers.specs.Answer.{AnswerRow, equalUnder, variableWidths, begins, tally, appears, answerRows, freshPieces, freeBits, instantiate}
 use Rattle.answers.specs.Systems.{Part, SolvedSystem, freshCount, systemBits, Filling, Gives}
 use Rattle.answers.specs.Solve.{valid, unsatisfiable, pairsTogether, tiesTo, solvedRows, answerRecord}
 use Rattle.answers.proofs.Agreement.{Represents, satisfies-reverse}
 use Rattle.answers.proofs.Slots.{fresh}
 use Rattle.answers.proofs.OurPieces.{mark}
 use Rattle.answers.proofs.FreeBits.{free-widths}
+use Rattle.answers.proofs.AnswerRows.{tally-same}
 use Rattle.answers.proofs.GeneralSystems.{widthSum, minimal-system}
 use Rattle.answers.proofs.Instantiating.{fresh-pieces, free-bits, filling-satisfies, fillingOf, filling-bits, filling-gives, filling-unique}
 use Rattle.answers.proofs.Variables.{widths-sum, begins-first, begins-behind, system-bits}
@@ -109,12 +110,15 @@ module _ (table : List ℕ) (accepted : firstFault table ≡ Accepted) where
     rows-are = solved-rows table accepted some
 
     -- the fresh bits are the places that represent themselves
-    free-are : freeBits (solvedRows t) ≡ roots 2 (drop 2 c)
+    pub free-are : freeBits (solvedRows t) ≡ roots 2 (drop 2 c)
     free-are = ap freeBits rows-are ∙ free-bits n c seen inv one ws begin last ∙ sym (free-widths n c seen inv one (begins ws) begin last)
 
     fresh-are : freshPieces (solvedRows t) ≡ fresh n (begins ws) (λ i. rep c (suc (suc i)))
     unfolding fresh mark
     fresh-are = ap freshPieces rows-are ∙ fresh-pieces n c seen inv one ws begin last
+
+    pub fresh-appear : freshPieces (solvedRows t) ≡ tally n (appears n ws (inClass c))
+    fresh-appear = ap freshPieces rows-are ∙ fresh-pieces n c seen inv one ws begin last ∙ sym (tally-same n c seen inv one ws begin last n)
 
     pub filled-2 : Demand2 t
     filled-2 =
@@ -140,7 +144,7 @@ module _ (table : List ℕ) (accepted : firstFault table ≡ Accepted) where
     counted : count n (satisfies t) ≡ 2 ^ freeBits (solvedRows t)
     counted = table-count table accepted some ∙ ap (λ (x : ℕ). 2 ^ x) (sym free-are)
 
-    summed : freeBits (solvedRows t) + tiesTo t (length t) ≡ n
+    pub summed : freeBits (solvedRows t) + tiesTo t (length t) ≡ n
     summed = ap (λ (x : ℕ). x + tiesTo t (length t)) free-are ∙ roots-ties table accepted some
 
     least-many : (sides : List (List Part)) → SolvedSystem ws sides → Gives n (satisfies t) sides → freshPieces (solvedRows t) ≤ freshCount sides

@@ -97,7 +97,7 @@ distinct-tally n (x ∷ xs) h =
     ap (λ (y : ℕ). cond (member x xs) 0 1 + y) (distinct-tally n xs (λ y q. h y (or-second (eqb y x) (member y xs) q)))
     ∙ sym (tally-more n x (λ k. member k xs) (h x (or-first (eqb x x) (member x xs) (eq-eqb x x refl))))
 
-tally-most : (n : ℕ) (f : ℕ → Bool) → tally n f ≤ n
+pub tally-most : (n : ℕ) (f : ℕ → Bool) → tally n f ≤ n
 unfolding tally
 tally-most zero f = omega arith
 tally-most (suc n) f = go (f n) (tally-most n f)

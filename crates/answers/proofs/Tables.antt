@@ -2,7 +2,7 @@
 use mathlib.Core.Path.{_≡_, refl, sym, _∙_, ap, ap₂, fun-ext, subst}
 use mathlib.Core.Logic.{_⊎_, inl, inr, _≢_}
 use mathlib.Core.Bool.{Bool, true, false, not, _&&_, _||_, cond, and-true}
-use mathlib.Core.List.{List, [], _∷_, _++_, reverse}
+use mathlib.Core.List.{List, [], _∷_, _++_, reverse, reverseAux}
 use Prim.Native.Nat.{ℕ, zero, suc, _+_, _-_, _^_, _≤_, _<_}
 use native.Mathlib.Omega.{arith}
 use lib.Dec.{eqb, ltb}
@@ -20,7 +20,7 @@ use Rattle.terms.proofs.Assignments.{assignment-length, every-at, every-of, cou
 use Rattle.terms.proofs.Values.{Sound}
 use Rattle.answers.specs.Pairs.{Pair, pairsOf, pairsIn, satisfiesPairs, satisfiesAll, allPairs, equals, least, ties, noneSatisfies, unsatAt, tiesBefore}
 use Rattle.answers.specs.Classes.{rep, inClass, classesOf, runAll, roots, conflictAt, linksBefore}
-use Rattle.answers.specs.Answer.{AnswerRow, equalUnder, variableWidths, begins, answerRows, freshPieces, freeBits, tally, appears}
+use Rattle.answers.specs.Answer.{placed, placeRow, goesOn, rowsTo, AnswerRow, equalUnder, variableWidths, begins, answerRows, freshPieces, freeBits, tally, appears}
 use Rattle.answers.specs.Solve.{valid, unsatisfiable, satisfiesTo, unsatRow, pairsTogether, tiesTo, solvedRows, alwaysRecord, neverRecord, solvedRecord, answerRecord}
 use Rattle.answers.proofs.Agreement.{Represents, classes-represent, satisfies-reverse, base}
 use Rattle.answers.proofs.Booleans.{same-test}
@@ -242,6 +242,9 @@ module _ (table : List ℕ) (accepted : firstFault table ≡ Accepted) where
   pub is-left : conflictAt (countUp 0 (suc (suc n))) es ≡ length t → unsatisfiable t ≡ false
   is-left e = none-is ∙ none-together ∙ some-left n [] es empty-left (sym (conflict-place n es) ∙ e ∙ sym (pairs-length t t))
 
+  pub conflict-most : conflictAt (countUp 0 (suc (suc n))) es ≤ length t
+  conflict-most = omega (arith, conflict-place n es, unsat-most n [] es, pairs-length t t)
+
   -- the record for each
   pub never-record : conflictAt (countUp 0 (suc (suc n))) es < length t
       → answerRecord t ≡ neverRecord (linksBefore (countUp 0 (suc (suc n))) es) (conflictAt (countUp 0 (suc (suc n))) es)
@@ -268,3 +271,23 @@ module _ (table : List ℕ) (accepted : firstFault table ≡ Accepted) where
           go : (b : Bool) → valid t ≡ b → b ≡ false
           go false h = refl
           go true h = absurd (e (sym k ∙ valid-to s h))
+
+-- no more rows than places
+placed-most : (b : Bool) (r : AnswerRow) (rows : List AnswerRow) → length (placed b r rows) ≤ suc (length rows)
+unfolding placed
+placed-most b r [] = omega arith
+placed-most true r (s ∷ rows) = omega arith
+placed-most false r (s ∷ rows) = omega arith
+
+rows-to : (n : ℕ) (ws : List ℕ) (same : ℕ → ℕ → Bool) (i : ℕ) → length (rowsTo n ws same i) ≤ i
+unfolding rowsTo
+rows-to n ws same zero = omega arith
+rows-to n ws same (suc i) = omega (arith, placed-most (goesOn n ws same i) (placeRow n ws same i) (rowsTo n ws same i), rows-to n ws same i)
+
+pub rows-few : (n : ℕ) (ws : List ℕ) (same : ℕ → ℕ → Bool) → length (answerRows n ws same) ≤ n
+unfolding answerRows
+rows-few n ws same = omega (arith, reverse-length (rowsTo n ws same n) [], rows-to n ws same n)
+  where
+    reverse-length : (xs ys : List AnswerRow) → length (reverseAux xs ys) ≡ length xs + length ys
+    reverse-length [] ys = omega arith
+    reverse-length (x ∷ xs) ys = reverse-length xs (x ∷ ys) ∙ omega arith

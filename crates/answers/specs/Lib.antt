@@ -3,3 +3,4 @@ pub mod Classes
 pub mod Answer
 pub mod Systems
 pub mod Solve
+pub mod RightSide

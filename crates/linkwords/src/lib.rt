@@ -5,6 +5,9 @@ ghost use lib.ListN.{length};
 ghost use Rattle.values.specs.Value.{valueRecord, valueAfter};
 ghost use Rattle.forms.specs.Call.{formRecord, formAfter};
 ghost use Rattle.sheets.specs.Call.{sheetRecord, tableAfter};
+ghost use Rattle.answers.specs.Solve.{solveRecord, answerAfter, workAfter};
+ghost use Rattle.answers.specs.RightSide.{rightSideStart, rightSideLength};
+use solver::Part;
 use terms::Record;
 
 // A row's value under a pattern.
@@ -32,4 +35,23 @@ pub extern "C" fn lw_read_sheet(sheet: &[u8], table: &mut [u16]) -> Record
     ensures table { λ r. ⌜ now (table .exit) ≡ tableAfter (now (sheet .entry)) (now (table .entry)) ⌝ }
 {
     sheets::read_sheet(sheet, table)
+}
+
+// Solves a table.
+#[no_mangle]
+pub extern "C" fn lw_solve(table: &[u16], answer: &mut [u16], work: &mut [u16]) -> Record
+    ensures record { λ r. ⌜ r ≡ solveRecord (now (table .entry)) (length (now (answer .entry))) (length (now (work .entry))) ⌝ }
+    ensures answer { λ _. ⌜ now (answer .exit) ≡ answerAfter (now (table .entry)) (now (answer .entry)) (length (now (work .entry))) ⌝ }
+    ensures work { λ _. ⌜ now (work .exit) ≡ workAfter (now (table .entry)) (length (now (answer .entry))) (now (work .entry)) ⌝ }
+{
+    solver::solve(table, answer, work)
+}
+
+// Where the right side of a variable stands in an answer table.
+#[no_mangle]
+pub extern "C" fn lw_right_side(answer: &[u16], rows_in_use: usize, variable: usize) -> Part
+    ensures start { λ r. ⌜ r .start ≡ rightSideStart (now (answer .entry)) rows_in_use variable ⌝ }
+    ensures len { λ r. ⌜ r .len ≡ rightSideLength (now (answer .entry)) rows_in_use variable ⌝ }
+{
+    solver::right_part(answer, rows_in_use, variable)
 }

@@ -405,7 +405,7 @@ fn row_bits(row: Row) -> u32
 }
 
 // x in 16 bits.
-fn narrow(x: usize) -> u16
+pub fn narrow(x: usize) -> u16
     ensures { λ r. ⌜ r ≡ x % 65536 ⌝ }
 {
     (x % 65536) as u16

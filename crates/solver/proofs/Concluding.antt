@@ -1,0 +1,104 @@
+-- What is made of the equations taken: the record of each outcome, and the answer table.
+use mathlib.Core.Path.{_≡_, refl, sym, ap, ap₂, _∙_, subst}
+use mathlib.Core.Logic.{_⊎_, inl, inr, _≢_}
+use mathlib.Core.Bool.{Bool, true, false, cond}
+use mathlib.Core.List.{List, [], _∷_, reverse}
+use Prim.Native.Nat.{ℕ, zero, suc, _+_, _-_, _%_, _≤_, _<_}
+use native.Mathlib.Omega.{arith}
+use lib.ListN.{length, getD, drop}
+use lib.Seq.{take-all}
+use Rattle.terms.specs.declared.Record.{Record}
+use Rattle.terms.specs.declared.Row.{Row}
+use Rattle.terms.specs.declared.Fault.the-variants.{Accepted}
+use Rattle.terms.specs.Table.{rowsOf, bitsOf, countUp}
+use Rattle.terms.specs.Faults.{firstFault}
+use Rattle.terms.specs.Calls.{overwrite, completed}
+use Rattle.terms.proofs.AcceptedTable.{accepted-table}
+use Rattle.terms.proofs.Faults.{totals-small}
+use Rattle.answers.proofs.Instantiating.{tally-most}
+use Rattle.answers.specs.Pairs.{Pair, pairsIn}
+use Rattle.answers.specs.Classes.{rep, inClass, runAll, conflictAt, linksBefore}
+use Rattle.answers.specs.Answer.{AnswerRow, tally, appears, variableWidths, answerRows, answerNumbers, freshPieces, freeBits}
+use Rattle.answers.specs.Solve.{unsatisfiable, solvedRows, tiesTo, pairsTogether, alwaysRecord, neverRecord, solvedRecord, answerRecord}
+use Rattle.answers.proofs.Agreement.{Represents}
+use Rattle.answers.proofs.Tables.{tableClasses, classes-run, represent, conflict-most, apart-one, solved-rows, is-left, never-record, always-record, solved-record, all-ties, rows-few}
+use Rattle.answers.proofs.Theorems.{links-before}
+use Rattle.answers.proofs.Demands.{summed, fresh-appear}
+use Rattle.classes.specs.Links.{rootsOf}
+use Rattle.solver.specs.Rows.{RowsPut, PutsRows}
+use Rattle.solver.specs.Equations.{EquationsTaken}
+use Rattle.solver.specs.Call.{answerOver, Answered}
+
+-- a number below 2 ^ 32 stays
+pub kept-short : (x : ℕ) → x ≤ 1000000 → x % 4294967296 ≡ x
+kept-short x l = omega arith
+
+-- a record of outcome 2 by its fields
+pub same-record : {p p′ f f′ o o′ k k′ : ℕ} → p ≡ p′ → f ≡ f′ → o ≡ o′ → k ≡ k′
+    → _≡_ {A = Record} (record { outcome = 2; pieces = p; fresh = f; free = o; ties = k; row = 0 }) (record { outcome = 2; pieces = p′; fresh = f′; free = o′; ties = k′; row = 0 })
+same-record a b c d = rw (a, b, c, d) refl
+
+module _ (table : List ℕ) (accepted : firstFault table ≡ Accepted) (links answer : List ℕ) (row ties : ℕ) (E : EquationsTaken (rowsOf table) links row ties) where
+  abbrev t : List Row
+  t = rowsOf table
+
+  abbrev n : ℕ
+  n = bitsOf (rowsOf table)
+
+  abbrev c₀ : List ℕ
+  c₀ = countUp 0 (suc (suc (bitsOf (rowsOf table))))
+
+  abbrev es : List (List Pair)
+  es = pairsIn (rowsOf table) (rowsOf table)
+
+  pub conclude-never : row < length t → (r : Record) → r ≡ neverRecord (ties % 4294967296) (row % 4294967296) → Answered t answer answer r
+  unfolding answerOver
+  conclude-never l r e =
+      let few = accepted-table table accepted .few in
+      let a : answerRecord t ≡ neverRecord ties row = never-record table accepted (omega (arith, E .row-is)) ∙ ap₂ neverRecord (sym (E .ties-are)) (sym (E .row-is)) in
+      let b : r ≡ answerRecord t = e ∙ ap₂ neverRecord (kept-short ties (omega (arith, E .few))) (kept-short row (omega arith)) ∙ sym a in
+      record { record-is = b; answer-is = rw a refl }
+
+  few-bits : n ≤ 4096
+  few-bits = rw (take-all (length t) t (omega arith)) at (totals-small t (length t) (accepted-table table accepted .sound) .1)
+
+  pub conclude-always : length t ≤ row → ties ≡ 0 → (bits : ℕ) → bits ≡ n → (r : Record) → r ≡ completed 0 (bits % 4294967296) → Answered t answer answer r
+  unfolding answerOver
+  conclude-always l z bits w r e =
+      let q : row ≡ length t = omega (arith, E .row-is, conflict-most table accepted) in
+      let a : answerRecord t ≡ alwaysRecord n = always-record table accepted (sym (E .row-is) ∙ q) (sym (E .ties-are) ∙ z) in
+      let b : r ≡ answerRecord t = e ∙ ap (completed 0) (kept-short bits (omega (arith, few-bits)) ∙ w) ∙ sym a in
+      record { record-is = b; answer-is = rw a refl }
+
+  -- the classes are those of the table
+  module _ (l : length (rowsOf table) ≤ row) where
+    pub whole-row : row ≡ length t
+    whole-row = omega (arith, E .row-is, conflict-most table accepted)
+
+    some : unsatisfiable t ≡ false
+    some = is-left table accepted (sym (E .row-is) ∙ whole-row)
+
+    pub classes-table : rootsOf links ≡ tableClasses table accepted
+    classes-table = E .classes-are whole-row ∙ sym (classes-run table accepted)
+
+    pub conclude-solved : ties ≢ 0 → (bits : ℕ) → bits ≡ n → (settled answer′ : List ℕ) (pieces fresh : ℕ) → settled ≡ rootsOf links
+        → PutsRows table settled answer answer′ pieces fresh → 16384 ≤ length answer → (r : Record)
+        → r ≡ record { outcome = 2; pieces = pieces % 4294967296; fresh = fresh % 4294967296; free = (bits - ties) % 4294967296; ties = ties % 4294967296; row = 0 }
+        → Answered t answer answer′ r
+    unfolding answerOver
+    conclude-solved z bits w settled answer′ pieces fresh s P room r e =
+        let q : settled ≡ tableClasses table accepted = s ∙ classes-table in
+        let put : RowsPut table (tableClasses table accepted) answer answer′ pieces fresh =
+        subst (λ (c : List ℕ). PutsRows table c answer answer′ pieces fresh) q P _ accepted (represent table accepted) (apart-one table accepted some) room in
+        let rows : solvedRows t ≡ answerRows n (variableWidths t) (inClass (tableClasses table accepted)) = solved-rows table accepted some in
+        let many : pieces ≡ length (solvedRows t) = put .pieces-are ∙ ap length (sym rows) in
+        let new : fresh ≡ freshPieces (solvedRows t) = put .fresh-are ∙ sym (fresh-appear table accepted some) in
+        let tied : tiesTo t (length t) ≡ ties = all-ties table accepted some ∙ sym (links-before n es) ∙ sym (E .ties-are) in
+        let open' : bits - ties ≡ freeBits (solvedRows t) = omega (arith, summed table accepted some, tied, w) in
+        let a : answerRecord t ≡ solvedRecord (solvedRows t) ties =
+        solved-record table accepted (sym (E .row-is) ∙ whole-row) (λ k. z (E .ties-are ∙ k)) ∙ ap (solvedRecord (solvedRows t)) (sym (E .ties-are)) in
+        let b : r ≡ answerRecord t =
+        e ∙ same-record (kept-short pieces (omega (arith, put .pieces-are, rows-few n (variableWidths t) (inClass (tableClasses table accepted)), few-bits)) ∙ many)
+        (kept-short fresh (omega (arith, put .fresh-are, tally-most n (appears n (variableWidths t) (inClass (tableClasses table accepted))), few-bits)) ∙ new)
+        (kept-short (bits - ties) (omega (arith, w, few-bits)) ∙ open') (kept-short ties (omega (arith, E .few))) ∙ sym a in
+        record { record-is = b; answer-is = rw a (put .answer-is ∙ ap (λ (x : List AnswerRow). overwrite (answerNumbers x) answer) (sym rows)) }

@@ -1,0 +1,65 @@
+-- `clear` meets its contract. Assumes nothing.
+use borrow.Author.Needs.{needs}
+use mathlib.Core.Path.{_≡_, refl, sym, _∙_}
+use Prim.Native.Nat.{_≤_, _-_}
+use native.Mathlib.Omega.{arith}
+use lib.ListN.{length, replicate}
+use denote.Ref.{now}
+use Rattle.terms.specs.Calls.{overwrite}
+use Rattle.solver.proofs.Filling.{overwrite-none, clear-more, clear-all}
+use Rattle.solver.proofs.clear.Statement.{statement}
+use Rattle.solver.proofs.clear.Tie as tie
+use Rattle.solver.proofs.clear.Reads as reads
+use Rattle.solver.proofs.clear.Lts as lts
+use Rattle.terms.proofs.store.Reads as store-reads
+
+abbrev Inv-loop : tie.InvT-loop
+Inv-loop work₀ i₀ work i = (i ≤ length work₀) × (length work ≡ length work₀) × (work ≡ overwrite (replicate i 0) work₀)
+
+abbrev μ-loop : tie.MeasureT-loop
+μ-loop work₀ i₀ work i = length work₀ - i
+
+-- src/lib.rt:130:5
+loop-holds : tie.Need-loop-holds Inv-loop μ-loop
+loop-holds c = (omega arith, refl, overwrite-none _)
+
+-- src/lib.rt:131:9
+store-requires : tie.Need-store-requires Inv-loop μ-loop
+store-requires c κs = search needs
+
+-- src/lib.rt:132:9
+add-i : tie.Need-add-i Inv-loop μ-loop
+add-i c = omega (arith, c .before .before .before .before .loop-test .taken, c .before .before .before .before .before .loop .inv .1, c .before .before .before .before .before .loop .inv .0)
+
+-- src/lib.rt:130:5
+loop-less : tie.Need-loop-less Inv-loop μ-loop
+loop-less c = omega (arith, c .before .before .before .before .loop-test .taken, c .before .before .before .before .before .loop .inv .1)
+
+-- src/lib.rt:130:5
+loop-again : tie.Need-loop-again Inv-loop μ-loop
+loop-again c =
+    let l = c .before .before .before .before .before .loop in
+    let s = c .before .before .store in
+    (omega (arith, c .before .before .before .before .loop-test .taken, l .inv .1), s .kept .0 ∙ l .inv .1, s .ensures ∙ clear-more _ _ _ (l .inv .2))
+
+-- src/lib.rt:126:1
+same-length : tie.Need-same-length Inv-loop μ-loop
+same-length c = c .before .loop .inv .1
+
+-- src/lib.rt:126:1
+returns : tie.Need-returns Inv-loop μ-loop
+returns c = clear-all (now (c .before .before .before .args .work)) (c .before .loop .work) (c .before .loop .i) (c .before .loop .inv .2) (omega (arith, c .loop-test .left, c .before .loop .inv .0, c .before .loop .inv .1))
+
+pub clear-spec : {M : Type 1} → statement M
+clear-spec =
+    tie.close
+    (tie.spec
+    Inv-loop
+    μ-loop
+    loop-holds
+    store-requires
+    add-i
+    loop-less
+    loop-again
+    same-length
+    returns)

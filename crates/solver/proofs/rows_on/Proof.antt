@@ -1,0 +1,95 @@
+-- `rows_on` meets its contract: the rows counted, with what the rest gives, are what goes on from the first. Assumes nothing.
+use Prim.Native.Nat.{_+_, _-_, _/_, _≤_}
+use mathlib.Core.Path.{_≡_, refl}
+use native.Mathlib.Omega.{arith}
+use denote.Ref.{now}
+use lib.ListN.{length, drop}
+use Rattle.answers.specs.RightSide.{rowVariables, rowsOn}
+use Rattle.solver.proofs.Runs.{variables-length, on-end, on-goes, on-ends}
+use Rattle.solver.proofs.rows_on.Statement.{statement}
+use Rattle.solver.proofs.rows_on.Tie as tie
+use Rattle.solver.proofs.rows_on.Reads as reads
+use Rattle.solver.proofs.rows_on.Lts as lts
+use Rattle.terms.proofs.wide.Reads as wide-reads
+
+abbrev Inv-loop : tie.InvT-loop
+Inv-loop used variable first i₀ i =
+    (first ≤ i) × (i + rowsOn variable (drop i (rowVariables used)) ≡ first + rowsOn variable (drop first (rowVariables used)))
+
+abbrev μ-loop : tie.MeasureT-loop
+μ-loop used variable first i₀ i = length used / 4 - i
+
+loop-holds : tie.Need-loop-holds Inv-loop μ-loop
+loop-holds c = (omega arith, refl)
+
+mul-wide : tie.Need-mul-wide Inv-loop μ-loop
+mul-wide c = omega arith
+
+mul-wide-2 : tie.Need-mul-wide-2 Inv-loop μ-loop
+mul-wide-2 c = omega arith
+
+shared-slice-read-wide : tie.Need-shared-slice-read-wide Inv-loop μ-loop
+shared-slice-read-wide c = omega arith
+
+wide-requires : tie.Need-wide-requires Inv-loop μ-loop
+wide-requires c κs = tt
+
+sub-result : tie.Need-sub-result Inv-loop μ-loop
+sub-result c = omega arith
+
+returns : tie.Need-returns Inv-loop μ-loop
+returns c =
+    let w = c .before .before .before .before .loop in
+    let s = c .before .before .before .before .before .before .args in
+    omega (
+      arith,
+      on-ends (s .variable) (now (s .used)) (s .first) (w .i)
+          (omega (arith, c .before .before .before .loop-test .taken))
+          (λ q. omega (arith, c .before .wide .ensures .0, c .if1 .taken, q))
+          (w .inv .1),
+    )
+
+add-i : tie.Need-add-i Inv-loop μ-loop
+add-i c = omega arith
+
+loop-less : tie.Need-loop-less Inv-loop μ-loop
+loop-less c = omega arith
+
+loop-again : tie.Need-loop-again Inv-loop μ-loop
+loop-again c =
+    let w = c .before .before .before .before .loop in
+    let s = c .before .before .before .before .before .before .args in (
+      omega arith,
+      on-goes (s .variable) (now (s .used)) (s .first) (w .i)
+          (omega (arith, c .before .before .before .loop-test .taken))
+          (omega (arith, c .before .wide .ensures .0, c .if1 .left))
+          (w .inv .1),
+    )
+
+sub-result-2 : tie.Need-sub-result-2 Inv-loop μ-loop
+sub-result-2 c = omega arith
+
+returns-2 : tie.Need-returns-2 Inv-loop μ-loop
+returns-2 c =
+    let w = c .before .loop in
+    let s = c .before .before .before .args in
+    omega (arith, w .inv .1, on-end (s .variable) (rowVariables (now (s .used))) (w .i) (omega (arith, variables-length (now (s .used)), c .loop-test .left)))
+
+pub rows-on-spec : {M : Type 1} → statement M
+rows-on-spec =
+    tie.close
+    (tie.spec
+    Inv-loop
+    μ-loop
+    loop-holds
+    mul-wide
+    mul-wide-2
+    shared-slice-read-wide
+    wide-requires
+    sub-result
+    returns
+    add-i
+    loop-less
+    loop-again
+    sub-result-2
+    returns-2)

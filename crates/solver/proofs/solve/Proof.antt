@@ -1,0 +1,117 @@
+-- `solve` meets its contract: each way in which it ends has its law in proofs/Stops.antt. Assumes nothing.
+use borrow.Author.Needs.{needs}
+use mathlib.Core.Path.{_≡_, refl, sym, ap, _∙_}
+use mathlib.Core.Bool.{true}
+use mathlib.Core.List.{List}
+use Prim.Native.Nat.{ℕ, _<_, _≤_}
+use native.Mathlib.Omega.{arith}
+use lib.ListN.{length, getD, replicate}
+use denote.Ref.{now}
+use borrow.Author.Tests.{not-true, not-false}
+use Rattle.terms.specs.Table.{rowsOf, widthOf}
+use Rattle.terms.specs.Faults.{isAccepted, firstFault}
+use Rattle.terms.specs.Calls.{faultRecord}
+use Rattle.terms.proofs.AcceptedTable.{fault-none, fault-found, widths-left}
+use Rattle.solver.proofs.Stops.{stop-answer, stop-work, stop-fault, stop-accepted}
+use Rattle.solver.proofs.solve.Statement.{statement}
+use Rattle.solver.proofs.solve.Tie as tie
+use Rattle.solver.proofs.solve.Reads as reads
+use Rattle.solver.proofs.solve.Lts as lts
+use Rattle.solver.proofs.clear.Reads as clear-reads
+use Rattle.solver.proofs.solve_accepted.Reads as solve-accepted-reads
+use Rattle.terms.proofs.accepted.Reads as accepted-reads
+use Rattle.terms.proofs.check.Reads as check-reads
+use Rattle.terms.proofs.fault_record.Reads as fault-record-reads
+use Rattle.terms.proofs.refuse.Reads as refuse-reads
+
+-- the fault that the check found is the table's
+found : (d : tie.After-check) → d .check .result ≡ firstFault (now (d .before .before .before .before .before .before .before .args .table))
+found d = d .check .ensures .0 ∙ fault-found _ _ refl
+
+-- src/lib.rt:372:9
+refuse-requires : tie.Need-refuse-requires
+refuse-requires c κs = search needs
+
+-- src/lib.rt:372:9
+returns : tie.Need-returns
+returns c = stop-answer _ _ _ (c .before .if1 .taken) _ (c .refuse .ensures)
+
+-- src/lib.rt:375:9
+refuse-requires-2 : tie.Need-refuse-requires-2
+refuse-requires-2 c κs = search needs
+
+-- src/lib.rt:375:9
+returns-2 : tie.Need-returns-2
+returns-2 c = stop-work _ _ _ (c .before .before .if1 .left) (c .before .if2 .taken) _ (c .refuse2 .ensures)
+
+-- src/lib.rt:378:37
+slice-aggregate-check : tie.Need-slice-aggregate-check
+slice-aggregate-check c = search needs
+
+-- src/lib.rt:378:9
+check-requires : tie.Need-check-requires
+check-requires c κs = search needs
+
+-- src/lib.rt:379:9
+accepted-requires : tie.Need-accepted-requires
+accepted-requires c κs = search needs
+
+-- src/lib.rt:380:9
+fault-record-requires : tie.Need-fault-record-requires
+fault-record-requires c κs = search needs
+
+-- src/lib.rt:380:9
+returns-3 : tie.Need-returns-3
+returns-3 c =
+    let bad = ap isAccepted (sym (found (c .before .before .before .before))) ∙ sym (c .before .before .accepted .ensures) ∙ not-true _ (c .before .if3 .taken) in
+    stop-fault _ _ _ (c .before .before .before .before .before .before .before .if1 .left) (c .before .before .before .before .before .before .if2 .left) bad _ (c .fault-record .ensures ∙ ap faultRecord (found (c .before .before .before .before)))
+
+-- src/lib.rt:382:39
+slice-aggregate-solve-accepted : tie.Need-slice-aggregate-solve-accepted
+slice-aggregate-solve-accepted c = search needs
+
+-- src/lib.rt:382:9
+solve-accepted-requires : tie.Need-solve-accepted-requires
+solve-accepted-requires c κs = search needs
+
+-- src/lib.rt:383:5
+clear-requires : tie.Need-clear-requires
+clear-requires c κs = search needs
+
+-- src/lib.rt:366:1
+same-length : tie.Need-same-length
+same-length c = search needs
+
+-- src/lib.rt:366:1
+same-length-2 : tie.Need-same-length-2
+same-length-2 c = search needs
+
+-- src/lib.rt:366:1
+returns-4 : tie.Need-returns-4
+returns-4 c =
+    let good : isAccepted (firstFault (now (c .before .before .before .before .before .before .before .before .before .before .before .before .before .before .before .before .before .before .before .before .before .before .args .table))) ≡ true = ap isAccepted (sym (found (c .before .before .before .before .before .before .before .before .before .before .before .before .before .before .before))) ∙ sym (c .before .before .before .before .before .before .before .before .before .before .before .before .before .accepted .ensures) ∙ not-false _ (c .before .before .before .before .before .before .before .before .before .before .before .before .if3 .left) in
+    let accepted = fault-none _ good in
+    let widths : (r : ℕ) → r < length (rowsOf (now (c .before .before .before .before .before .before .before .before .before .before .before .before .before .before .before .before .before .before .before .before .before .before .args .table))) → getD (c .before .before .before .before .before .before .before .before .before .before .before .before .before .before .before .check .last .1 .0) r 0 ≡ widthOf (rowsOf (now (c .before .before .before .before .before .before .before .before .before .before .before .before .before .before .before .before .before .before .before .before .before .before .args .table))) r =
+    λ r h. ap (λ (l : List ℕ). getD l r 0) (c .before .before .before .before .before .before .before .before .before .before .before .before .before .before .before .check .ensures .1) ∙ widths-left _ (replicate 512 0) refl accepted r h in
+    stop-accepted _ _ _ (c .before .before .before .before .before .before .before .before .before .before .before .before .before .before .before .before .before .before .if1 .left) (c .before .before .before .before .before .before .before .before .before .before .before .before .before .before .before .before .before .if2 .left) accepted _ _ _ (c .before .before .before .before .before .before .before .before .solve-accepted .ensures accepted widths (c .before .before .before .before .before .before .before .before .before .before .before .before .before .before .before .before .before .before .if1 .left) (c .before .before .before .before .before .before .before .before .before .before .before .before .before .before .before .before .before .if2 .left))
+    (c .before .before .clear .ensures ∙ ap (λ (n : ℕ). replicate n 0) (c .before .before .before .before .before .before .before .before .solve-accepted .kept .1 .1 .1 .0))
+
+pub solve-spec : {M : Type 1} → statement M
+solve-spec =
+    tie.close
+    (tie.spec
+    refuse-requires
+    returns
+    refuse-requires-2
+    returns-2
+    slice-aggregate-check
+    check-requires
+    accepted-requires
+    fault-record-requires
+    returns-3
+    slice-aggregate-solve-accepted
+    solve-accepted-requires
+    clear-requires
+    same-length
+    same-length-2
+    returns-4)

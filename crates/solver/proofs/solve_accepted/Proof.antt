@@ -1,0 +1,91 @@
+-- `solve_accepted` meets its contract. Assumes nothing.
+use borrow.Author.Needs.{needs}
+use mathlib.Core.Path.{_≡_, refl, sym, ap, _∙_}
+use Prim.Native.Nat.{ℕ, _≤_}
+use native.Mathlib.Omega.{arith}
+use lib.ListN.{length}
+use lib.Seq.{take-all, take-length, length-take-le}
+use denote.Ref.{now}
+use Rattle.terms.specs.Table.{rowsOf, bitsOf}
+use Rattle.terms.proofs.AcceptedTable.{accepted-table}
+use Rattle.terms.proofs.Faults.{totals-small}
+use Rattle.solver.proofs.solve_accepted.Statement.{statement}
+use Rattle.solver.proofs.solve_accepted.Tie as tie
+use Rattle.solver.proofs.solve_accepted.Reads as reads
+use Rattle.solver.proofs.solve_accepted.Lts as lts
+use Rattle.solver.proofs.answer_table.Reads as answer-table-reads
+use Rattle.solver.proofs.lesser.Reads as lesser-reads
+use Rattle.solver.proofs.low_sources.Reads as low-sources-reads
+
+-- src/lib.rt:350:35
+slice-aggregate-low-sources : tie.Need-slice-aggregate-low-sources
+slice-aggregate-low-sources c = search needs
+
+-- src/lib.rt:350:9
+low-sources-requires : tie.Need-low-sources-requires
+low-sources-requires c κs = search needs
+
+-- src/lib.rt:351:26
+lesser-requires : tie.Need-lesser-requires
+lesser-requires c κs = search needs
+
+-- src/lib.rt:351:26
+add-lesser : tie.Need-add-lesser
+add-lesser c = search needs
+
+-- src/lib.rt:351:9
+lesser-requires-2 : tie.Need-lesser-requires-2
+lesser-requires-2 c κs = search needs
+
+-- src/lib.rt:355:9
+slice-aggregate-answer-table : tie.Need-slice-aggregate-answer-table
+slice-aggregate-answer-table c = search needs
+
+-- src/lib.rt:357:9
+slice-relend-prefix-answer-table : tie.Need-slice-relend-prefix-answer-table
+slice-relend-prefix-answer-table c = search needs
+
+-- src/lib.rt:357:9
+slice-aggregate-answer-table-2 : tie.Need-slice-aggregate-answer-table-2
+slice-aggregate-answer-table-2 c = sym (length-take-le (c .before .before .lesser2 .result) (now (c .before .before .before .before .before .before .before .before .before .before .before .args .work)) (c .before .before .lesser2 .ensures .1))
+
+-- src/lib.rt:352:5
+answer-table-requires : tie.Need-answer-table-requires
+answer-table-requires c κs = search needs
+
+-- src/lib.rt:346:1
+same-length : tie.Need-same-length
+same-length c = search needs
+
+-- src/lib.rt:346:1
+same-length-2 : tie.Need-same-length-2
+same-length-2 c = search needs
+
+-- src/lib.rt:346:1
+returns : tie.Need-returns
+returns c =
+    λ accepted widths room memory.
+    let bits : c .before .before .before .before .before .before .before .before .before .before .before .low-sources .result ≡ bitsOf (rowsOf (now (c .before .before .before .before .before .before .before .before .before .before .before .before .before .before .before .before .before .args .table))) =
+    c .before .before .before .before .before .before .before .before .before .before .before .low-sources .ensures .0 ∙ ap bitsOf (take-all 512 (rowsOf (now (c .before .before .before .before .before .before .before .before .before .before .before .before .before .before .before .before .before .args .table))) (accepted-table _ accepted .few)) in
+    let few = totals-small (rowsOf (now (c .before .before .before .before .before .before .before .before .before .before .before .before .before .before .before .before .before .args .table))) (length (rowsOf (now (c .before .before .before .before .before .before .before .before .before .before .before .before .before .before .before .before .before .args .table)))) (accepted-table _ accepted .sound) .1 in
+    let small : bitsOf (rowsOf (now (c .before .before .before .before .before .before .before .before .before .before .before .before .before .before .before .before .before .args .table))) ≤ 4096 = rw (take-length (rowsOf (now (c .before .before .before .before .before .before .before .before .before .before .before .before .before .before .before .before .before .args .table)))) at few in
+    c .before .before .before .before .answer-table .ensures accepted widths (c .before .before .before .before .before .before .before .before .before .before .before .low-sources .ensures .1 accepted (omega arith)) bits
+    (length-take-le (c .before .before .before .before .before .before .before .before .lesser2 .result) (now (c .before .before .before .before .before .before .before .before .before .before .before .before .before .before .before .before .before .args .work)) (c .before .before .before .before .before .before .before .before .lesser2 .ensures .1)
+    ∙ omega (arith, c .before .before .before .before .before .before .before .before .lesser2 .ensures .0, c .before .before .before .before .before .before .before .before .before .lesser .ensures .0, bits, small, memory)) room
+
+pub solve-accepted-spec : {M : Type 1} → statement M
+solve-accepted-spec =
+    tie.close
+    (tie.spec
+    slice-aggregate-low-sources
+    low-sources-requires
+    lesser-requires
+    add-lesser
+    lesser-requires-2
+    slice-aggregate-answer-table
+    slice-relend-prefix-answer-table
+    slice-aggregate-answer-table-2
+    answer-table-requires
+    same-length
+    same-length-2
+    returns)

@@ -1,0 +1,73 @@
+-- `unlink` meets its contract. Assumes nothing.
+use borrow.Author.Needs.{needs}
+use mathlib.Core.Path.{_≡_, refl, sym, _∙_}
+use Prim.Native.Nat.{_≤_, _-_, _%_}
+use native.Mathlib.Omega.{arith}
+use lib.ListN.{length}
+use Rattle.terms.specs.Table.{countUp}
+use Rattle.terms.specs.Calls.{overwrite}
+use Rattle.solver.proofs.Filling.{overwrite-none, unlink-more, unlink-all}
+use Rattle.solver.proofs.unlink.Statement.{statement}
+use Rattle.solver.proofs.unlink.Tie as tie
+use Rattle.solver.proofs.unlink.Reads as reads
+use Rattle.solver.proofs.unlink.Lts as lts
+use Rattle.terms.proofs.store.Reads as store-reads
+
+abbrev Inv-loop : tie.InvT-loop
+Inv-loop links₀ i₀ links i = (i ≤ length links₀) × (length links ≡ length links₀) × (length links₀ ≤ 65536 → links ≡ overwrite (countUp 0 i) links₀)
+
+abbrev μ-loop : tie.MeasureT-loop
+μ-loop links₀ i₀ links i = length links₀ - i
+
+-- src/lib.rt:119:5
+loop-holds : tie.Need-loop-holds Inv-loop μ-loop
+loop-holds c = (omega arith, refl, λ l. unfold countUp in (overwrite-none _))
+
+-- src/lib.rt:120:32
+cast-store : tie.Need-cast-store Inv-loop μ-loop
+cast-store c = omega arith
+
+-- src/lib.rt:120:9
+store-requires : tie.Need-store-requires Inv-loop μ-loop
+store-requires c κs = search needs
+
+-- src/lib.rt:121:9
+add-i : tie.Need-add-i Inv-loop μ-loop
+add-i c = omega (arith, c .before .before .before .before .loop-test .taken, c .before .before .before .before .before .loop .inv .1, c .before .before .before .before .before .loop .inv .0)
+
+-- src/lib.rt:119:5
+loop-less : tie.Need-loop-less Inv-loop μ-loop
+loop-less c = omega (arith, c .before .before .before .before .loop-test .taken, c .before .before .before .before .before .loop .inv .1)
+
+-- src/lib.rt:119:5
+loop-again : tie.Need-loop-again Inv-loop μ-loop
+loop-again c =
+    let l = c .before .before .before .before .before .loop in
+    let s = c .before .before .store in (
+      omega (arith, c .before .before .before .before .loop-test .taken, l .inv .1),
+      s .kept .0 ∙ l .inv .1,
+      λ m. s .ensures ∙ unlink-more _ _ _ _ (l .inv .2 m) (omega (arith, c .before .before .before .before .loop-test .taken, l .inv .1)),
+    )
+
+-- src/lib.rt:115:1
+same-length : tie.Need-same-length Inv-loop μ-loop
+same-length c = c .before .loop .inv .1
+
+-- src/lib.rt:115:1
+returns : tie.Need-returns Inv-loop μ-loop
+returns c = λ m. unlink-all _ _ _ (c .before .loop .inv .2 m) (omega (arith, c .loop-test .left, c .before .loop .inv .0, c .before .loop .inv .1))
+
+pub unlink-spec : {M : Type 1} → statement M
+unlink-spec =
+    tie.close
+    (tie.spec
+    Inv-loop
+    μ-loop
+    loop-holds
+    cast-store
+    store-requires
+    add-i
+    loop-less
+    loop-again
+    same-length
+    returns)

@@ -1,0 +1,50 @@
+-- What the inner functions of a solve promise, once the table is accepted.
+use mathlib.Core.Path.{_≡_}
+use mathlib.Core.Bool.{cond}
+use mathlib.Core.List.{List}
+use Prim.Native.Nat.{ℕ, suc, _≤_, _<_}
+use lib.Dec.{eqb}
+use lib.ListN.{length, getD}
+use Rattle.terms.specs.declared.Record.{Record}
+use Rattle.terms.specs.declared.Row.{Row}
+use Rattle.terms.specs.declared.Fault.the-variants.{Accepted}
+use Rattle.terms.specs.Table.{rowsOf, bitsOf, widthOf, countKind, countUp}
+use Rattle.terms.specs.Faults.{firstFault}
+use Rattle.terms.specs.Calls.{overwrite}
+use Rattle.answers.specs.Answer.{answerNumbers}
+use Rattle.answers.specs.Solve.{solvedRows, answerRecord}
+use Rattle.solver.specs.Sides.{lowSources}
+use Rattle.solver.specs.Equations.{EquationsTaken}
+
+-- Links that were undone: each source links to itself.
+abbrev pub Unlinks : List ℕ → List ℕ → Type 0
+Unlinks links links′ = length links ≤ 65536 → links′ ≡ countUp 0 (length links)
+
+-- The answer table of an accepted table: for outcome 2 the rows in front of what was there.
+unfoldable pub answerOver : List Row → List ℕ → List ℕ
+answerOver t old = cond (eqb (answerRecord t .outcome) 2) (overwrite (answerNumbers (solvedRows t)) old) old
+
+-- The record and the answer table are those of an accepted table.
+pub record Answered (t : List Row) (answer answer′ : List ℕ) (r : Record) : Type 0 where
+  pub record-is : r ≡ answerRecord t
+  pub answer-is : answer′ ≡ answerOver t answer
+
+-- What is made of the equations that were taken.
+abbrev pub Concludes : List ℕ → ℕ → ℕ → ℕ → List ℕ → List ℕ → List ℕ → Record → Type 0
+Concludes table bits row ties links answer answer′ found =
+    firstFault table ≡ Accepted → bits ≡ bitsOf (rowsOf table) → EquationsTaken (rowsOf table) links row ties → 16384 ≤ length answer
+    → Answered (rowsOf table) answer answer′ found
+
+-- The same, from the table's widths and the sources of its variables' low bits, with a link for each source.
+abbrev pub AnswersTable : List ℕ → List ℕ → List ℕ → ℕ → List ℕ → List ℕ → List ℕ → Record → Type 0
+AnswersTable table widths lows bits links answer answer′ found =
+    firstFault table ≡ Accepted → ((r : ℕ) → r < length (rowsOf table) → getD widths r 0 ≡ widthOf (rowsOf table) r)
+    → ((v : ℕ) → v < countKind 0 (rowsOf table) → getD lows v 0 ≡ getD (lowSources 0 (rowsOf table)) v 0)
+    → bits ≡ bitsOf (rowsOf table) → length links ≡ suc (suc (bitsOf (rowsOf table))) → 16384 ≤ length answer
+    → Answered (rowsOf table) answer answer′ found
+
+-- The same, from the table's widths, with room in the answer table and in the work area.
+abbrev pub SolvesAccepted : List ℕ → List ℕ → List ℕ → List ℕ → ℕ → Record → Type 0
+SolvesAccepted table widths answer answer′ workRoom found =
+    firstFault table ≡ Accepted → ((r : ℕ) → r < length (rowsOf table) → getD widths r 0 ≡ widthOf (rowsOf table) r) → 16384 ≤ length answer
+    → 16384 ≤ workRoom → Answered (rowsOf table) answer answer′ found

@@ -1,0 +1,164 @@
+/* plain_solver.c -- a second solver, by union-find: see plain_solver.h */
+
+#include "plain_solver.h"
+
+#include <stdbool.h>
+#include <string.h>
+
+enum { VARIABLE = 0, FILL = 1, JOIN = 2, CUT = 3, EQUATION = 4 };
+
+void plain_sources(const uint16_t *table, const ref_table *facts, uint16_t sources[][REF_WIDTH])
+{
+    const size_t *width = facts->width;
+
+    for (size_t r = 0; r < facts->rows; r++) {
+        size_t a = table[4 * r + 1], b = table[4 * r + 2];
+        switch (table[4 * r]) {
+        case VARIABLE:
+            for (size_t i = 0; i < width[r]; i++)
+                sources[r][i] = (uint16_t)(PLAIN_FIXED + facts->place[r] + i);
+            break;
+        case FILL:
+            for (size_t i = 0; i < width[r]; i++)
+                sources[r][i] = (uint16_t)a;
+            break;
+        case JOIN:
+            memcpy(sources[r], sources[a], width[a] * sizeof(uint16_t));
+            memcpy(sources[r] + width[a], sources[b], width[b] * sizeof(uint16_t));
+            break;
+        case CUT:
+            memcpy(sources[r], sources[a] + (width[a] - 1 - b), width[r] * sizeof(uint16_t));
+            break;
+        default:
+            break;
+        }
+    }
+}
+
+/* Classes of equal sources: each is linked to a lower one of its class, the lowest to itself. */
+
+static void separate(uint16_t *parent, size_t bits)
+{
+    for (size_t i = 0; i < bits + PLAIN_FIXED; i++)
+        parent[i] = (uint16_t)i;
+}
+
+/* The lowest of the class. The path to it is halved on the way. */
+static uint16_t lowest(uint16_t *parent, uint16_t i)
+{
+    while (parent[i] != i) {
+        parent[i] = parent[parent[i]];
+        i = parent[i];
+    }
+    return i;
+}
+
+typedef enum { IMPLIED, TIE, CONFLICT } effect;
+
+/* Takes one pair. */
+static inline effect take(uint16_t *parent, uint16_t left, uint16_t right)
+{
+    uint16_t a = lowest(parent, left), b = lowest(parent, right);
+    if (a == b)
+        return IMPLIED;
+    if (a < PLAIN_FIXED && b < PLAIN_FIXED)
+        return CONFLICT;
+    if (a < b)
+        parent[b] = a;
+    else
+        parent[a] = b;
+    return TIE;
+}
+
+size_t plain_ties(const uint16_t *left, const uint16_t *right, size_t count, uint16_t *parent, size_t bits)
+{
+    size_t ties = 0;
+    separate(parent, bits);
+    for (size_t i = 0; i < count; i++)
+        switch (take(parent, left[i], right[i])) {
+        case IMPLIED:  break;
+        case TIE:      ties++; break;
+        case CONFLICT: return SIZE_MAX;
+        }
+    return ties;
+}
+
+/* The answer table. */
+
+/* What stands beside the bits of a class, if it is the same for all of them: a class, or one of these. */
+enum { UNKNOWN = 0xFFFF, MIXED = 0xFFFE, END = 0xFFFD };
+
+static void note(uint16_t *beside, uint16_t other)
+{
+    if (*beside == UNKNOWN)
+        *beside = other;
+    else if (*beside != other)
+        *beside = MIXED;
+}
+
+/* Writes the answer table's rows; pieces, fresh and free go to the record. */
+static void make_answer(const uint16_t *class_of, const uint8_t *variable, size_t bits,
+                        uint16_t *answer, lw_record *record)
+{
+    static uint16_t next[PLAIN_SOURCES], before[PLAIN_SOURCES]; /* the class on the low and on the high side */
+    static uint16_t number[PLAIN_SOURCES];                      /* of the fresh piece that begins with the class */
+
+    for (size_t i = 0; i < PLAIN_SOURCES; i++)
+        next[i] = before[i] = number[i] = UNKNOWN;
+    for (size_t i = 0; i < bits; i++) {
+        bool first = i == 0 || variable[i - 1] != variable[i];
+        bool last = i + 1 == bits || variable[i + 1] != variable[i];
+        note(&before[class_of[i]], first ? END : class_of[i - 1]);
+        note(&next[class_of[i]], last ? END : class_of[i + 1]);
+    }
+
+    for (size_t from = 0, to; from < bits; from = to) {
+        uint16_t class = class_of[from], *row = answer + 4 * record->pieces++;
+        bool fixed = class < PLAIN_FIXED;
+        for (to = from + 1; to < bits && variable[to] == variable[from]; to++) /* the row's end */
+            if (fixed ? class_of[to] != class
+                      : class_of[to] < PLAIN_FIXED || next[class_of[to - 1]] != class_of[to] ||
+                        before[class_of[to]] != class_of[to - 1])
+                break;
+        if (!fixed && number[class] == UNKNOWN) {
+            number[class] = (uint16_t)record->fresh++;
+            record->free += (uint32_t)(to - from);
+        }
+        row[0] = variable[from];
+        row[1] = fixed ? class : 2;
+        row[2] = (uint16_t)(to - from);
+        row[3] = fixed ? 0 : number[class];
+    }
+}
+
+lw_record plain_solve(const uint16_t *table, const ref_table *facts, uint16_t *answer)
+{
+    static uint16_t sources[REF_ROWS][REF_WIDTH];
+    static uint16_t parent[PLAIN_SOURCES], class_of[PLAIN_BITS];
+    static uint8_t variable[PLAIN_BITS];
+    uint32_t ties = 0;
+    uint8_t variables = 0;
+
+    plain_sources(table, facts, sources);
+    separate(parent, facts->bits);
+    for (size_t r = 0; r < facts->rows; r++) {
+        const uint16_t *n = table + 4 * r;
+        uint32_t before = ties;
+        if (n[0] == VARIABLE)
+            memset(variable + facts->place[r], variables++, facts->width[r]);
+        for (size_t i = 0; n[0] == EQUATION && i < facts->width[n[1]]; i++)
+            switch (take(parent, sources[n[1]][i], sources[n[2]][i])) {
+            case IMPLIED:  break;
+            case TIE:      ties++; break;
+            case CONFLICT: return (lw_record){.outcome = 1, .ties = before, .row = (uint32_t)r};
+            }
+    }
+    if (ties == 0)
+        return (lw_record){.outcome = 0, .free = (uint32_t)facts->bits};
+
+    lw_record record = {.outcome = 2, .ties = ties};
+    for (size_t i = 0; i < facts->bits; i++)
+        class_of[i] = lowest(parent, (uint16_t)(i + PLAIN_FIXED));
+    make_answer(class_of, variable, facts->bits, answer, &record);
+    return record;
+}

@@ -1,0 +1,1630 @@
+/*
+  test_solve.c -- tests of lw_solve and lw_right_side
+
+      test_solve [TABLES]
+
+  First answers and refusals worked by hand, and the right sides. Then TABLES
+  random tables of up to 14 variable bits (100000 if not given), on which the
+  library is compared with the enumeration of all patterns (enumerate.c), and so
+  is the plain solver (plain_solver.c); a fifth as many tables that are damaged;
+  and 2000 tables of up to 4096 variable bits, on which the library is compared
+  with the plain solver. Every call is made on guarded buffers, and its record
+  and every number of every buffer are compared.
+
+  The run fails too if some kind of random table is too rare; so there should be
+  at least 1000.
+*/
+
+#include "enumerate.h"
+#include "guard.h"
+#include "linkwords.h"
+#include "plain_solver.h"
+#include "random_table.h"
+#include "reference.h"
+
+enum { LEAST = 16384, LONGEST = LEAST + 8192, LARGE_TABLES = 2000 };
+
+/* Rows of an answer. An answer is written down as a table is: see TABLE. */
+
+#define FRESH(variable, width, number)  (variable), LW_FRESH, (width), (number)
+#define ZEROS(variable, width)          (variable), 0, (width), 0
+#define ONES(variable, width)           (variable), 1, (width), 0
+#define ANSWER                          TABLE
+#define NO_ANSWER                       NULL, 0
+
+/* Records in the order of their fields, as the specification prints them. */
+#define ALWAYS(free)                      (lw_record){0, 0, 0, (free), 0, 0}
+#define NEVER(ties, row)                  (lw_record){1, 0, 0, 0, (ties), (row)}
+#define SOLVED(pieces, fresh, free, ties) (lw_record){2, (pieces), (fresh), (free), (ties), 0}
+
+/* Calls and what they are compared with. */
+
+static const uint16_t zeros[LONGEST];
+
+static void print_answer(const char *name, const uint16_t *answer, size_t rows)
+{
+    printf("  %s:", name);
+    for (size_t i = 0; i < rows && i < 16; i++)
+        printf(" (%u %u %u %u)", answer[4 * i], answer[4 * i + 1], answer[4 * i + 2], answer[4 * i + 3]);
+    printf("%s\n", rows > 16 ? " .." : "");
+}
+
+static bool same_record(lw_record a, lw_record b)
+{
+    return a.outcome == b.outcome && a.pieces == b.pieces && a.fresh == b.fresh && a.free == b.free &&
+           a.ties == b.ties && a.row == b.row;
+}
+
+static bool check_record(int line, const char *name, lw_record got, lw_record want)
+{
+    return check(same_record(got, want), __FILE__, line,
+                 "%s: record %u %u %u %u %u %u, expected %u %u %u %u %u %u", name,
+                 got.outcome, got.pieces, got.fresh, got.free, got.ties, got.row,
+                 want.outcome, want.pieces, want.fresh, want.free, want.ties, want.row);
+}
+
+/* The right side of a variable, by a plain loop. */
+static lw_part plain_right_side(const uint16_t *answer, size_t answer_len, size_t rows, size_t variable)
+{
+    size_t first = 0, behind;
+
+    if (rows > answer_len / 4)
+        return (lw_part){0, 0};
+    while (first < rows && answer[4 * first] != variable)
+        first++;
+    if (first == rows)
+        return (lw_part){0, 0};
+    for (behind = first; behind < rows && answer[4 * behind] == variable; behind++)
+        ;
+    return (lw_part){4 * first, 4 * (behind - first)};
+}
+
+static bool check_part(int line, const char *name, lw_part got, lw_part want)
+{
+    return check(got.start == want.start && got.len == want.len, __FILE__, line,
+                 "%s: part {%zu, %zu}, expected {%zu, %zu}", name, got.start, got.len, want.start, want.len);
+}
+
+/* In an answer of this table, the parts of variables 0, 1, .. are not empty and cover the rows in use. */
+static void check_parts(int line, const uint16_t *numbers, size_t len, const uint16_t *answer, size_t answer_len,
+                        size_t rows)
+{
+    size_t variables = 0, covered = 0;
+    bool each = true;
+
+    for (size_t i = 0; i < len; i += 4)
+        if (numbers[i] == LW_VARIABLE) {
+            lw_part part = lw_right_side(answer, answer_len, rows, variables);
+            lw_part want = plain_right_side(answer, answer_len, rows, variables++);
+            each = each && part.start == want.start && part.len == want.len && part.start == covered && part.len != 0;
+            covered += part.len;
+        }
+    check(each && covered == 4 * rows, __FILE__, line, "the right sides cover %zu of %zu numbers", covered, 4 * rows);
+    check_part(line, "variable that there is not", lw_right_side(answer, answer_len, rows, variables),
+               (lw_part){0, 0});
+}
+
+/*
+  One call: the record; table unchanged; want_answer as the first
+  4 * want.pieces numbers of the answer table, and behind them what was there
+  before; each number of the work area 0 if the call is accepted, else what was
+  there before. Where content is not NULL, both buffers have its numbers before
+  the call.
+*/
+static void call(int line, const char *name, const uint16_t *numbers, size_t len, const uint16_t *content,
+                 size_t answer_len, size_t work_len, lw_record want, const uint16_t *want_answer)
+{
+    unsigned long failed = checks_failed;
+    guarded t = guard(numbers, len * sizeof *numbers);
+    guarded a = guard(content, answer_len * sizeof *content);
+    guarded w = guard(content, work_len * sizeof *content);
+    static uint16_t start[4 * 16]; /* of the answer, to be printed */
+
+    lw_record got = lw_solve(guarded_buffer(&t), len, guarded_buffer(&a), answer_len, guarded_buffer(&w), work_len);
+    if (want.outcome == 2)
+        guard_expect(&a, want_answer, 4 * want.pieces * sizeof *want_answer);
+    if (want.outcome <= 2)
+        guard_expect(&w, zeros, work_len * sizeof *zeros);
+    if (answer_len >= 4 * 16)
+        memcpy(start, guarded_buffer(&a), sizeof start);
+    check_record(line, name, got, want);
+    if (want.outcome == 2 && got.outcome == 2)
+        check_parts(line, numbers, len, guarded_buffer(&a), answer_len, got.pieces);
+    guard_check(&t, __FILE__, line, "table");
+    guard_check(&a, __FILE__, line, "answer");
+    guard_check(&w, __FILE__, line, "work area");
+    if (checks_failed != failed && failed == 0) {
+        printf("  %s, answer of %zu numbers, work area of %zu\n", name, answer_len, work_len);
+        print_table(numbers, len);
+        if (want.outcome == 2 && got.outcome == 2) {
+            print_answer("answer", start, got.pieces);
+            print_answer("expected", want_answer, want.pieces);
+        }
+    }
+}
+
+/* What a solve yields and writes, 10 to 18 by the reference and the rest by the plain solver. */
+static lw_record expected(const uint16_t *numbers, size_t len, size_t answer_len, size_t work_len,
+                          uint16_t answer[LEAST])
+{
+    static ref_table facts;
+    if (answer_len < LEAST || work_len < LEAST)
+        return (lw_record){.outcome = 10};
+    lw_record record = ref_check(numbers, len, &facts);
+    return record.outcome != 0 ? record : plain_solve(numbers, &facts, answer);
+}
+
+static bool same_answer(lw_record record, const uint16_t *a, const uint16_t *b)
+{
+    return record.outcome != 2 || memcmp(a, b, 4 * record.pieces * sizeof *a) == 0;
+}
+
+/* Enumeration and plain solver give this answer too, the enumeration if the table is small. */
+static void check_others(int line, const char *name, const uint16_t *numbers, size_t len, lw_record want,
+                         const uint16_t *want_answer)
+{
+    static ref_table facts;
+    static uint16_t answer[LEAST];
+    static enumeration found;
+
+    lw_record record = ref_check(numbers, len, &facts);
+    if (!check(record.outcome == 0, __FILE__, line, "%s: refused %u", name, record.outcome))
+        return;
+    record = plain_solve(numbers, &facts, answer);
+    if (!check(same_record(record, want) && same_answer(want, answer, want_answer), __FILE__, line,
+               "%s: the plain solver's answer is another", name) && checks_failed == 1) {
+        print_table(numbers, len);
+        check_record(line, "plain solver", record, want);
+        print_answer("plain solver", answer, record.pieces);
+        print_answer("expected", want_answer, want.pieces);
+    }
+    if (facts.bits > ENUM_BITS)
+        return;
+    enumerate(numbers, &facts, &found);
+    if (!check(same_record(found.record, want) && same_answer(want, found.answer, want_answer), __FILE__, line,
+               "%s: the enumeration's answer is another", name) && checks_failed == 1) {
+        check_record(line, "enumeration", found.record, want);
+        print_answer("enumeration", found.answer, found.record.pieces);
+    }
+}
+
+/*
+  The table has this record and this answer: with buffers of exactly 16384
+  numbers and with longer ones, whatever stands there before.
+*/
+static void accept(int line, const uint16_t *numbers, size_t len, lw_record want, const uint16_t *answer,
+                   size_t answer_len)
+{
+    static uint16_t content[LEAST];
+    static const uint16_t likes[] = {0, 1, 2, 65535};
+
+    check(answer_len == 4 * (size_t)want.pieces, __FILE__, line, "expected answer of %zu numbers, %u pieces",
+          answer_len, want.pieces); /* a slip in what is expected is found too */
+    check_others(line, "worked by hand", numbers, len, want, answer);
+    call(line, "accepted", numbers, len, NULL, LEAST, LEAST, want, answer);
+    call(line, "accepted, longer answer table", numbers, len, NULL, LEAST + 9, LEAST, want, answer);
+    call(line, "accepted, longer work area", numbers, len, NULL, LEAST, LEAST + 1, want, answer);
+    call(line, "accepted, both longer", numbers, len, NULL, LONGEST, LONGEST, want, answer);
+    for (size_t k = 0; k < sizeof likes / sizeof likes[0]; k++) {
+        for (size_t i = 0; i < LEAST; i++)
+            content[i] = likes[k];
+        call(line, "accepted, buffers of like numbers", numbers, len, content, LEAST, LEAST, want, answer);
+    }
+}
+
+/* The table is refused; and if a buffer is too short, that is told instead. */
+static void refuse_table(int line, const uint16_t *numbers, size_t len, uint32_t number, uint32_t row)
+{
+    lw_record want = {.outcome = number, .row = row}, memory = {.outcome = 10};
+    call(line, "refused", numbers, len, NULL, LEAST, LEAST, want, NULL);
+    call(line, "refused, longer buffers", numbers, len, NULL, LEAST + 9, LONGEST, want, NULL);
+    call(line, "refused, answer table too short", numbers, len, NULL, LEAST - 1, LEAST, memory, NULL);
+    call(line, "refused, work area too short", numbers, len, NULL, LEAST, LEAST - 1, memory, NULL);
+    call(line, "refused, both too short", numbers, len, NULL, 0, 0, memory, NULL);
+}
+
+#define ACCEPT(...)       accept(__LINE__, __VA_ARGS__)
+#define REFUSE_TABLE(...) refuse_table(__LINE__, __VA_ARGS__)
+
+/* The header's numbers are those of the specification. */
+static void test_constants(void)
+{
+    static const struct { int got, want; } same[] = {
+        {LW_ALWAYS, 0}, {LW_NEVER, 1}, {LW_SOLVED, 2}, {LW_FRESH, 2}, {LW_REFUSED_MEMORY, 10},
+        {LW_SOLVER_NUMBERS, 16384}, {LW_ANSWER_ROW_NUMBERS, 4},
+    };
+    for (size_t i = 0; i < sizeof same / sizeof same[0]; i++)
+        check(same[i].got == same[i].want, __FILE__, __LINE__, "constant %zu is %d, expected %d",
+              i, same[i].got, same[i].want);
+    check(sizeof(lw_part) == 2 * sizeof(size_t), __FILE__, __LINE__, "a part has %zu bytes", sizeof(lw_part));
+    group_done("the header's constants");
+}
+
+/* The specification's cases 1 to 9; case 10 is about a sheet alone. */
+static void test_worked(void)
+{
+    ACCEPT(TABLE(VARIABLE(8), CUT(0, 6, 3), CUT(0, 4, 1), EQUATION(1, 2)), SOLVED(5, 3, 4, 4),
+           ANSWER(FRESH(0, 1, 0), FRESH(0, 2, 1), FRESH(0, 2, 1), FRESH(0, 2, 1), FRESH(0, 1, 2)));
+    ACCEPT(TABLE(VARIABLE(9), CUT(0, 7, 3), CUT(0, 5, 1), EQUATION(1, 2)), SOLVED(9, 4, 4, 5),
+           ANSWER(FRESH(0, 1, 0), FRESH(0, 1, 1), FRESH(0, 1, 2), FRESH(0, 1, 1), FRESH(0, 1, 2), FRESH(0, 1, 1),
+                  FRESH(0, 1, 2), FRESH(0, 1, 1), FRESH(0, 1, 3)));
+    ACCEPT(TABLE(VARIABLE(4), EQUATION(0, 0)), ALWAYS(4), NO_ANSWER);
+    ACCEPT(TABLE(FILL(0, 1), FILL(1, 1), EQUATION(0, 1)), NEVER(0, 2), NO_ANSWER);
+    ACCEPT(TABLE(VARIABLE(1), VARIABLE(1), FILL(0, 1), FILL(1, 1), EQUATION(0, 1), EQUATION(1, 2), EQUATION(0, 3)),
+           NEVER(2, 6), NO_ANSWER);
+    ACCEPT(NULL, 0, ALWAYS(0), NO_ANSWER);
+    ACCEPT(TABLE(VARIABLE(1024)), ALWAYS(1024), NO_ANSWER);
+    ACCEPT(TABLE(FILL(1, 1024)), ALWAYS(0), NO_ANSWER);
+    ACCEPT(TABLE(VARIABLE(512), JOIN(0, 0)), ALWAYS(512), NO_ANSWER);
+    REFUSE_TABLE(TABLE(VARIABLE(1025)), 15, 0);
+    REFUSE_TABLE(TABLE(FILL(1, 1025)), 15, 0);
+    REFUSE_TABLE(TABLE(VARIABLE(512), VARIABLE(513), JOIN(0, 1)), 15, 2);
+    ACCEPT(TABLE(VARIABLE(8), CUT(0, 7, 0)), ALWAYS(8), NO_ANSWER);
+    ACCEPT(TABLE(VARIABLE(8), CUT(0, 7, 0), EQUATION(0, 1)), ALWAYS(8), NO_ANSWER);
+    REFUSE_TABLE(TABLE(VARIABLE(8), CUT(0, 8, 0)), 16, 1);
+    ACCEPT(TABLE(VARIABLE(8), CUT(0, 7, 4), CUT(0, 3, 0), JOIN(1, 2), EQUATION(0, 3)), ALWAYS(8), NO_ANSWER);
+    group_done("worked cases");
+}
+
+/* The specification's sheet, read and solved, and its record and answer table printed as there. */
+static void test_sheet(void)
+{
+    static const char sheet[] = "kind a b c\n0 8 0 0\n3 0 6 3\n3 0 4 1\n4 1 2 0\n";
+    static const char want[] = "outcome pieces fresh free ties row\n2 5 3 4 4 0\nvariable kind width fresh\n"
+                               "0 2 1 0\n0 2 2 1\n0 2 2 1\n0 2 2 1\n0 2 1 2\n";
+    static uint16_t numbers[LW_TABLE_NUMBERS], answer[LEAST], work[LEAST];
+    char got[1024];
+
+    lw_record read = lw_read_sheet((const uint8_t *)sheet, strlen(sheet), numbers, LW_TABLE_NUMBERS);
+    check_record(__LINE__, "sheet", read, (lw_record){.pieces = 4});
+    lw_record r = lw_solve(numbers, 4 * (size_t)read.pieces, answer, LEAST, work, LEAST);
+    int n = snprintf(got, sizeof got, "outcome pieces fresh free ties row\n%u %u %u %u %u %u\n"
+                     "variable kind width fresh\n", r.outcome, r.pieces, r.fresh, r.free, r.ties, r.row);
+    for (size_t i = 0; i < r.pieces && i < 16; i++)
+        n += snprintf(got + n, sizeof got - (size_t)n, "%u %u %u %u\n", answer[4 * i], answer[4 * i + 1],
+                      answer[4 * i + 2], answer[4 * i + 3]);
+    check(strcmp(got, want) == 0, __FILE__, __LINE__, "printed:\n%sexpected:\n%s", got, want);
+    group_done("the sheet's printed answer");
+}
+
+/* Fresh pieces: where one ends and where it may not. */
+static void test_pieces(void)
+{
+    /* A word that stands twice, whole and in parts; and one that no equation reaches. */
+    ACCEPT(TABLE(VARIABLE(2), VARIABLE(2), EQUATION(0, 1)), SOLVED(2, 1, 2, 2), ANSWER(FRESH(0, 2, 0), FRESH(1, 2, 0)));
+    ACCEPT(TABLE(VARIABLE(4), VARIABLE(2), VARIABLE(2), JOIN(1, 2), EQUATION(0, 3)), SOLVED(4, 2, 4, 4),
+           ANSWER(FRESH(0, 2, 0), FRESH(0, 2, 1), FRESH(1, 2, 0), FRESH(2, 2, 1)));
+    ACCEPT(TABLE(VARIABLE(4), VARIABLE(2), VARIABLE(2), JOIN(2, 1), EQUATION(0, 3)), SOLVED(4, 2, 4, 4),
+           ANSWER(FRESH(0, 2, 0), FRESH(0, 2, 1), FRESH(1, 2, 1), FRESH(2, 2, 0)));
+    ACCEPT(TABLE(VARIABLE(5), VARIABLE(2), VARIABLE(2), EQUATION(1, 2)), SOLVED(3, 2, 7, 2),
+           ANSWER(FRESH(0, 5, 0), FRESH(1, 2, 1), FRESH(2, 2, 1)));
+
+    /* Only the bits tied to the higher of two neighbours stand apart, or only those tied to the lower. */
+    ACCEPT(TABLE(VARIABLE(2), VARIABLE(1), CUT(0, 1, 1), EQUATION(1, 2)), SOLVED(3, 2, 2, 1),
+           ANSWER(FRESH(0, 1, 0), FRESH(0, 1, 1), FRESH(1, 1, 0)));
+    ACCEPT(TABLE(VARIABLE(2), VARIABLE(1), CUT(0, 0, 0), EQUATION(1, 2)), SOLVED(3, 2, 2, 1),
+           ANSWER(FRESH(0, 1, 0), FRESH(0, 1, 1), FRESH(1, 1, 1)));
+
+    /* Side by side in a pattern, but in two variables: before and behind the word that they are tied to. */
+    ACCEPT(TABLE(VARIABLE(1), VARIABLE(1), VARIABLE(2), JOIN(0, 1), EQUATION(2, 3)), SOLVED(4, 2, 2, 2),
+           ANSWER(FRESH(0, 1, 0), FRESH(1, 1, 1), FRESH(2, 1, 0), FRESH(2, 1, 1)));
+    ACCEPT(TABLE(VARIABLE(2), VARIABLE(1), VARIABLE(1), JOIN(1, 2), EQUATION(0, 3)), SOLVED(4, 2, 2, 2),
+           ANSWER(FRESH(0, 1, 0), FRESH(0, 1, 1), FRESH(1, 1, 0), FRESH(2, 1, 1)));
+
+    /* In reverse order; and neighbours tied to each other. */
+    ACCEPT(TABLE(VARIABLE(2), VARIABLE(2), CUT(0, 0, 0), CUT(0, 1, 1), JOIN(2, 3), EQUATION(1, 4)), SOLVED(4, 2, 2, 2),
+           ANSWER(FRESH(0, 1, 0), FRESH(0, 1, 1), FRESH(1, 1, 1), FRESH(1, 1, 0)));
+    ACCEPT(TABLE(VARIABLE(2), CUT(0, 1, 1), CUT(0, 0, 0), EQUATION(1, 2)), SOLVED(2, 1, 1, 1),
+           ANSWER(FRESH(0, 1, 0), FRESH(0, 1, 0)));
+
+    /* Cuts of one variable that overlap: by all but one bit, two bits on in 6, two bits on in 7. */
+    ACCEPT(TABLE(VARIABLE(4), CUT(0, 3, 1), CUT(0, 2, 0), EQUATION(1, 2)), SOLVED(4, 1, 1, 3),
+           ANSWER(FRESH(0, 1, 0), FRESH(0, 1, 0), FRESH(0, 1, 0), FRESH(0, 1, 0)));
+    ACCEPT(TABLE(VARIABLE(6), CUT(0, 5, 2), CUT(0, 3, 0), EQUATION(1, 2)), SOLVED(3, 1, 2, 4),
+           ANSWER(FRESH(0, 2, 0), FRESH(0, 2, 0), FRESH(0, 2, 0)));
+    ACCEPT(TABLE(VARIABLE(7), CUT(0, 6, 2), CUT(0, 4, 0), EQUATION(1, 2)), SOLVED(7, 2, 2, 5),
+           ANSWER(FRESH(0, 1, 0), FRESH(0, 1, 1), FRESH(0, 1, 0), FRESH(0, 1, 1), FRESH(0, 1, 0), FRESH(0, 1, 1),
+                  FRESH(0, 1, 0)));
+
+    /* An equation before its variables' successors: variables are numbered as they appear. */
+    ACCEPT(TABLE(FILL(1, 1), VARIABLE(1), EQUATION(0, 1), VARIABLE(3), CUT(3, 2, 2), VARIABLE(1), EQUATION(4, 5)),
+           SOLVED(4, 2, 3, 2), ANSWER(ONES(0, 1), FRESH(1, 1, 0), FRESH(1, 2, 1), FRESH(2, 1, 0)));
+    group_done("fresh pieces");
+}
+
+/* Fixed bits, and the fills that they make. */
+static void test_fills(void)
+{
+    ACCEPT(TABLE(VARIABLE(3), VARIABLE(2), FILL(1, 3), EQUATION(0, 2)), SOLVED(2, 1, 2, 3),
+           ANSWER(ONES(0, 3), FRESH(1, 2, 0)));
+    ACCEPT(TABLE(VARIABLE(4), FILL(0, 2), FILL(1, 2), JOIN(1, 2), EQUATION(0, 3)), SOLVED(2, 0, 0, 4),
+           ANSWER(ZEROS(0, 2), ONES(0, 2)));
+    ACCEPT(TABLE(VARIABLE(3), CUT(0, 1, 1), FILL(1, 1), EQUATION(1, 2)), SOLVED(3, 2, 2, 1),
+           ANSWER(FRESH(0, 1, 0), ONES(0, 1), FRESH(0, 1, 1)));
+
+    /* A run of one fixed bit is one fill, from whatever equations it comes, but not over a variable's end. */
+    ACCEPT(TABLE(VARIABLE(4), CUT(0, 3, 2), FILL(0, 2), CUT(0, 1, 1), FILL(0, 1), EQUATION(1, 2), EQUATION(3, 4)),
+           SOLVED(2, 1, 1, 3), ANSWER(ZEROS(0, 3), FRESH(0, 1, 0)));
+    ACCEPT(TABLE(VARIABLE(2), VARIABLE(2), FILL(0, 4), JOIN(0, 1), EQUATION(2, 3)), SOLVED(2, 0, 0, 4),
+           ANSWER(ZEROS(0, 2), ZEROS(1, 2)));
+
+    /* A fixed bit is passed along a chain, in whatever order its equations stand. */
+    ACCEPT(TABLE(VARIABLE(1), VARIABLE(1), VARIABLE(1), FILL(1, 1), EQUATION(0, 1), EQUATION(1, 2), EQUATION(2, 3)),
+           SOLVED(3, 0, 0, 3), ANSWER(ONES(0, 1), ONES(1, 1), ONES(2, 1)));
+    ACCEPT(TABLE(VARIABLE(1), VARIABLE(1), VARIABLE(1), FILL(1, 1), EQUATION(2, 3), EQUATION(0, 1), EQUATION(1, 2)),
+           SOLVED(3, 0, 0, 3), ANSWER(ONES(0, 1), ONES(1, 1), ONES(2, 1)));
+    ACCEPT(TABLE(VARIABLE(1), VARIABLE(1), VARIABLE(1), FILL(0, 1), EQUATION(3, 1), EQUATION(2, 0), EQUATION(0, 1)),
+           SOLVED(3, 0, 0, 3), ANSWER(ZEROS(0, 1), ZEROS(1, 1), ZEROS(2, 1)));
+    ACCEPT(TABLE(VARIABLE(6), CUT(0, 5, 1), CUT(0, 4, 0), CUT(0, 3, 3), FILL(0, 1), EQUATION(1, 2), EQUATION(4, 3)),
+           SOLVED(1, 0, 0, 6), ANSWER(ZEROS(0, 6)));
+    group_done("fixed bits");
+}
+
+/* Ties, and the row at which no pattern is left. */
+static void test_ties(void)
+{
+    /* Pairs repeated, with sides exchanged, or implied by others. */
+    ACCEPT(TABLE(VARIABLE(2), VARIABLE(2), EQUATION(0, 1), EQUATION(0, 1), EQUATION(1, 0)), SOLVED(2, 1, 2, 2),
+           ANSWER(FRESH(0, 2, 0), FRESH(1, 2, 0)));
+    ACCEPT(TABLE(VARIABLE(1), VARIABLE(1), VARIABLE(1), EQUATION(0, 1), EQUATION(1, 2), EQUATION(2, 0)),
+           SOLVED(3, 1, 1, 2), ANSWER(FRESH(0, 1, 0), FRESH(1, 1, 0), FRESH(2, 1, 0)));
+    ACCEPT(TABLE(VARIABLE(1), VARIABLE(1), FILL(0, 1), EQUATION(0, 2), EQUATION(1, 2), EQUATION(0, 1)),
+           SOLVED(2, 0, 0, 2), ANSWER(ZEROS(0, 1), ZEROS(1, 1)));
+    ACCEPT(TABLE(VARIABLE(1), JOIN(0, 0), VARIABLE(1), JOIN(2, 2), EQUATION(1, 3)), SOLVED(2, 1, 1, 1),
+           ANSWER(FRESH(0, 1, 0), FRESH(1, 1, 0)));
+    ACCEPT(TABLE(FILL(0, 3), FILL(0, 3), EQUATION(0, 1)), ALWAYS(0), NO_ANSWER);
+
+    /* The lowest row at which no pattern is left; the ties before it, without those of its own first pairs. */
+    ACCEPT(TABLE(VARIABLE(1), FILL(0, 1), FILL(1, 1), EQUATION(0, 1), EQUATION(0, 2), EQUATION(1, 2), EQUATION(0, 1)),
+           NEVER(1, 4), NO_ANSWER);
+    ACCEPT(TABLE(VARIABLE(2), FILL(0, 1), CUT(0, 0, 0), EQUATION(2, 1), FILL(1, 2), EQUATION(0, 4), EQUATION(0, 0)),
+           NEVER(1, 5), NO_ANSWER);
+    ACCEPT(TABLE(FILL(0, 1), FILL(1, 1), EQUATION(0, 1), EQUATION(1, 0), VARIABLE(3)), NEVER(0, 2), NO_ANSWER);
+    ACCEPT(TABLE(VARIABLE(3), CUT(0, 2, 1), CUT(0, 1, 0), FILL(0, 1), FILL(1, 1), CUT(0, 2, 2), CUT(0, 0, 0),
+                 EQUATION(5, 3), EQUATION(6, 4), EQUATION(1, 2), EQUATION(0, 0)), NEVER(2, 9), NO_ANSWER);
+    group_done("ties, and never");
+}
+
+/* The largest answers and tables. */
+static void test_limits(void)
+{
+    static uint16_t answer[LEAST];
+    table t;
+
+    /* Four words of 1024 fixed bits 0 1 0 1 ..: 4096 fills, and the answer table of 16384 numbers is full. */
+    t.len = 0;
+    add(&t, FILL(0, 1));
+    add(&t, FILL(1, 1));
+    add(&t, JOIN(0, 1));
+    for (size_t i = 2; i < 11; i++)
+        add(&t, JOIN(i, i));
+    for (size_t v = 0; v < 4; v++)
+        add(&t, VARIABLE(1024));
+    for (size_t v = 0; v < 4; v++)
+        add(&t, EQUATION(12 + v, 11));
+    for (uint16_t i = 0; i < 4096; i++)
+        memcpy(answer + 4 * i, (const uint16_t[]){i / 1024, i % 2, 1, 0}, 8);
+    ACCEPT(ALL(t), SOLVED(4096, 0, 0, 4096), answer, LEAST);
+
+    /* The same with the last bit of the last word both 0 and 1. */
+    add(&t, CUT(15, 0, 0));
+    add(&t, EQUATION(0, 20));
+    ACCEPT(ALL(t), NEVER(4096, 21), NO_ANSWER);
+
+    /* 64 words of 64 bits, all equal; then turned by one bit. */
+    t.len = 0;
+    for (size_t v = 0; v < 64; v++)
+        add(&t, VARIABLE(64));
+    for (size_t v = 0; v < 63; v++)
+        add(&t, EQUATION(v, v + 1));
+    for (uint16_t v = 0; v < 64; v++)
+        memcpy(answer + 4 * v, (const uint16_t[]){FRESH(v, 64, 0)}, 8);
+    ACCEPT(ALL(t), SOLVED(64, 1, 64, 4032), answer, 4 * 64);
+    add(&t, CUT(0, 62, 0));
+    add(&t, CUT(0, 63, 63));
+    add(&t, JOIN(127, 128));
+    add(&t, EQUATION(63, 129));
+    for (uint16_t i = 0; i < 4096; i++)
+        memcpy(answer + 4 * i, (const uint16_t[]){FRESH(i / 64, 1, 0)}, 8);
+    ACCEPT(ALL(t), SOLVED(4096, 1, 1, 4095), answer, LEAST);
+
+    /*
+      512 rows, 64 of them equations: in each of 64 words of 64 bits, bits 10 and
+      20 are bits 40 and 50 of the next word. 448 fresh pieces.
+    */
+    t.len = 0;
+    for (size_t v = 0; v < 64; v++)
+        add(&t, VARIABLE(64));
+    for (size_t v = 0; v < 64; v++) { /* from row 64 + 6 * v on */
+        add(&t, CUT(v, 10, 10));
+        add(&t, CUT(v, 20, 20));
+        add(&t, JOIN(64 + 6 * v, 65 + 6 * v));
+        add(&t, CUT(v, 40, 40));
+        add(&t, CUT(v, 50, 50));
+        add(&t, JOIN(67 + 6 * v, 68 + 6 * v));
+    }
+    for (size_t v = 0; v < 64; v++)
+        add(&t, EQUATION(66 + 6 * v, 69 + 6 * ((v + 1) % 64)));
+    uint16_t fresh = 0, bit_10 = 0, bit_20 = 0; /* the next new number; those of bits 10 and 20 of the word before */
+    for (uint16_t v = 0; v < 64; v++) {
+        static const uint16_t widths[] = {13, 1, 9, 1, 19, 1, 9, 1, 10};
+        for (uint16_t i = 0; i < 9; i++) {
+            uint16_t number;
+            if (v != 0 && (i == 1 || i == 3)) /* bits 50 and 40 */
+                number = i == 1 ? bit_20 : bit_10;
+            else if (v == 63 && (i == 5 || i == 7)) /* bits 20 and 10: those of word 0 */
+                number = i == 5 ? 1 : 3;
+            else
+                number = fresh++;
+            memcpy(answer + 4 * (9 * v + i), (const uint16_t[]){FRESH(v, widths[i], number)}, 8);
+        }
+        bit_20 = answer[4 * (9 * v + 5) + 3];
+        bit_10 = answer[4 * (9 * v + 7) + 3];
+    }
+    ACCEPT(ALL(t), SOLVED(576, 448, 3968, 128), answer, 4 * 576);
+
+    /* 64 words of 64 bits and 64 equations of 1024 bits, each of a word with itself. */
+    t.len = 0;
+    for (size_t v = 0; v < 64; v++)
+        add(&t, VARIABLE(64));
+    for (size_t v = 0; v < 4; v++)
+        add(&t, JOIN(v == 0 ? 63 : 63 + v, v == 0 ? 63 : 63 + v)); /* rows 64 to 67 */
+    for (size_t e = 0; e < 64; e++)
+        add(&t, EQUATION(67, 67));
+    ACCEPT(ALL(t), ALWAYS(4096), NO_ANSWER);
+
+    /* 512 rows: a chain of cuts of all bits of a word, equal to another word. */
+    t.len = 0;
+    add(&t, VARIABLE(1024));
+    for (size_t r = 1; r < 510; r++)
+        add(&t, CUT(r - 1, 1023, 0));
+    add(&t, VARIABLE(1024));
+    add(&t, EQUATION(509, 510));
+    ACCEPT(ALL(t), SOLVED(2, 1, 1024, 1024), ANSWER(FRESH(0, 1024, 0), FRESH(1, 1024, 0)));
+    t.numbers[4 * 511 + 2] = 0;
+    ACCEPT(ALL(t), ALWAYS(2048), NO_ANSWER);
+    group_done("largest answers and tables");
+}
+
+/* Refusal 10, with tables good and bad. */
+static void test_memory(void)
+{
+    static const size_t lens[] = {0, 1, 4, 20, 2048, 4096, 8192, LEAST - 4, LEAST - 1, LEAST, LEAST + 1};
+    static const uint16_t good[] = {VARIABLE(8), CUT(0, 6, 3), CUT(0, 4, 1), EQUATION(1, 2)};
+    static const uint16_t bad[] = {VARIABLE(8), 9, 9, 9, 9};
+    static uint16_t answer[LEAST];
+    size_t count = sizeof lens / sizeof lens[0];
+
+    for (size_t i = 0; i < count; i++)
+        for (size_t j = 0; j < count; j++) {
+            lw_record want = expected(good, 16, lens[i], lens[j], answer);
+            check(want.outcome == (lens[i] < LEAST || lens[j] < LEAST ? 10 : 2), __FILE__, __LINE__, "expected %u",
+                  want.outcome);
+            call(__LINE__, "good table", good, 16, NULL, lens[i], lens[j], want, answer);
+            call(__LINE__, "no rows", NULL, 0, NULL, lens[i], lens[j],
+                 expected(NULL, 0, lens[i], lens[j], answer), answer);
+            for (size_t len = 7; len <= 8; len++) { /* refused 11, and 12 */
+                want = expected(bad, len, lens[i], lens[j], answer);
+                check(want.outcome == (lens[i] < LEAST || lens[j] < LEAST ? 10 : len == 7 ? 11 : 12), __FILE__,
+                      __LINE__, "expected %u", want.outcome);
+                call(__LINE__, "bad table", bad, len, NULL, lens[i], lens[j], want, answer);
+            }
+        }
+    group_done("refusal 10");
+}
+
+/* Refusals 11 to 18, and two at once. */
+static void test_table_refusals(void)
+{
+    table t;
+
+    for (size_t len = 1; len < 8; len++)
+        if (len % 4 != 0)
+            REFUSE_TABLE((const uint16_t[]){VARIABLE(1), FILL(0, 1)}, len, 11, 512);
+    t.len = 0;
+    while (t.len < 2052)
+        add(&t, FILL(1, 2));
+    t.len = 2048;
+    ACCEPT(ALL(t), ALWAYS(0), NO_ANSWER);
+    for (t.len = 2049; t.len <= 2052; t.len++)
+        REFUSE_TABLE(ALL(t), 11, 512);
+
+    REFUSE_TABLE(TABLE(5, 0, 0, 0), 12, 0);
+    REFUSE_TABLE(TABLE(VARIABLE(1), 65535, 1, 0, 0), 12, 1);
+    REFUSE_TABLE(TABLE(LW_VARIABLE, 1, 1, 0), 13, 0);
+    REFUSE_TABLE(TABLE(LW_VARIABLE, 1, 0, 1), 13, 0);
+    REFUSE_TABLE(TABLE(VARIABLE(1), LW_FILL, 1, 1, 1), 13, 1);
+    REFUSE_TABLE(TABLE(VARIABLE(1), LW_JOIN, 0, 0, 1), 13, 1);
+    REFUSE_TABLE(TABLE(VARIABLE(1), LW_EQUATION, 0, 0, 1), 13, 1);
+    REFUSE_TABLE(TABLE(VARIABLE(1), JOIN(0, 1)), 14, 1);
+    REFUSE_TABLE(TABLE(VARIABLE(1), JOIN(2, 0), VARIABLE(1)), 14, 1);
+    REFUSE_TABLE(TABLE(VARIABLE(1), EQUATION(0, 600)), 14, 1);
+    REFUSE_TABLE(TABLE(VARIABLE(1), EQUATION(0, 0), CUT(1, 0, 0)), 14, 2);
+    REFUSE_TABLE(TABLE(VARIABLE(1), EQUATION(0, 0), EQUATION(0, 1)), 14, 2);
+    REFUSE_TABLE(TABLE(VARIABLE(0)), 15, 0);
+    REFUSE_TABLE(TABLE(VARIABLE(1), FILL(2, 1)), 15, 1);
+    REFUSE_TABLE(TABLE(VARIABLE(1024), JOIN(0, 0)), 15, 1);
+    REFUSE_TABLE(TABLE(VARIABLE(8), CUT(0, 3, 4)), 16, 1);
+    REFUSE_TABLE(TABLE(VARIABLE(2), VARIABLE(3), EQUATION(0, 1)), 18, 2);
+    t.len = 0;
+    while (t.len < 4 * 65)
+        add(&t, VARIABLE(1));
+    REFUSE_TABLE(ALL(t), 17, 64);
+    t.len = 4;
+    while (t.len < 4 * 66)
+        add(&t, EQUATION(0, 0));
+    REFUSE_TABLE(ALL(t), 17, 65);
+    REFUSE_TABLE(TABLE(VARIABLE(1024), VARIABLE(1024), VARIABLE(1024), VARIABLE(1024), VARIABLE(1)), 17, 4);
+
+    /* A table without a pattern is refused too, for a fault behind the row at which none is left. */
+    REFUSE_TABLE(TABLE(FILL(0, 1), FILL(1, 1), EQUATION(0, 1), VARIABLE(1), EQUATION(0, 2)), 14, 4);
+
+    /* Two faults: the first in this order within a row, and the lower row, whatever the two numbers are. */
+    REFUSE_TABLE(TABLE(9, 9, 9, 9, 9, 9), 11, 512);
+    REFUSE_TABLE(TABLE(VARIABLE(1), LW_JOIN, 0, 7, 1), 13, 1);
+    static const struct { uint16_t row[4]; uint32_t number; } faults[] = {
+        {{5, 0, 0, 0}, 12},  {{LW_FILL, 0, 1, 7}, 13}, {{CUT(600, 0, 0)}, 14}, {{FILL(2, 1)}, 15},
+        {{CUT(0, 1, 0)}, 16}, {{VARIABLE(1)}, 17},      {{EQUATION(0, 64)}, 18},
+    };
+    for (size_t i = 0; i < 7; i++)
+        for (size_t j = 0; j < 7; j++) {
+            t.len = 0;
+            while (t.len < 4 * 64)
+                add(&t, VARIABLE(1));
+            add(&t, JOIN(0, 1));
+            add(&t, faults[i].row[0], faults[i].row[1], faults[i].row[2], faults[i].row[3]);
+            add(&t, FILL(0, 1));
+            add(&t, faults[j].row[0], faults[j].row[1], faults[j].row[2], faults[j].row[3]);
+            REFUSE_TABLE(ALL(t), faults[i].number, 65);
+        }
+    group_done("refusals 11 to 18");
+}
+
+/* NULL with length 0 for each buffer. */
+static void test_null(void)
+{
+    static const uint16_t fill[] = {FILL(1, 2)};
+    static uint16_t answer[LEAST], work[LEAST];
+    for (size_t i = 0; i < LEAST; i++)
+        answer[i] = work[i] = 9;
+
+#define REFUSE_NULL(name, number, at, ...) \
+    check_record(__LINE__, name, lw_solve(__VA_ARGS__), (lw_record){.outcome = (number), .row = (at)})
+    REFUSE_NULL("all NULL", 10, 0, NULL, 0, NULL, 0, NULL, 0);
+    REFUSE_NULL("answer NULL", 10, 0, fill, 4, NULL, 0, work, LEAST);
+    REFUSE_NULL("work NULL", 10, 0, fill, 4, answer, LEAST, NULL, 0);
+    REFUSE_NULL("both NULL, table refused", 10, 0, fill, 3, NULL, 0, NULL, 0);
+    REFUSE_NULL("table refused", 11, 512, fill, 3, answer, LEAST, work, LEAST);
+#undef REFUSE_NULL
+    size_t kept = 0, zero = 0;
+    for (size_t i = 0; i < LEAST; i++)
+        kept += answer[i] == 9 && work[i] == 9;
+    check(kept == LEAST, __FILE__, __LINE__, "a buffer written by a refusal");
+    check_record(__LINE__, "table NULL", lw_solve(NULL, 0, answer, LEAST, work, LEAST), ALWAYS(0));
+    for (size_t i = 0; i < LEAST; i++)
+        zero += answer[i] == 9 && work[i] == 0;
+    check(zero == LEAST, __FILE__, __LINE__, "buffers after a table of no rows");
+    check_part(__LINE__, "answer NULL", lw_right_side(NULL, 0, 0, 0), (lw_part){0, 0});
+    check_part(__LINE__, "answer NULL, a row in use", lw_right_side(NULL, 0, 1, 0), (lw_part){0, 0});
+    check_part(__LINE__, "answer NULL, SIZE_MAX", lw_right_side(NULL, 0, SIZE_MAX, SIZE_MAX), (lw_part){0, 0});
+    group_done("NULL with length 0");
+}
+
+/* Right sides of any numbers. */
+
+static void part(int line, const uint16_t *numbers, size_t len, size_t rows, size_t variable, lw_part want)
+{
+    guarded a = guard(numbers, len * sizeof *numbers);
+    const uint16_t *answer = guarded_buffer(&a);
+    check_part(line, "right side", lw_right_side(answer, len, rows, variable), want);
+    guard_check(&a, __FILE__, line, "answer");
+}
+
+#define PART(...)       part(__LINE__, __VA_ARGS__)
+#define RUN(start, len) (lw_part){(start), (len)}
+#define EMPTY           RUN(0, 0)
+
+static void test_right_side(void)
+{
+    /* Rows of variables 0, 0, 1, 2, 2, 0, 65535, and three numbers more. */
+    static const uint16_t rows[] = {
+        FRESH(0, 1, 0), ZEROS(0, 2), ONES(1, 3), FRESH(2, 1, 0), FRESH(2, 2, 1), FRESH(0, 1, 2), ONES(65535, 9),
+        0, 0, 0,
+    };
+    PART(rows, 31, 7, 0, RUN(0, 8));
+    PART(rows, 31, 7, 1, RUN(8, 4));
+    PART(rows, 31, 7, 2, RUN(12, 8));
+    PART(rows, 31, 7, 3, EMPTY);
+    PART(rows, 31, 7, 65535, RUN(24, 4));
+    PART(rows, 31, 7, 65536, EMPTY);
+    PART(rows, 31, 7, SIZE_MAX, EMPTY);
+    PART(rows, 31, 6, 65535, EMPTY);  /* that row is not in use */
+    PART(rows, 31, 4, 2, RUN(12, 4)); /* nor is the second row of it */
+    PART(rows, 31, 1, 0, RUN(0, 4));
+    PART(rows, 31, 0, 0, EMPTY);
+    PART(rows, 31, 8, 0, EMPTY);      /* seven whole rows are lent */
+    PART(rows, 28, 7, 0, RUN(0, 8));
+    PART(rows, 27, 7, 0, EMPTY);
+    PART(rows, 27, 6, 0, RUN(0, 8));
+    PART(rows, 3, 0, 0, EMPTY);
+    PART(rows, 3, 1, 0, EMPTY);
+    PART(rows, 0, 0, 0, EMPTY);
+    static const size_t many[] = {SIZE_MAX, SIZE_MAX / 4, SIZE_MAX / 4 + 1, SIZE_MAX / 4 + 2, SIZE_MAX / 2 + 1,
+                                  (size_t)UINT32_MAX + 1, 65536};
+    for (size_t i = 0; i < sizeof many / sizeof many[0]; i++)
+        PART(rows, 31, many[i], 0, EMPTY);
+    static const size_t absent[] = {65536, 65537, 131071, (size_t)UINT32_MAX + 1, (size_t)UINT32_MAX + 3,
+                                    SIZE_MAX - 65535, SIZE_MAX - 65534, SIZE_MAX};
+    for (size_t i = 0; i < sizeof absent / sizeof absent[0]; i++) /* not taken for their low 16 bits */
+        PART(rows, 31, 7, absent[i], EMPTY);
+    group_done("right sides worked by hand");
+}
+
+/* Random numbers of any kind, against the plain loop. */
+static void test_random_parts(void)
+{
+    static uint16_t numbers[4 * 600];
+    unsigned long empty = 0, whole = 0, longer = 0, rest = 0;
+
+    for (unsigned long i = 0; i < 40000; i++) {
+        size_t len = one_in(4) ? below(4 * 600) : below(60), kinds = one_in(3) ? 2 : one_in(2) ? 64 : 65536;
+        uint16_t last = (uint16_t)below(kinds);
+        for (size_t k = 0; k < len; k++) { /* often the variable of the row before */
+            numbers[k] = k % 4 == 0 && !one_in(4) ? last : (uint16_t)below(kinds);
+            if (k % 4 == 0)
+                last = numbers[k];
+        }
+        size_t lent = len / 4, rows, variable;
+        switch (below(8)) {
+        case 0:  rows = 0; break;
+        case 1:  rows = lent + 1 + below(3); break;
+        case 2:  rows = one_in(3) ? SIZE_MAX - below(2) : SIZE_MAX / 4 + below(3); break;
+        case 3:  rows = below(lent + 1); break;
+        default: rows = lent; break;
+        }
+        switch (below(8)) {
+        case 0:  variable = below(64); break;
+        case 1:  variable = one_in(2) ? 63 : 65535; break;
+        case 2:  variable = one_in(2) ? 65536 + below(kinds) : SIZE_MAX - below(65536); break;
+        default: variable = lent == 0 ? 0 : numbers[4 * below(lent)]; break;
+        }
+        lw_part want = plain_right_side(numbers, len, rows, variable);
+        PART(numbers, len, rows, variable, want);
+        if (want.len == 0)
+            empty++;
+        else if (want.len == 4 * rows)
+            whole++;
+        else if (want.len > 4)
+            longer++;
+        else
+            rest++;
+    }
+    printf("40000 random parts: %lu empty, %lu of all rows, %lu of some rows, %lu of one row\n", empty, whole, longer,
+           rest);
+    check(empty != 0 && whole != 0 && longer != 0 && rest != 0, __FILE__, __LINE__, "some kind of part does not occur");
+    group_done("random right sides");
+}
+
+/* Small random tables. */
+
+enum { SMALL_WIDTH = 24 };
+
+/*
+  A table in the making, with the value of each row of up to 64 bits under one
+  pattern, the hidden one. Equations that hold under it keep the table from
+  never.
+*/
+typedef struct {
+    draft d;
+    uint64_t value[512];
+    uint64_t hidden;     /* a variable's value; */
+    bool one_for_all;    /* that of each variable, or else each gets one of its own */
+    size_t room;         /* variable bits that can still be added */
+} sketch;
+
+static uint64_t ones(size_t width)
+{
+    return width >= 64 ? UINT64_MAX : ((uint64_t)1 << width) - 1;
+}
+
+static size_t add_variable(sketch *s, size_t width)
+{
+    s->value[s->d.rows] = (s->one_for_all ? s->hidden : random_number()) & ones(width);
+    s->room -= width;
+    return add_row(&s->d, width, VARIABLE(width));
+}
+
+static size_t add_fill(sketch *s, uint64_t bit, size_t width)
+{
+    s->value[s->d.rows] = bit == 0 ? 0 : ones(width);
+    return add_row(&s->d, width, FILL((uint16_t)bit, width));
+}
+
+static size_t add_join(sketch *s, size_t a, size_t b)
+{
+    size_t right = s->d.width[b];
+    s->value[s->d.rows] = (right < 64 ? s->value[a] << right : 0) | s->value[b];
+    return add_row(&s->d, s->d.width[a] + right, JOIN(a, b));
+}
+
+/* The bits of a row from low up, so many. */
+static uint64_t part_value(const sketch *s, size_t a, size_t low, size_t width)
+{
+    return s->value[a] >> low & ones(width);
+}
+
+/* A cut of so many bits; the row itself, now and then, if that is all of it. */
+static size_t add_part(sketch *s, size_t a, size_t low, size_t width)
+{
+    if (width == s->d.width[a] && !one_in(4))
+        return a;
+    s->value[s->d.rows] = part_value(s, a, low, width);
+    return add_row(&s->d, width, CUT(a, low + width - 1, low));
+}
+
+static void add_equation(sketch *s, size_t a, size_t b)
+{
+    if (one_in(2))
+        add_row(&s->d, 0, EQUATION(a, b));
+    else
+        add_row(&s->d, 0, EQUATION(b, a));
+}
+
+/* A row of at most SMALL_WIDTH bits; there is one. */
+static size_t small_term(const sketch *s)
+{
+    for (;;) {
+        size_t r = some_term(&s->d);
+        if (r != NONE && s->d.width[r] <= SMALL_WIDTH)
+            return r;
+    }
+}
+
+/* A row as above, often a variable. */
+static size_t small_word(const sketch *s)
+{
+    size_t r = one_in(2) ? some_row(&s->d, LW_VARIABLE, LW_VARIABLE) : NONE;
+    return r != NONE ? r : small_term(s);
+}
+
+/* A row that is the same word as row r: cut in two and joined again, or cut out of a join. */
+static size_t same_word(sketch *s, size_t r)
+{
+    size_t w = s->d.width[r], other = small_term(s), at;
+
+    switch (w + s->d.width[other] > 64 ? 3 : below(4)) {
+    case 0:
+        return add_part(s, add_join(s, r, other), s->d.width[other], w);
+    case 1:
+        return add_part(s, add_join(s, other, r), 0, w);
+    case 2:
+        return r;
+    default:
+        if (w == 1)
+            return add_part(s, r, 0, 1);
+        at = 1 + below(w - 1);
+        size_t left = add_part(s, r, at, w - at), right = add_part(s, r, 0, at);
+        return add_join(s, left, right);
+    }
+}
+
+/* The kinds of equations. If it is to hold, it holds under the hidden pattern. */
+
+/* Parts of two rows. */
+static void equate_parts(sketch *s, bool holds)
+{
+    size_t a = 0, b = 0, w = 0, low_a = 0, low_b = 0;
+    for (int i = 0; i < 30; i++) {
+        a = small_word(s);
+        b = small_word(s);
+        size_t most = s->d.width[a] < s->d.width[b] ? s->d.width[a] : s->d.width[b];
+        w = i < 20 && !one_in(3) ? most : 1 + below(most);
+        low_a = below(s->d.width[a] - w + 1);
+        low_b = below(s->d.width[b] - w + 1);
+        if (!holds || part_value(s, a, low_a, w) == part_value(s, b, low_b, w)) {
+            size_t left = add_part(s, a, low_a, w);
+            add_equation(s, left, add_part(s, b, low_b, w));
+            return;
+        }
+    }
+}
+
+/* Two parts of one variable that overlap. */
+static void equate_overlapping(sketch *s, bool holds)
+{
+    for (int i = 0; i < 30; i++) {
+        size_t v = small_term(s), width = s->d.width[v];
+        if (s->d.t.numbers[4 * v] != LW_VARIABLE || width < 3)
+            continue;
+        size_t w = 2 + below(width - 2), low = below(width - w), step = 1 + below(width - w - low);
+        if (step >= w || (holds && part_value(s, v, low, w) != part_value(s, v, low + step, w)))
+            continue;
+        size_t left = add_part(s, v, low, w);
+        add_equation(s, left, add_part(s, v, low + step, w));
+        return;
+    }
+}
+
+/* A join of two rows with a row as wide, or with a part of one. */
+static void equate_join(sketch *s, bool holds)
+{
+    for (int i = 0; i < 30; i++) {
+        size_t a = small_term(s), b = small_term(s), c = small_term(s), w = s->d.width[a] + s->d.width[b];
+        if (w > s->d.width[c])
+            continue;
+        size_t low = below(s->d.width[c] - w + 1);
+        if (holds && (s->value[a] << s->d.width[b] | s->value[b]) != part_value(s, c, low, w))
+            continue;
+        size_t left = add_join(s, a, b);
+        add_equation(s, left, add_part(s, c, low, w));
+        return;
+    }
+}
+
+/* The low end of a variable and the high end of the next one, joined, with a part of a variable. */
+static void equate_across(sketch *s, bool holds)
+{
+    for (int i = 0; i < 30; i++) {
+        size_t x = some_row(&s->d, LW_VARIABLE, LW_VARIABLE), c = some_row(&s->d, LW_VARIABLE, LW_VARIABLE), y;
+        if (x == NONE)
+            return;
+        for (y = x + 1; y < s->d.rows && s->d.t.numbers[4 * y] != LW_VARIABLE; y++)
+            ;
+        if (y == s->d.rows)
+            continue;
+        size_t left = 1 + below(s->d.width[x]), right = 1 + below(s->d.width[y]);
+        if (left + right > s->d.width[c])
+            continue;
+        size_t top = s->d.width[y] - right, low = below(s->d.width[c] - left - right + 1);
+        uint64_t value = part_value(s, x, 0, left) << right | part_value(s, y, top, right);
+        if (holds && value != part_value(s, c, low, left + right))
+            continue;
+        size_t a = add_part(s, x, 0, left), b = add_part(s, y, top, right), whole = add_join(s, a, b);
+        add_equation(s, whole, add_part(s, c, low, left + right));
+        return;
+    }
+}
+
+/* A few bits of a row with its bits in reverse order. */
+static void equate_reversed(sketch *s, bool holds)
+{
+    for (int i = 0; i < 30; i++) {
+        size_t a = small_term(s), b = small_term(s), w = 2 + below(3);
+        if (s->d.width[a] < w || s->d.width[b] < w)
+            continue;
+        size_t low_a = below(s->d.width[a] - w + 1), low_b = below(s->d.width[b] - w + 1);
+        bool same = true;
+        for (size_t k = 0; k < w; k++)
+            same = same && part_value(s, a, low_a + k, 1) == part_value(s, b, low_b + w - 1 - k, 1);
+        if (holds && !same)
+            continue;
+        size_t turned = add_part(s, a, low_a, 1);
+        for (size_t k = 1; k < w; k++)
+            turned = add_join(s, turned, add_part(s, a, low_a + k, 1));
+        add_equation(s, turned, add_part(s, b, low_b, w));
+        return;
+    }
+}
+
+/* A part of a row with a fill. */
+static void equate_fill(sketch *s, bool holds)
+{
+    size_t a = small_term(s), low = below(s->d.width[a]), w = 1;
+    uint64_t bit = part_value(s, a, low, 1);
+    while (low + w < s->d.width[a] && !one_in(3) && part_value(s, a, low + w, 1) == bit)
+        w++;
+    size_t left = add_part(s, a, low, w);
+    add_equation(s, left, add_fill(s, holds ? bit : bit ^ 1, w));
+}
+
+/* Bits each equal to the next, the last one or the first one fixed: equations of one bit. */
+static void equate_chain(sketch *s, bool holds)
+{
+    size_t links = 2 + below(3), a = small_term(s), at = below(s->d.width[a]);
+    uint64_t bit = part_value(s, a, at, 1);
+    size_t term = add_part(s, a, at, 1);
+    if (one_in(4))
+        add_equation(s, term, add_fill(s, bit, 1));
+    for (int i = 0; i < 20 && links != 0; i++) {
+        size_t b = small_term(s), place = below(s->d.width[b]);
+        if (holds && part_value(s, b, place, 1) != bit)
+            continue;
+        size_t other = add_part(s, b, place, 1);
+        add_equation(s, term, other);
+        term = other;
+        links--;
+    }
+    add_equation(s, term, add_fill(s, holds ? bit : bit ^ 1, 1));
+}
+
+/* A bit, perhaps tied to others, fixed to its value under the hidden pattern; then with others to the other value. */
+static void equate_conflict(sketch *s)
+{
+    size_t e = some_row(&s->d, LW_EQUATION, LW_EQUATION), a = small_term(s), b = a;
+    if (e != NONE && !one_in(4)) {
+        a = s->d.t.numbers[4 * e + 1];
+        b = s->d.t.numbers[4 * e + 2];
+    }
+    if (s->d.width[a] > 64)
+        return;
+    size_t at = below(s->d.width[a]), left = add_part(s, a, at, 1);
+    size_t low = at - below(at + 1), high = at + below(s->d.width[b] - at), right = add_part(s, b, low, high - low + 1);
+    uint64_t bit = s->value[left];
+    if (s->d.bits == 0)
+        bit = bit == 0; /* a fixed bit with the other one */
+    add_equation(s, left, add_fill(s, bit, 1));
+    if (one_in(4))
+        equate_parts(s, true);
+    add_equation(s, right, add_fill(s, bit ^ 1, high - low + 1));
+}
+
+/* Two rows of one value, each joined with itself again and again: pairs repeated within an equation. */
+static void equate_doubled(sketch *s, bool holds)
+{
+    for (int i = 0; i < 30; i++) {
+        size_t a = small_term(s), b = small_term(s);
+        if (s->d.width[a] != s->d.width[b] || (holds && s->value[a] != s->value[b]))
+            continue;
+        for (size_t k = 1 + below(one_in(6) ? 5 : 2); k != 0 && s->d.width[a] <= 512; k--) {
+            size_t left = add_join(s, a, a);
+            b = add_join(s, b, b);
+            a = left;
+        }
+        add_equation(s, a, b);
+        return;
+    }
+}
+
+/* An equation that holds under every pattern. */
+static void equate_same(sketch *s)
+{
+    size_t a = small_term(s), left = one_in(2) ? a : same_word(s, a);
+    add_equation(s, left, same_word(s, a));
+}
+
+/* An earlier equation again. */
+static void equate_again(sketch *s)
+{
+    size_t e = some_row(&s->d, LW_EQUATION, LW_EQUATION);
+    if (e != NONE)
+        add_equation(s, s->d.t.numbers[4 * e + 1], s->d.t.numbers[4 * e + 2]);
+}
+
+/* A row that is no equation. */
+static void add_term(sketch *s)
+{
+    size_t w, a, b;
+
+    switch (below(6)) {
+    case 0:
+        w = 1 + below(4);
+        add_fill(s, below(2), w);
+        return;
+    case 1:
+    case 2:
+        if (s->room != 0) {
+            w = 1 + below(s->room < 4 || one_in(4) ? s->room : 4);
+            add_variable(s, w);
+            return;
+        }
+        break;
+    case 3:
+        a = small_term(s);
+        w = 1 + below(s->d.width[a]);
+        add_part(s, a, below(s->d.width[a] - w + 1), w);
+        return;
+    default:
+        break;
+    }
+    a = small_term(s);
+    b = small_term(s);
+    add_join(s, a, b); /* of at most 2 * SMALL_WIDTH bits */
+}
+
+/* What a small table is meant to be; it may turn out otherwise. */
+typedef enum { MEANT_ALWAYS, MEANT_NEVER, MEANT_SOLVED } intent;
+
+static void make_small(sketch *s)
+{
+    size_t chance = below(10);
+    intent meant = chance < 2 ? MEANT_ALWAYS : chance < 6 ? MEANT_NEVER : MEANT_SOLVED;
+    size_t equations = one_in(30) ? 0 : 1 + below(one_in(4) ? 12 : one_in(2) ? 5 : 2), wrong = below(equations + 1);
+    size_t period = 1 + below(one_in(2) ? 4 : 9), last;
+    bool conflict = meant == MEANT_NEVER && equations != 0;
+    bool words = one_in(3); /* few equations, and of parts only, so that long pieces are left */
+
+    clear(&s->d);
+    s->room = one_in(25) ? 0 : one_in(3) ? 9 + below(6) : 1 + below(14);
+    s->one_for_all = words || !one_in(3);
+    if (words) {
+        equations = equations == 0 ? 0 : 1 + below(3);
+        wrong = below(equations + 1);
+        period = 1 + below(2);
+    }
+    s->hidden = random_number() & ones(period); /* bits that come again and again, so that parts are often equal */
+    for (size_t w = period; w < 64; w *= 2)
+        s->hidden |= s->hidden << w;
+
+    if (s->room == 0 || one_in(4)) {
+        size_t w = 1 + below(3);
+        add_fill(s, below(2), w);
+    }
+    if (s->room != 0) {
+        last = add_variable(s, 1 + below(s->room));
+        for (size_t i = below(4); i != 0 && s->room != 0; i--) { /* some as wide as the one before */
+            size_t w = s->d.width[last];
+            last = add_variable(s, w <= s->room && one_in(2) ? w : 1 + below(s->room < 5 ? s->room : 5));
+        }
+    }
+    for (size_t i = below(6); i != 0; i--)
+        add_term(s);
+    while ((s->d.equations < equations || conflict) && s->d.rows < 120) {
+        bool holds = meant == MEANT_SOLVED || s->d.equations < wrong || !one_in(3);
+        if (conflict && s->d.equations >= wrong) {
+            equate_conflict(s);
+            conflict = false;
+        }
+        if (one_in(3))
+            add_term(s);
+        if (meant == MEANT_ALWAYS || one_in(12)) {
+            if (one_in(4))
+                equate_again(s);
+            else
+                equate_same(s);
+            continue;
+        }
+        switch (!words ? below(11) : one_in(4) ? 0 : 10) {
+        case 0:
+        case 1:  equate_overlapping(s, holds); break;
+        case 2:  equate_join(s, holds); break;
+        case 8:  equate_across(s, holds); break;
+        case 3:  equate_reversed(s, holds); break;
+        case 4:  equate_fill(s, holds); break;
+        case 5:  equate_chain(s, holds); break;
+        case 6:  equate_doubled(s, holds); break;
+        case 7:  equate_again(s); break;
+        default: equate_parts(s, holds); break;
+        }
+    }
+    if (one_in(8))
+        add_term(s); /* behind the last equation, perhaps a variable */
+}
+
+/* What occurs in the small tables. */
+enum {
+    NEVER_EARLY, NEVER_TIES, NEVER_OWN_TIES, NO_VARIABLES_ALWAYS, NO_VARIABLES_NEVER, NO_EQUATIONS, LATE_VARIABLE,
+    WIDE_TWICE, WIDE_TWICE_IN_ONE, OVERLAPPING, FIXED_BY_CHAIN, ALL_FIXED, FILLS_DIFFER, FILLS_AT_END,
+    JOIN_OF_JOIN, WIDE_SIDES, REPEATED_PAIR, HIGHER_ONLY, LOWER_ONLY, END_ONLY, TIED_NEIGHBOURS, FEATURES
+};
+
+static const char *const feature_names[FEATURES] = {
+    "never at an equation before the last", "never with ties before it",
+    "never with ties of its own row that do not count",
+    "no variables, always", "no variables, never", "no equations", "a variable behind an equation",
+    "a fresh piece wider than 1 that appears twice", "the same within one variable",
+    "overlapping cuts of one variable made equal", "a fixed bit that never stands against a fill",
+    "every bit fixed", "neighbouring fills of 0 and 1", "fills of one bit on both sides of a variable's end",
+    "a join of a join", "an equation of over 64 bits", "a pair that was there before",
+    "a border by bits tied to the higher one only", "a border by bits tied to the lower one only",
+    "a border by a variable's end only", "neighbours tied to each other",
+};
+
+/* What an answer says of places: for each its class, 0 and 1 for the fixed bits, and its variable. */
+typedef struct {
+    size_t bits;
+    size_t class_of[ENUM_BITS], variable[ENUM_BITS];
+} classes;
+
+static classes classes_of(const uint16_t *answer, size_t rows)
+{
+    size_t first[ENUM_BITS] = {0}; /* of each fresh piece: its first place, the class of its first bit being two more */
+    bool seen[ENUM_BITS] = {false};
+    classes c = {0};
+
+    for (size_t r = 0; r < rows; r++) {
+        const uint16_t *n = answer + 4 * r;
+        if (n[1] == LW_FRESH && !seen[n[3]]) {
+            seen[n[3]] = true;
+            first[n[3]] = c.bits;
+        }
+        for (size_t i = 0; i < n[2]; i++) {
+            c.variable[c.bits] = n[0];
+            c.class_of[c.bits++] = n[1] == LW_FRESH ? 2 + first[n[3]] + i : n[1];
+        }
+    }
+    return c;
+}
+
+/*
+  Whether each bit of the class of place p has, step further, a bit of the class
+  of place q: in its variable, or else in the pattern.
+*/
+static bool all_beside(const classes *c, size_t p, size_t q, int step, bool in_variable)
+{
+    for (size_t j = 0; j < c->bits; j++)
+        if (c->class_of[j] == c->class_of[p]) {
+            size_t k = step > 0 ? j + 1 : j - 1; /* a place before the first is beyond the last too */
+            if (k >= c->bits || (in_variable && c->variable[k] != c->variable[j]) || c->class_of[k] != c->class_of[q])
+                return false;
+        }
+    return true;
+}
+
+static void note_borders(const classes *c, bool has[FEATURES])
+{
+    for (size_t i = 0; i + 1 < c->bits; i++) {
+        size_t p = c->class_of[i], q = c->class_of[i + 1];
+        if (p < 2 && q < 2) {
+            if (c->variable[i] != c->variable[i + 1])
+                has[FILLS_AT_END] |= p == q;
+            else
+                has[FILLS_DIFFER] |= p != q;
+        }
+        if (p < 2 || q < 2 || c->variable[i] != c->variable[i + 1])
+            continue;
+        bool down = all_beside(c, i, i + 1, 1, true), up = all_beside(c, i + 1, i, -1, true);
+        has[HIGHER_ONLY] |= !down && up;
+        has[LOWER_ONLY] |= down && !up;
+        has[END_ONLY] |= !(down && up) && all_beside(c, i, i + 1, 1, false) && all_beside(c, i + 1, i, -1, false);
+        has[TIED_NEIGHBOURS] |= p == q;
+    }
+}
+
+static void note_answer(const enumeration *found, bool has[FEATURES])
+{
+    for (size_t i = 0; i < found->record.pieces; i++)
+        for (size_t j = 0; j < i; j++) {
+            const uint16_t *a = found->answer + 4 * i, *b = found->answer + 4 * j;
+            if (a[1] == LW_FRESH && b[1] == LW_FRESH && a[3] == b[3] && a[2] > 1) {
+                has[WIDE_TWICE] = true;
+                has[WIDE_TWICE_IN_ONE] |= a[0] == b[0];
+            }
+        }
+    has[ALL_FIXED] = found->record.outcome == 2 && found->record.fresh == 0;
+}
+
+/* What stands in a small table and in its answer. */
+static void note_features(const draft *d, const ref_table *facts, const enumeration *found, bool has[FEATURES])
+{
+    static uint16_t sources[REF_ROWS][REF_WIDTH];
+    static bool paired[PLAIN_FIXED + ENUM_BITS][PLAIN_FIXED + ENUM_BITS];
+    size_t last = 0;
+    const uint16_t *t = d->t.numbers;
+
+    plain_sources(t, facts, sources);
+    memset(paired, 0, sizeof paired);
+    for (size_t r = 0; r < d->rows; r++) {
+        const uint16_t *n = t + 4 * r, *a = t + 4 * n[1], *b = t + 4 * n[2];
+        if (n[0] == LW_VARIABLE && last != 0)
+            has[LATE_VARIABLE] = true;
+        if (n[0] == LW_JOIN)
+            has[JOIN_OF_JOIN] |= a[0] == LW_JOIN || b[0] == LW_JOIN;
+        if (n[0] != LW_EQUATION)
+            continue;
+        last = r;
+        if (a[0] == LW_CUT && b[0] == LW_CUT && a[1] == b[1] && t[4 * a[1]] == LW_VARIABLE && a[2] != b[2])
+            has[OVERLAPPING] |= a[3] <= b[2] && b[3] <= a[2];
+        has[WIDE_SIDES] |= facts->width[n[1]] > 64;
+        for (size_t i = 0; i < facts->width[n[1]]; i++) {
+            size_t p = sources[n[1]][i], q = sources[n[2]][i];
+            has[REPEATED_PAIR] |= p != q && paired[p][q];
+            paired[p][q] = paired[q][p] = true;
+        }
+    }
+
+    uint32_t outcome = found->record.outcome;
+    has[NEVER_EARLY] = outcome == 1 && found->record.row < last;
+    has[NEVER_TIES] = outcome == 1 && found->record.ties != 0;
+    has[NEVER_OWN_TIES] = outcome == 1 && found->row_ties > 1;
+    has[NO_VARIABLES_ALWAYS] = d->equations != 0 && facts->bits == 0 && outcome == 0;
+    has[NO_VARIABLES_NEVER] = d->equations != 0 && facts->bits == 0 && outcome == 1;
+    has[NO_EQUATIONS] = d->equations == 0;
+    if (outcome != 2)
+        return;
+    note_answer(found, has);
+    classes c = classes_of(found->answer, found->record.pieces);
+    for (size_t i = 0; i < c.bits; i++)
+        has[FIXED_BY_CHAIN] |= c.class_of[i] < 2 && !paired[0][i + 2] && !paired[1][i + 2];
+    note_borders(&c, has);
+}
+
+/* Lengths of the answer table and of the work area: at least 16384. */
+static size_t some_length(void)
+{
+    return LEAST + (one_in(2) ? 0 : one_in(8) ? below(LONGEST - LEAST) : below(70));
+}
+
+/* The library and the plain solver against the enumeration, on one small table. */
+static void test_small_table(unsigned long number, unsigned long outcomes[3], unsigned long features[FEATURES],
+                             unsigned long met[ENUM_BITS + 1])
+{
+    static sketch s;
+    static ref_table facts;
+    static enumeration found;
+    static uint16_t answer[LEAST];
+    bool has[FEATURES] = {false};
+    char name[64];
+
+    make_small(&s);
+    snprintf(name, sizeof name, "small table %lu", number);
+    lw_record record = ref_check(s.d.t.numbers, s.d.t.len, &facts);
+    if (!check(record.outcome == 0 && facts.bits <= ENUM_BITS, __FILE__, __LINE__, "%s: refused %u, row %u", name,
+               record.outcome, record.row))
+        return;
+
+    enumerate(s.d.t.numbers, &facts, &found);
+    lw_record want = found.record;
+    check(found.met == (want.outcome == 1 ? 0 : (size_t)1 << want.free) &&
+          (want.outcome != 0 || want.free == facts.bits) && (want.outcome == 1 || want.free + want.ties == facts.bits),
+          __FILE__, __LINE__, "%s: %zu patterns meet it, free %u, ties %u", name, found.met, want.free, want.ties);
+
+    record = plain_solve(s.d.t.numbers, &facts, answer);
+    if (!check(same_record(record, want) && same_answer(want, answer, found.answer), __FILE__, __LINE__,
+               "%s: plain solver and enumeration differ", name) && checks_failed == 1) {
+        print_table(s.d.t.numbers, s.d.t.len);
+        check_record(__LINE__, "plain solver", record, want);
+        print_answer("plain solver", answer, record.pieces);
+        print_answer("enumeration", found.answer, want.pieces);
+    }
+
+    size_t answer_len = some_length(), work_len = some_length();
+    call(__LINE__, name, ALL(s.d.t), NULL, answer_len, work_len, want, found.answer);
+    outcomes[want.outcome]++;
+    if (want.outcome == 2)
+        met[want.free]++;
+    note_features(&s.d, &facts, &found, has);
+    for (int i = 0; i < FEATURES; i++)
+        features[i] += has[i];
+}
+
+static void test_small(unsigned long tables)
+{
+    unsigned long outcomes[3] = {0}, features[FEATURES] = {0}, met[ENUM_BITS + 1] = {0};
+
+    for (unsigned long i = 0; i < tables; i++)
+        test_small_table(i, outcomes, features, met);
+    printf("%lu small tables: always %lu, never %lu, solved %lu\n  solved with free", tables, outcomes[0], outcomes[1],
+           outcomes[2]);
+    for (size_t i = 0; i <= ENUM_BITS; i++)
+        printf(" %zu: %lu%s", i, met[i], i < ENUM_BITS ? "," : "\n");
+    for (int i = 0; i < FEATURES; i++)
+        printf("    %-50s %lu\n", feature_names[i], features[i]);
+    for (size_t i = 0; i < 3; i++)
+        check(5 * outcomes[i] >= tables, __FILE__, __LINE__, "outcome %zu is rare", i);
+    for (int i = 0; i < FEATURES; i++)
+        check(features[i] != 0, __FILE__, __LINE__, "no small table has this: %s", feature_names[i]);
+    group_done("small tables against all patterns");
+}
+
+/* Damaged tables. */
+
+/* A table about as large as is allowed: in variables, in variable bits, or in equations. */
+static void make_limit(draft *d)
+{
+    size_t kind = below(3), count = 63 + below(4);
+    clear(d);
+    for (size_t i = 0; i < 4 && kind == 1; i++)
+        add_row(d, 1000, VARIABLE(1000));
+    while (d->rows < count)
+        if (kind == 2 && d->rows != 0)
+            add_row(d, 0, EQUATION(0, 0));
+        else
+            add_row(d, kind + 1, VARIABLE(kind + 1));
+}
+
+/* A table with some numbers changed, or none, against the reference and the plain solver. Gives the outcome. */
+static uint32_t test_damaged_table(unsigned long number)
+{
+    static sketch s;
+    static draft any;
+    static uint16_t answer[LEAST];
+    draft *d = &any;
+    char name[64];
+
+    if (one_in(2)) {
+        make_small(&s);
+        d = &s.d;
+    } else if (one_in(20)) {
+        make_limit(d);
+    } else {
+        make_table(d);
+    }
+    for (size_t i = below(3); i != 0; i--)
+        damage(d, (unsigned)(11 + below(9)));
+    for (size_t i = one_in(3) ? 1 + below(3) : 0; i != 0 && d->rows != 0; i--) {
+        size_t at = below(4 * d->rows);
+        d->t.numbers[at] = (uint16_t)below(one_in(2) ? 20 : 65536);
+    }
+    size_t answer_len = some_length(), work_len = some_length(), too_short = one_in(2) ? LEAST - 1 : below(LEAST);
+    if (one_in(32))
+        answer_len = too_short;
+    if (one_in(32))
+        work_len = too_short;
+
+    lw_record want = expected(d->t.numbers, d->t.len, answer_len, work_len, answer);
+    snprintf(name, sizeof name, "damaged table %lu", number);
+    call(__LINE__, name, d->t.numbers, d->t.len, NULL, answer_len, work_len, want, answer);
+    return want.outcome;
+}
+
+static void test_damaged(unsigned long tables)
+{
+    static const uint32_t outcomes[] = {0, 1, 2, 10, 11, 12, 13, 14, 15, 16, 17, 18};
+    unsigned long seen[19] = {0};
+
+    for (unsigned long i = 0; i < tables; i++)
+        seen[test_damaged_table(i)]++;
+    printf("%lu damaged tables:", tables);
+    for (size_t i = 0; i < sizeof outcomes / sizeof outcomes[0]; i++)
+        printf(" %s%u %lu", i == 0 ? "outcome " : "", outcomes[i], seen[outcomes[i]]);
+    printf("\n");
+    for (size_t i = 0; i < sizeof outcomes / sizeof outcomes[0]; i++)
+        check(seen[outcomes[i]] != 0, __FILE__, __LINE__, "no damaged table has outcome %u", outcomes[i]);
+    group_done("damaged tables");
+}
+
+/* Large random tables. */
+
+/* As a sketch, for rows of every width: the first width bytes of value[r] are the bits of row r, high bit first. */
+typedef struct {
+    draft d;
+    uint8_t value[512][1024];
+    uint8_t hidden[1024];
+    bool one_for_all;
+} plan;
+
+enum { LARGE_ROWS = 480 }; /* a few rows may be added after a test against this */
+
+static size_t plan_variable(plan *p, size_t width)
+{
+    for (size_t i = 0; i < width; i++)
+        p->value[p->d.rows][i] = p->one_for_all ? p->hidden[1024 - width + i] : (uint8_t)below(2);
+    return add_row(&p->d, width, VARIABLE(width));
+}
+
+static size_t plan_fill(plan *p, size_t bit, size_t width)
+{
+    memset(p->value[p->d.rows], (int)bit, width);
+    return add_row(&p->d, width, FILL(bit, width));
+}
+
+static size_t plan_join(plan *p, size_t a, size_t b)
+{
+    uint8_t *value = p->value[p->d.rows];
+    memcpy(value, p->value[a], p->d.width[a]);
+    memcpy(value + p->d.width[a], p->value[b], p->d.width[b]);
+    return add_row(&p->d, p->d.width[a] + p->d.width[b], JOIN(a, b));
+}
+
+/* A cut of so many bits, so many places behind the row's high end. */
+static size_t plan_cut(plan *p, size_t a, size_t behind, size_t width)
+{
+    size_t high = p->d.width[a] - 1 - behind;
+    memcpy(p->value[p->d.rows], p->value[a] + behind, width);
+    return add_row(&p->d, width, CUT(a, high, high - width + 1));
+}
+
+/* The widest of some rows. */
+static size_t wide_term(const plan *p)
+{
+    size_t r = 0;
+    for (size_t i = 1 + below(6); i != 0; i--) {
+        size_t other = below(p->d.rows);
+        if (p->d.width[other] > p->d.width[r])
+            r = other;
+    }
+    return p->d.width[r] == 0 ? some_row(&p->d, LW_VARIABLE, LW_FILL) : r;
+}
+
+/* A wide word: a row joined with others of its width or with itself, doubling. */
+static size_t plan_doubled(plan *p)
+{
+    size_t r = one_in(3) ? wide_term(p) : some_row(&p->d, LW_VARIABLE, LW_VARIABLE), other;
+    while (p->d.width[r] <= 512 && p->d.rows < LARGE_ROWS && !one_in(12)) {
+        other = one_in(4) ? r : partner(&p->d, r, true);
+        r = one_in(2) ? plan_join(p, r, other) : plan_join(p, other, r);
+    }
+    return r;
+}
+
+/* A word turned at an odd place: its low part before its high part. */
+static size_t plan_turned(plan *p)
+{
+    size_t r = wide_term(p), w = p->d.width[r];
+    if (w < 2)
+        return r;
+    size_t at = below(w / 2) * 2 + 1, left = plan_cut(p, r, at, w - at);
+    return plan_join(p, left, plan_cut(p, r, 0, at));
+}
+
+/* A chain of cuts, each of the row before: of all bits, or of a few less at one end. */
+static size_t plan_chain(plan *p, size_t cuts)
+{
+    size_t r = wide_term(p);
+    for (; cuts != 0 && p->d.rows < LARGE_ROWS; cuts--) {
+        size_t less = below(3), w = p->d.width[r];
+        if (w < 8)
+            less = 0;
+        r = plan_cut(p, r, one_in(2) ? 0 : less, w - less);
+    }
+    return r;
+}
+
+/* Parts of two rows, as wide as they are found to be equal under the hidden pattern; or any. */
+static void plan_parts(plan *p, bool holds)
+{
+    size_t a = wide_term(p), b = wide_term(p);
+    size_t w = p->d.width[a] < p->d.width[b] ? p->d.width[a] : p->d.width[b];
+    for (;; w = (w + 1) / 2) {
+        size_t places = p->d.width[b] - w + 1, from = below(p->d.width[a] - w + 1), start = below(places);
+        for (size_t i = 0; i < places; i++) {
+            size_t to = (start + i) % places;
+            if (holds && memcmp(p->value[a] + from, p->value[b] + to, w) != 0)
+                continue;
+            size_t left = plan_cut(p, a, from, w), right = plan_cut(p, b, to, w);
+            add_row(&p->d, 0, EQUATION(left, right));
+            return;
+        }
+        if (w == 1)
+            return;
+    }
+}
+
+/* A wide word with a turned one, if they are equal under the hidden pattern; else parts. */
+static void plan_words(plan *p, bool holds)
+{
+    size_t a = one_in(2) ? plan_doubled(p) : wide_term(p), b = plan_turned(p);
+    size_t w = p->d.width[a] < p->d.width[b] ? p->d.width[a] : p->d.width[b];
+    if (holds && memcmp(p->value[a], p->value[b], w) != 0) {
+        plan_parts(p, holds);
+        return;
+    }
+    size_t left = plan_cut(p, a, 0, w);
+    add_row(&p->d, 0, EQUATION(left, plan_cut(p, b, 0, w)));
+}
+
+/* A part of a row with a fill. */
+static void plan_fixed(plan *p, bool holds)
+{
+    size_t r = wide_term(p), from = below(p->d.width[r]), w = 1;
+    uint8_t bit = p->value[r][from];
+    while (from + w < p->d.width[r] && p->value[r][from + w] == bit && !one_in(20))
+        w++;
+    size_t left = plan_cut(p, r, from, w);
+    add_row(&p->d, 0, EQUATION(left, plan_fill(p, holds ? bit : bit ^ 1U, w)));
+}
+
+/* A few bits of a row made 0, and some of them 1. */
+static void plan_conflict(plan *p)
+{
+    size_t r = wide_term(p), w = 1 + below(p->d.width[r] < 40 ? p->d.width[r] : 40);
+    size_t part = plan_cut(p, r, below(p->d.width[r] - w + 1), w), bit = below(2);
+    add_row(&p->d, 0, EQUATION(part, plan_fill(p, bit, w)));
+    size_t less = 1 + below(w), again = plan_cut(p, part, below(w - less + 1), less);
+    add_row(&p->d, 0, EQUATION(plan_fill(p, bit ^ 1, less), again));
+}
+
+/* A word with itself, cut at an odd place and joined again. */
+static void plan_same(plan *p)
+{
+    size_t r = wide_term(p), w = p->d.width[r], copy = r;
+    if (w > 1) {
+        size_t at = below(w / 2) * 2 + 1, left = plan_cut(p, r, 0, at);
+        copy = plan_join(p, left, plan_cut(p, r, at, w - at));
+    }
+    add_row(&p->d, 0, EQUATION(r, copy));
+}
+
+static void make_large(plan *p)
+{
+    static const size_t shapes[] = {64, 1024, 1, 16, 200};
+    intent meant = one_in(5) ? MEANT_ALWAYS : one_in(3) ? MEANT_NEVER : MEANT_SOLVED;
+    size_t shape = below(6), variables = 1 + below(64), equations = one_in(3) ? 64 : 1 + below(24);
+    size_t wrong = below(equations), period = one_in(3) ? 1 : 1 + below(one_in(2) ? 9 : 300);
+    bool fixes = meant == MEANT_NEVER || one_in(2); /* else no bit need be fixed, and more are left to be tied */
+
+    clear(&p->d);
+    p->one_for_all = period == 1 || !one_in(4);
+    for (size_t i = 0; i < 1024; i++)
+        p->hidden[i] = i < period ? (uint8_t)below(2) : p->hidden[i - period];
+    while (p->d.variables < variables && p->d.bits < 4096) {
+        size_t room = 4096 - p->d.bits, w = shape < 5 ? shapes[shape] : 1 + below(one_in(3) ? 1024 : 100);
+        plan_variable(p, w < room ? w : room);
+    }
+    if (fixes && one_in(4)) {
+        size_t w = 1 + below(300);
+        plan_fill(p, below(2), w);
+    }
+    for (size_t i = 1 + below(12); i != 0; i--)
+        plan_doubled(p);
+    if (one_in(3))
+        plan_chain(p, 50 + below(200));
+    while (p->d.equations < equations && p->d.rows < LARGE_ROWS) {
+        bool holds = meant == MEANT_SOLVED || p->d.equations < wrong;
+        if (one_in(4))
+            plan_turned(p);
+        else if (one_in(6))
+            plan_doubled(p);
+        else if (one_in(20))
+            plan_chain(p, below(40));
+        if (p->d.bits < 4000 && p->d.variables < 64 && one_in(20))
+            plan_variable(p, 1 + below(90));
+        if (meant == MEANT_ALWAYS || one_in(10))
+            plan_same(p);
+        else if (meant == MEANT_NEVER && p->d.equations >= wrong && p->d.equations + 1 < equations && one_in(3))
+            plan_conflict(p);
+        else if (fixes && one_in(6))
+            plan_fixed(p, holds);
+        else if (one_in(2))
+            plan_words(p, holds);
+        else
+            plan_parts(p, holds);
+    }
+}
+
+static void test_large(unsigned long tables)
+{
+    static plan p;
+    static uint16_t answer[LEAST];
+    unsigned long outcomes[3] = {0}, full = 0, wide = 0, chained = 0, early = 0, many = 0, bits_full = 0;
+    char name[64];
+
+    for (unsigned long i = 0; i < tables; i++) {
+        size_t answer_len = some_length(), work_len = some_length(), widest = 0, last = 0, cuts = 0, longest = 0;
+        make_large(&p);
+        lw_record want = expected(ALL(p.d.t), answer_len, work_len, answer);
+        snprintf(name, sizeof name, "large table %lu", i);
+        if (!check(want.outcome <= 2, __FILE__, __LINE__, "%s: refused %u, row %u", name, want.outcome, want.row))
+            continue;
+        call(__LINE__, name, ALL(p.d.t), NULL, answer_len, work_len, want, answer);
+
+        for (size_t r = 0; r < p.d.rows; r++) {
+            const uint16_t *n = p.d.t.numbers + 4 * r;
+            cuts = n[0] == LW_CUT && n[1] + 1U == r ? cuts + 1 : 0;
+            longest = cuts > longest ? cuts : longest;
+            if (n[0] == LW_EQUATION) {
+                widest = p.d.width[n[1]] > widest ? p.d.width[n[1]] : widest;
+                last = r;
+            }
+        }
+        outcomes[want.outcome]++;
+        full += p.d.equations == 64;
+        wide += widest == 1024;
+        chained += longest >= 100;
+        early += want.outcome == 1 && want.row < last;
+        many += want.pieces >= 1000;
+        bits_full += p.d.bits == 4096;
+    }
+    printf("%lu large tables: always %lu, never %lu, solved %lu\n", tables, outcomes[0], outcomes[1], outcomes[2]);
+    printf("    of 4096 variable bits %lu, of 64 equations %lu, with an equation of 1024 bits %lu,\n"
+           "    with a chain of 100 cuts %lu, never before the last equation %lu, of 1000 pieces %lu\n",
+           bits_full, full, wide, chained, early, many);
+    for (size_t i = 0; i < 3; i++)
+        check(10 * outcomes[i] >= tables, __FILE__, __LINE__, "outcome %zu is rare", i);
+    check(bits_full != 0 && full != 0 && wide != 0 && chained != 0 && early != 0 && many != 0, __FILE__, __LINE__,
+          "some kind of large table does not occur");
+    group_done("large tables against the plain solver");
+}
+
+int main(int argc, char **argv)
+{
+    unsigned long tables = argc > 1 ? strtoul(argv[1], NULL, 10) : 100000;
+
+    setvbuf(stdout, NULL, _IOLBF, BUFSIZ); /* a crash leaves the lines before it */
+    test_constants();
+    test_worked();
+    test_sheet();
+    test_pieces();
+    test_fills();
+    test_ties();
+    test_limits();
+    test_memory();
+    test_table_refusals();
+    test_null();
+    test_right_side();
+    test_random_parts();
+    test_small(tables);
+    test_damaged(tables / 5);
+    test_large(LARGE_TABLES);
+    return run_done("solve");
+}
