@@ -19,7 +19,7 @@ use Rattle.answers.specs.Pairs.{Pair, pairsIn, satisfiesPairs}
 use Rattle.answers.specs.Classes.{rep, inClass, roots}
 use Rattle.answers.specs.Answer.{AnswerRow, equalUnder, variableWidths, begins, tally, appears, answerRows, freshPieces, freeBits, instantiate}
 use Rattle.answers.specs.Systems.{Part, SolvedSystem, freshCount, systemBits, Filling, Gives}
-use Rattle.answers.specs.Solve.{valid, unsatisfiable, pairsTogether, tiesTo, solvedRows, answerRecord}
+use Rattle.answers.specs.Solve.{valid, unsatisfiable, unsatRow, pairsTogether, tiesTo, solvedRows, alwaysRecord, neverRecord, solvedRecord, answerRecord}
 use Rattle.answers.proofs.Agreement.{Represents, satisfies-reverse}
 use Rattle.answers.proofs.Slots.{fresh}
 use Rattle.answers.proofs.OurPieces.{mark}
@@ -28,7 +28,7 @@ use Rattle.answers.proofs.AnswerRows.{tally-same}
 use Rattle.answers.proofs.GeneralSystems.{widthSum, minimal-system}
 use Rattle.answers.proofs.Instantiating.{fresh-pieces, free-bits, filling-satisfies, fillingOf, filling-bits, filling-gives, filling-unique}
 use Rattle.answers.proofs.Variables.{widths-sum, begins-first, begins-behind, system-bits}
-use Rattle.answers.proofs.Tables.{tableClasses, represent, satisfies-is, apart-one, solved-rows, table-count, roots-ties, valid-to, valid-of, every-same, equal-same, not-valid}
+use Rattle.answers.proofs.Tables.{tableClasses, represent, satisfies-is, apart-one, rows-by-classes, table-count, roots-ties, valid-to, valid-of, every-same, equal-same, not-valid}
 
 -- The one filling of the rows that gives an assignment.
 pub record TheFilling (rows : List AnswerRow) (p : List ℕ) : Type 0 where
@@ -37,11 +37,14 @@ pub record TheFilling (rows : List AnswerRow) (p : List ℕ) : Type 0 where
   pub gives : instantiate rows filling ≡ p
   pub only : (g : List ℕ) → Assignment (freeBits rows) g → instantiate rows g ≡ p → g ≡ filling
 
+-- Rows that give the assignments that satisfy a table: every filling gives one, and each comes from exactly one filling.
+pub record Filled (t : List Row) (rows : List AnswerRow) : Type 0 where
+  pub every-filling : (f : List ℕ) → Assignment (freeBits rows) f → Assignment (bitsOf t) (instantiate rows f) × (satisfies t (instantiate rows f) ≡ true)
+  pub one-filling : (p : List ℕ) → Assignment (bitsOf t) p → satisfies t p ≡ true → TheFilling rows p
+
 -- Demand 2: every filling of the fresh pieces gives an assignment that satisfies the table, and each that does comes from exactly one.
-pub record Demand2 (t : List Row) : Type 0 where
-  pub every-filling : (f : List ℕ) → Assignment (freeBits (solvedRows t)) f
-      → Assignment (bitsOf t) (instantiate (solvedRows t) f) × (satisfies t (instantiate (solvedRows t) f) ≡ true)
-  pub one-filling : (p : List ℕ) → Assignment (bitsOf t) p → satisfies t p ≡ true → TheFilling (solvedRows t) p
+abbrev pub Demand2 : List Row → Type 0
+Demand2 t = Filled t (solvedRows t)
 
 -- Demand 3: the number of assignments that satisfy the table is zero exactly when the answer is never, all of them exactly when it is
 -- always, and otherwise two to the power of free, the fresh pieces' summed widths, each piece once. Then fresh is the number of fresh
@@ -53,26 +56,12 @@ pub record Demand3 (t : List Row) : Type 0 where
   pub always-of : count (bitsOf t) (satisfies t) ≡ 2 ^ bitsOf t → answerRecord t .outcome ≡ 0
   pub always-to : answerRecord t .outcome ≡ 0 → count (bitsOf t) (satisfies t) ≡ 2 ^ bitsOf t
   pub solved-count : answerRecord t .outcome ≡ 2 → count (bitsOf t) (satisfies t) ≡ 2 ^ answerRecord t .free
+  pub solved-pieces : answerRecord t .outcome ≡ 2 → answerRecord t .pieces ≡ length (solvedRows t)
   pub solved-fresh : answerRecord t .outcome ≡ 2 → answerRecord t .fresh ≡ freshPieces (solvedRows t)
   pub solved-free : answerRecord t .outcome ≡ 2 → answerRecord t .free ≡ freeBits (solvedRows t)
   pub fewest : answerRecord t .outcome ≡ 2 → (sides : List (List Part)) → SolvedSystem (variableWidths t) sides → Gives (bitsOf t) (satisfies t) sides
       → answerRecord t .fresh ≤ freshCount sides
   pub free-and-ties : answerRecord t .outcome ≢ 1 → answerRecord t .free + answerRecord t .ties ≡ bitsOf t
-
--- which of the three
-data Which (t : List Row) : Type 0 where
-  always : valid t ≡ true → answerRecord t .outcome ≡ 0 → Which t
-  never : unsatisfiable t ≡ true → answerRecord t .outcome ≡ 1 → Which t
-  solved : valid t ≡ false → unsatisfiable t ≡ false → answerRecord t .outcome ≡ 2 → Which t
-
-which : (t : List Row) → Which t
-unfolding answerRecord
-which t = go (valid t) refl (unsatisfiable t) refl
-  where
-    go : (a : Bool) → valid t ≡ a → (b : Bool) → unsatisfiable t ≡ b → Which t
-    go true h b k = always h (rw h)
-    go false h true k = never k (rw (h, k))
-    go false h false k = solved h k (rw (h, k))
 
 module _ (table : List ℕ) (accepted : firstFault table ≡ Accepted) where
   abbrev t : List Row
@@ -106,21 +95,25 @@ module _ (table : List ℕ) (accepted : firstFault table ≡ Accepted) where
     abbrev one : rep c 1 ≡ 1
     one = apart-one table accepted some
 
-    rows-are : solvedRows t ≡ answerRows n ws (inClass c)
-    rows-are = solved-rows table accepted some
+    -- the rows by what holds in every satisfying assignment are those by classes
+    abbrev by : List AnswerRow
+    by = answerRows n ws (equalUnder n (satisfies t))
+
+    rows-are : by ≡ answerRows n ws (inClass c)
+    rows-are = rows-by-classes table accepted some
 
     -- the fresh bits are the places that represent themselves
-    pub free-are : freeBits (solvedRows t) ≡ roots 2 (drop 2 c)
+    free-are : freeBits by ≡ roots 2 (drop 2 c)
     free-are = ap freeBits rows-are ∙ free-bits n c seen inv one ws begin last ∙ sym (free-widths n c seen inv one (begins ws) begin last)
 
-    fresh-are : freshPieces (solvedRows t) ≡ fresh n (begins ws) (λ i. rep c (suc (suc i)))
+    fresh-are : freshPieces by ≡ fresh n (begins ws) (λ i. rep c (suc (suc i)))
     unfolding fresh mark
     fresh-are = ap freshPieces rows-are ∙ fresh-pieces n c seen inv one ws begin last
 
-    pub fresh-appear : freshPieces (solvedRows t) ≡ tally n (appears n ws (inClass c))
+    fresh-appear : freshPieces by ≡ tally n (appears n ws (inClass c))
     fresh-appear = ap freshPieces rows-are ∙ fresh-pieces n c seen inv one ws begin last ∙ sym (tally-same n c seen inv one ws begin last n)
 
-    pub filled-2 : Demand2 t
+    filled-2 : Filled t by
     filled-2 =
         record {
           every-filling = λ f a.
@@ -141,13 +134,13 @@ module _ (table : List ℕ) (accepted : firstFault table ≡ Accepted) where
               only = λ h d e. filling-unique n c seen inv one ws begin last h f d b (e ∙ sym g);
             }
 
-    counted : count n (satisfies t) ≡ 2 ^ freeBits (solvedRows t)
+    counted : count n (satisfies t) ≡ 2 ^ freeBits by
     counted = table-count table accepted some ∙ ap (λ (x : ℕ). 2 ^ x) (sym free-are)
 
-    pub summed : freeBits (solvedRows t) + tiesTo t (length t) ≡ n
+    summed : freeBits by + tiesTo t (length t) ≡ n
     summed = ap (λ (x : ℕ). x + tiesTo t (length t)) free-are ∙ roots-ties table accepted some
 
-    least-many : (sides : List (List Part)) → SolvedSystem ws sides → Gives n (satisfies t) sides → freshPieces (solvedRows t) ≤ freshCount sides
+    least-many : (sides : List (List Part)) → SolvedSystem ws sides → Gives n (satisfies t) sides → freshPieces by ≤ freshCount sides
     least-many sides S G =
         omega (
           arith,
@@ -161,12 +154,13 @@ module _ (table : List ℕ) (accepted : firstFault table ≡ Accepted) where
 
   -- Demand 2.
   pub demand-2 : answerRecord t .outcome ≡ 2 → Demand2 t
-  demand-2 e = go (which t)
+  unfolding answerRecord solvedRows
+  demand-2 e = go (valid t) refl (unsatisfiable t) refl
     where
-      go : Which t → Demand2 t
-      go (always h o) = absurd (omega (arith, e, o))
-      go (never h o) = absurd (omega (arith, e, o))
-      go (solved h k o) = filled-2 k
+      go : (a : Bool) → valid t ≡ a → (b : Bool) → unsatisfiable t ≡ b → Demand2 t
+      go true h b k = let o : answerRecord t .outcome ≡ 0 = rw h refl in absurd (omega (arith, e, o))
+      go false h true k = let o : answerRecord t .outcome ≡ 1 = rw (h, k) refl in absurd (omega (arith, e, o))
+      go false h false k = filled-2 k
 
   zero-none : unsatisfiable t ≡ true → count n (satisfies t) ≡ 0
   unfolding unsatisfiable
@@ -189,11 +183,12 @@ module _ (table : List ℕ) (accepted : firstFault table ≡ Accepted) where
 
   -- Demand 3.
   pub demand-3 : Demand3 t
-  unfolding answerRecord
-  demand-3 = go (which t)
+  unfolding answerRecord solvedRows
+  demand-3 = go (valid t) refl (unsatisfiable t) refl
     where
-      go : Which t → Demand3 t
-      go (always h o) =
+      go : (a : Bool) → valid t ≡ a → (b : Bool) → unsatisfiable t ≡ b → Demand3 t
+      go true h b k =
+          let o : answerRecord t .outcome ≡ 0 = rw h refl in
           record {
             one-of-three = omega (arith, o);
             never-of = λ e. clash (valid t) h (not-valid table accepted (none-zero e));
@@ -201,12 +196,14 @@ module _ (table : List ℕ) (accepted : firstFault table ≡ Accepted) where
             always-of = λ e. o;
             always-to = λ e. all-whole h;
             solved-count = λ e. absurd (omega (arith, o, e));
+            solved-pieces = λ e. absurd (omega (arith, o, e));
             solved-fresh = λ e. absurd (omega (arith, o, e));
             solved-free = λ e. absurd (omega (arith, o, e));
             fewest = λ e. absurd (omega (arith, o, e));
             free-and-ties = λ e. rw h (omega arith);
           }
-      go (never k o) =
+      go false h true k =
+          let o : answerRecord t .outcome ≡ 1 = rw (h, k) refl in
           record {
             one-of-three = omega (arith, o);
             never-of = λ e. o;
@@ -214,12 +211,14 @@ module _ (table : List ℕ) (accepted : firstFault table ≡ Accepted) where
             always-of = λ e. clash (valid t) (whole-all e) (not-valid table accepted k);
             always-to = λ e. absurd (omega (arith, o, e));
             solved-count = λ e. absurd (omega (arith, o, e));
+            solved-pieces = λ e. absurd (omega (arith, o, e));
             solved-fresh = λ e. absurd (omega (arith, o, e));
             solved-free = λ e. absurd (omega (arith, o, e));
             fewest = λ e. absurd (omega (arith, o, e));
             free-and-ties = λ e. absurd (e o);
           }
-      go (solved h k o) =
+      go false h false k =
+          let o : answerRecord t .outcome ≡ 2 = rw (h, k) refl in
           record {
             one-of-three = omega (arith, o);
             never-of = λ e. clash (unsatisfiable t) (none-zero e) k;
@@ -227,8 +226,75 @@ module _ (table : List ℕ) (accepted : firstFault table ≡ Accepted) where
             always-of = λ e. clash (valid t) (whole-all e) h;
             always-to = λ e. absurd (omega (arith, o, e));
             solved-count = λ e. rw (h, k) (counted k);
+            solved-pieces = λ e. rw (h, k) refl;
             solved-fresh = λ e. rw (h, k) refl;
             solved-free = λ e. rw (h, k) refl;
             fewest = λ e sides S G. rw (h, k) (least-many k sides S G);
             free-and-ties = λ e. rw (h, k) (summed k);
           }
+
+-- The same for a solver that has the classes: fresh pieces that appear, and free bits that the ties leave.
+module _ (table : List ℕ) (accepted : firstFault table ≡ Accepted) (some : unsatisfiable (rowsOf table) ≡ false) where
+  pub solved-appear : freshPieces (solvedRows (rowsOf table))
+      ≡ tally (bitsOf (rowsOf table)) (appears (bitsOf (rowsOf table)) (variableWidths (rowsOf table)) (inClass (tableClasses table accepted)))
+  unfolding solvedRows
+  solved-appear = fresh-appear table accepted some
+
+  pub solved-sum : freeBits (solvedRows (rowsOf table)) + tiesTo (rowsOf table) (length (rowsOf table)) ≡ bitsOf (rowsOf table)
+  unfolding solvedRows
+  solved-sum = summed table accepted some
+
+-- The answer depends on the assignments that satisfy the table alone: two tables with the same variables and the same satisfying
+-- assignments have equal outcomes, answer rows, pieces, fresh and free.
+pub record SameAnswer (t u : List Row) : Type 0 where
+  pub same-outcome : answerRecord t .outcome ≡ answerRecord u .outcome
+  pub same-rows : solvedRows t ≡ solvedRows u
+  pub same-pieces : answerRecord t .pieces ≡ answerRecord u .pieces
+  pub same-fresh : answerRecord t .fresh ≡ answerRecord u .fresh
+  pub same-free : answerRecord t .free ≡ answerRecord u .free
+
+-- a field of one of three records
+field-of : (f : Record → ℕ) (a b : Bool) (x y z : Record) → f (cond a x (cond b y z)) ≡ cond a (f x) (cond b (f y) (f z))
+field-of f true b x y z = refl
+field-of f false true x y z = refl
+field-of f false false x y z = refl
+
+pub same-answer : (t u : List Row) → variableWidths t ≡ variableWidths u
+    → ((p : List ℕ) → Assignment (bitsOf t) p → satisfies t p ≡ satisfies u p) → SameAnswer t u
+unfolding answerRecord valid unsatisfiable solvedRows
+same-answer t u w h =
+    record {
+      same-outcome = field (λ r. r .outcome) refl refl refl;
+      same-rows = rows;
+      same-pieces = field (λ r. r .pieces) refl refl (ap length rows);
+      same-fresh = field (λ r. r .fresh) refl refl (ap freshPieces rows);
+      same-free = field (λ r. r .free) bits refl (ap freeBits rows);
+    }
+  where
+    bits : bitsOf t ≡ bitsOf u
+    bits = sym (widths-sum t) ∙ ap widthSum w ∙ widths-sum u
+
+    all-same : valid t ≡ valid u
+    all-same = every-same (bitsOf t) (satisfies t) (satisfies u) h ∙ ap (λ (n : ℕ). every n (satisfies u)) bits
+
+    none-same : unsatisfiable t ≡ unsatisfiable u
+    none-same =
+        every-same (bitsOf t) (λ p. not (satisfies t p)) (λ p. not (satisfies u p)) (λ p a. ap not (h p a))
+        ∙ ap (λ (n : ℕ). every n (λ p. not (satisfies u p))) bits
+
+    rows : solvedRows t ≡ solvedRows u
+    rows =
+        ap (answerRows (bitsOf t) (variableWidths t)) (equal-same (bitsOf t) (satisfies t) (satisfies u) h)
+        ∙ ap₂ (λ (n : ℕ) (ws : List ℕ). answerRows n ws (equalUnder n (satisfies u))) bits w
+
+    field : (f : Record → ℕ) → f (alwaysRecord (bitsOf t)) ≡ f (alwaysRecord (bitsOf u))
+        → f (neverRecord (tiesTo t (unsatRow t)) (unsatRow t)) ≡ f (neverRecord (tiesTo u (unsatRow u)) (unsatRow u))
+        → f (solvedRecord (solvedRows t) (tiesTo t (length t))) ≡ f (solvedRecord (solvedRows u) (tiesTo u (length u)))
+        → f (answerRecord t) ≡ f (answerRecord u)
+    field f a b c =
+        field-of f (valid t) (unsatisfiable t) (alwaysRecord (bitsOf t)) (neverRecord (tiesTo t (unsatRow t)) (unsatRow t)) (solvedRecord (solvedRows t) (tiesTo t (length t)))
+        ∙ three (valid t) (valid u) (unsatisfiable t) (unsatisfiable u) all-same none-same a b c
+        ∙ sym (field-of f (valid u) (unsatisfiable u) (alwaysRecord (bitsOf u)) (neverRecord (tiesTo u (unsatRow u)) (unsatRow u)) (solvedRecord (solvedRows u) (tiesTo u (length u))))
+      where
+        three : (v v′ n n′ : Bool) {x x′ y y′ z z′ : ℕ} → v ≡ v′ → n ≡ n′ → x ≡ x′ → y ≡ y′ → z ≡ z′ → cond v x (cond n y z) ≡ cond v′ x′ (cond n′ y′ z′)
+        three v v′ n n′ a b c d e = rw (a, b, c, d, e) refl

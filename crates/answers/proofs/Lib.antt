@@ -22,3 +22,5 @@ pub mod Variables
 pub mod Together
 pub mod Tables
 pub mod Demands
+pub mod WorkedCases
+pub mod Lent

@@ -169,9 +169,12 @@ module _ (table : List ℕ) (accepted : firstFault table ≡ Accepted) where
         by-pairs : (s u : ℕ) → equalUnder n (λ p. satisfiesPairs p (reverse qs)) s u ≡ equals n (reverse qs) s u
         by-pairs s u = unfold equalUnder equals in refl
 
+    pub rows-by-classes : answerRows n (variableWidths t) (equalUnder n (satisfies t)) ≡ answerRows n (variableWidths t) (inClass tableClasses)
+    rows-by-classes = ap (answerRows n (variableWidths t)) same-relation
+
     pub solved-rows : solvedRows t ≡ answerRows n (variableWidths t) (inClass tableClasses)
     unfolding solvedRows
-    solved-rows = ap (answerRows n (variableWidths t)) same-relation
+    solved-rows = rows-by-classes
 
     pub table-count : count n (satisfies t) ≡ 2 ^ roots 2 (drop 2 tableClasses)
     unfolding tableClasses

@@ -23,7 +23,7 @@ use Rattle.answers.specs.Solve.{unsatisfiable, solvedRows, tiesTo, pairsTogethe
 use Rattle.answers.proofs.Agreement.{Represents}
 use Rattle.answers.proofs.Tables.{tableClasses, classes-run, represent, conflict-most, apart-one, solved-rows, is-left, never-record, always-record, solved-record, all-ties, rows-few}
 use Rattle.answers.proofs.Theorems.{links-before}
-use Rattle.answers.proofs.Demands.{summed, fresh-appear}
+use Rattle.answers.proofs.Demands.{solved-sum, solved-appear}
 use Rattle.classes.specs.Links.{rootsOf}
 use Rattle.solver.specs.Rows.{RowsPut, PutsRows}
 use Rattle.solver.specs.Equations.{EquationsTaken}
@@ -92,9 +92,9 @@ module _ (table : List ℕ) (accepted : firstFault table ≡ Accepted) (links an
         subst (λ (c : List ℕ). PutsRows table c answer answer′ pieces fresh) q P _ accepted (represent table accepted) (apart-one table accepted some) room in
         let rows : solvedRows t ≡ answerRows n (variableWidths t) (inClass (tableClasses table accepted)) = solved-rows table accepted some in
         let many : pieces ≡ length (solvedRows t) = put .pieces-are ∙ ap length (sym rows) in
-        let new : fresh ≡ freshPieces (solvedRows t) = put .fresh-are ∙ sym (fresh-appear table accepted some) in
+        let new : fresh ≡ freshPieces (solvedRows t) = put .fresh-are ∙ sym (solved-appear table accepted some) in
         let tied : tiesTo t (length t) ≡ ties = all-ties table accepted some ∙ sym (links-before n es) ∙ sym (E .ties-are) in
-        let open' : bits - ties ≡ freeBits (solvedRows t) = omega (arith, summed table accepted some, tied, w) in
+        let open' : bits - ties ≡ freeBits (solvedRows t) = omega (arith, solved-sum table accepted some, tied, w) in
         let a : answerRecord t ≡ solvedRecord (solvedRows t) ties =
         solved-record table accepted (sym (E .row-is) ∙ whole-row) (λ k. z (E .ties-are ∙ k)) ∙ ap (solvedRecord (solvedRows t)) (sym (E .ties-are)) in
         let b : r ≡ answerRecord t =

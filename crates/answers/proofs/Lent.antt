@@ -1,0 +1,57 @@
+-- The call on lent buffers: with room, an accepted table is never refused and its record is the table's; for outcome 2 the rows stand
+-- at the beginning of the answer table. So demands 2 and 3 are about the call. Assumes nothing.
+use mathlib.Core.Path.{_≡_, refl, sym, _∙_, ap}
+use mathlib.Core.Bool.{Bool, true, false, not, _||_, cond}
+use mathlib.Core.List.{List, [], _∷_, _++_}
+use Prim.Native.Nat.{ℕ, zero, suc, _+_, _*_, _≤_, _<_}
+use native.Mathlib.Omega.{arith}
+use lib.Dec.{eqb, ltb}
+use lib.ListN.{length, take, drop, replicate}
+use lib.Seq.{take-at, take-length}
+use borrow.Author.Tests.{le-ltb, lt-ltb}
+use Rattle.terms.specs.declared.Record.{Record}
+use Rattle.terms.specs.declared.Row.{Row}
+use Rattle.terms.specs.declared.Fault.the-variants.{Accepted}
+use Rattle.terms.specs.Calls.{stopAt, overwrite}
+use Rattle.terms.specs.Faults.{firstFault, isAccepted}
+use Rattle.terms.specs.Table.{rowsOf, bitsOf, satisfies}
+use Rattle.terms.proofs.AcceptedTable.{accepted-table}
+use Rattle.terms.proofs.Buffers.{overwrite-fits}
+use Rattle.terms.proofs.Faults.{totals-small}
+use Rattle.answers.specs.Answer.{AnswerRow, equalUnder, variableWidths, answerRows, answerNumbers}
+use Rattle.answers.specs.Solve.{solvedRows, answerRecord, solveRecord, answerAfter, workAfter}
+use Rattle.answers.proofs.Tables.{rows-few}
+use Rattle.answers.proofs.Demands.{demand-3}
+
+numbers-length : (rows : List AnswerRow) → length (answerNumbers rows) ≡ length rows * 4
+unfolding answerNumbers
+numbers-length [] = refl
+numbers-length (r ∷ rows) = omega (arith, numbers-length rows)
+
+module _ (table : List ℕ) (accepted : firstFault table ≡ Accepted) (old work : List ℕ) (room : 16384 ≤ length old) (memory : 16384 ≤ length work) where
+  -- A call with room is refused only for a fault of its table.
+  pub call-record : solveRecord table (length old) (length work) ≡ answerRecord (rowsOf table)
+  unfolding solveRecord stopAt
+  call-record = rw (le-ltb (length old) 16384 room, le-ltb (length work) 16384 memory, accepted) refl
+
+  -- Every number of the work area is 0 afterwards.
+  pub call-work : workAfter table (length old) work ≡ replicate (length work) 0
+  unfolding workAfter
+  call-work = rw (call-record, lt-ltb (answerRecord (rowsOf table) .outcome) 3 (omega (arith, demand-3 table accepted .one-of-three))) refl
+
+  few-numbers : length (answerNumbers (solvedRows (rowsOf table))) ≤ length old
+  unfolding solvedRows
+  few-numbers =
+      let small : bitsOf (rowsOf table) ≤ 4096 = rw (take-length (rowsOf table)) at (totals-small (rowsOf table) (length (rowsOf table)) (accepted-table table accepted .sound) .1) in
+      omega (arith, numbers-length (solvedRows (rowsOf table)), rows-few (bitsOf (rowsOf table)) (variableWidths (rowsOf table)) (equalUnder (bitsOf (rowsOf table)) (satisfies (rowsOf table))))
+
+  -- For outcome 2 the answer table begins with the answer's rows, and as many as the record's pieces.
+  pub call-answer : answerRecord (rowsOf table) .outcome ≡ 2
+      → take (answerRecord (rowsOf table) .pieces * 4) (answerAfter table old (length work)) ≡ answerNumbers (solvedRows (rowsOf table))
+  unfolding answerAfter
+  call-answer e =
+      let count : answerRecord (rowsOf table) .pieces * 4 ≡ length (answerNumbers (solvedRows (rowsOf table))) =
+      ap (λ (n : ℕ). n * 4) (demand-3 table accepted .solved-pieces e) ∙ sym (numbers-length (solvedRows (rowsOf table))) in
+      rw (call-record, e)
+      (ap (λ (l : List ℕ). take (answerRecord (rowsOf table) .pieces * 4) l) (overwrite-fits (answerNumbers (solvedRows (rowsOf table))) old few-numbers)
+      ∙ take-at (answerNumbers (solvedRows (rowsOf table))) (drop (length (answerNumbers (solvedRows (rowsOf table)))) old) (answerRecord (rowsOf table) .pieces * 4) (sym count))
