@@ -179,8 +179,8 @@
      lw_value        44224 bytes
      lw_normal_form  133184 bytes
      lw_read_sheet   4288 bytes
-     lw_solve        999999 bytes (to be measured)
-     lw_right_side   9999 bytes (to be measured)
+     lw_solve        181888 bytes
+     lw_right_side   64 bytes
 */
 
 #ifndef LINKWORDS_H

@@ -219,6 +219,15 @@ finding-done h₀ h s x p f e = record {
   same = f .same;
 }
 
+-- a find ends where the link of x is a root
+pub finding-near : (h₀ h : List ℕ) (s x p : ℕ) → Finding h₀ h s x p → getD h p 0 ≡ p → Found h₀ h s p
+finding-near h₀ h s x p f e = record {
+  low = f .low;
+  small = omega (arith, f .near, f .small, f .len);
+  root = λ c w. sym (f .same c w .top p e) ∙ ap (rep c) (f .link) ∙ f .same c w .keep x ∙ f .root c w;
+  same = f .same;
+}
+
 -- a pair taken, after its two finds
 module _ (h h1 h2 : List ℕ) (s t a b : ℕ) (f : Found h h1 s a) (g : Found h1 h2 t b) where
   pub link-same : a ≡ b → Linked h h2 s t 0

@@ -24,7 +24,7 @@ fn lower(a: u16, b: u16) -> u16
     b
 }
 
-// The root of a source; each second link on the way is halved.
+// The root of a source; each second link on the way is halved. A link to a root stays.
 pub fn find(links: &mut [u16], s: u16) -> u16
     ensures { λ r. ⌜ Finds (now (links .entry)) (now (links .exit)) s r ⌝ }
 {
@@ -35,7 +35,7 @@ pub fn find(links: &mut [u16], s: u16) -> u16
     let mut p = links[x];
     while terms::wide(p) < x {
         let g = links[terms::wide(p)];
-        if p < g {
+        if p <= g {
             return p;
         }
         terms::store(links, x, g);

@@ -17,3 +17,8 @@ pub mod Concluding
 pub mod Stops
 pub mod Runs
 pub mod RightSide
+pub mod Shortened
+pub mod Alike
+pub mod ShortTable
+pub mod Shortening
+pub mod ShortCopy

@@ -4,3 +4,4 @@ pub mod Rows
 pub mod Borders
 pub mod Equations
 pub mod Call
+pub mod Shortened

@@ -13,6 +13,7 @@ ghost use Rattle.solver.specs.Spread.{FindsLows, Behind, stepped, source
 ghost use Rattle.solver.specs.Rows.{PutsRows};
 ghost use Rattle.solver.specs.Borders.{MarksBegins, besideIn, unevenWith, MarksUneven, goesIn, numberIn, stepIn, rowWritten, PutsPlaces};
 ghost use Rattle.solver.specs.Equations.{TakesEquations};
+ghost use Rattle.solver.specs.Shortened.{shortIn, storedRow, Shortens};
 ghost use Rattle.solver.specs.Call.{Unlinks, Concludes, AnswersTable, SolvesAccepted};
 use terms::Record;
 use terms::Row;
@@ -181,6 +182,55 @@ fn lesser(a: usize, b: usize) -> usize
         return a;
     }
     b
+}
+
+// A row, from the row that it names first: a cut of a cut is made one cut.
+fn short_row(row: Row, named: Row) -> Row
+    ensures { λ r. ⌜ r ≡ shortIn row named ⌝ }
+{
+    let kind = row.kind;
+    if kind != terms::EXTRACT {
+        return row;
+    }
+    let inner = named.kind;
+    if inner != terms::EXTRACT {
+        return row;
+    }
+    Row {
+        kind: terms::EXTRACT,
+        a: named.a,
+        b: plus(row.b, named.c),
+        c: plus(row.c, named.c),
+    }
+}
+
+// Stores row r of a table, of 512 rows.
+fn store_row(table: &mut [u16], r: usize, row: Row)
+    ensures { λ _. ⌜ now (table .exit) ≡ storedRow (now (table .entry)) (min r 512) row ⌝ }
+{
+    let at = lesser(r, terms::MAX_ROWS) * 4;
+    terms::store(table, at, row.kind);
+    terms::store(table, at + 1, row.a);
+    terms::store(table, at + 2, row.b);
+    terms::store(table, at + 3, row.c);
+}
+
+// Copies the first 512 rows of a table, each cut of a cut made one cut. How many numbers they are.
+fn shorten(table: &[u16], short: &mut [u16]) -> usize
+    ensures few { λ n. ⌜ n ≤ 2048 ⌝ }
+    ensures rows { λ n. ⌜ Shortens (now (table .entry)) (length (now (short .entry))) (now (short .exit)) n ⌝ }
+{
+    let mut r: usize = 0;
+    while r < terms::MAX_ROWS {
+        if table.len() / 4 <= r {
+            break;
+        }
+        let row = terms::row_at(table, r);
+        let named = terms::row_at(short, terms::wide(row.a));
+        store_row(short, r, short_row(row, named));
+        r += 1;
+    }
+    r * 4
 }
 
 // How far the equations were taken: to the row at which two different fixed bits met, or through all rows; and the ties before it.
@@ -559,14 +609,16 @@ fn answer_table(
 ) -> Record
     ensures { λ r. ⌜ AnswersTable (now (table .entry)) (now (widths .entry)) (now (lows .entry)) bits (now (links .entry)) (now (answer .entry)) (now (answer .exit)) r ⌝ }
 {
+    let mut short = [0u16; 2048];
+    let len = shorten(table, &mut short[..]);
     let mut variables = [0u16; 512];
-    forms::number(table, &mut variables[..]);
+    forms::number(&short[..len], &mut variables[..]);
     let mut form = [0u16; 4096];
     let mut left = [0u16; 1024];
     let mut right = [0u16; 1024];
     unlink(links);
     let taken = take_equations(
-        table,
+        &short[..len],
         widths,
         &variables[..],
         lows,

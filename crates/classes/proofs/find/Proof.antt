@@ -4,7 +4,7 @@ use Prim.Native.Nat.{ℕ, _<_, _≤_}
 use native.Mathlib.Omega.{arith}
 use lib.ListN.{length, getD}
 use Rattle.classes.proofs.Roots.{found-is}
-use Rattle.classes.proofs.Links.{Finding, finding-first, finding-more, finding-done}
+use Rattle.classes.proofs.Links.{Finding, finding-first, finding-more, finding-done, finding-near}
 use Rattle.classes.specs.Links.{Low}
 use Rattle.classes.proofs.find.Statement.{statement}
 use Rattle.classes.proofs.find.Tie as tie
@@ -69,7 +69,9 @@ same-length c = c .before .before .before .before .before .loop .inv .0
 returns-2 : tie.Need-returns-2 Inv-loop μ-loop
 returns-2 c =
     let w = c .before .before .before .before .before .loop in
-    λ low small. absurd (omega (arith, c .if3 .taken, ap (λ (n : ℕ). getD (w .links) n 0) (c .before .before .wide3 .ensures .0), w .inv .4 low small .low (w .p)))
+    λ low small.
+    let f = w .inv .4 low small in
+    found-is _ _ _ _ low (finding-near _ _ _ (w .x) (w .p) f (omega (arith, c .if3 .taken, ap (λ (n : ℕ). getD (w .links) n 0) (c .before .before .wide3 .ensures .0), f .low (w .p))))
 
 -- src/lib.rt:50:9
 store-requires : tie.Need-store-requires Inv-loop μ-loop

@@ -1,0 +1,71 @@
+-- A copy of an accepted table with its rows shortened: what is prepared for the table is prepared for the copy, and the equations
+-- taken from the copy are the table's.
+use mathlib.Core.Path.{_≡_, sym, _∙_, ap}
+use mathlib.Core.List.{List}
+use Prim.Native.Nat.{ℕ, _%_, _<_, _≤_}
+use native.Mathlib.Omega.{arith}
+use lib.ListN.{length, getD, take}
+use lib.Seq.{length-take-le}
+use Rattle.terms.specs.declared.Row.{Row}
+use Rattle.terms.specs.declared.Fault.the-variants.{Accepted}
+use Rattle.terms.specs.Table.{rowsOf, bitsOf, widthsOf, widthOf, countKind}
+use Rattle.terms.specs.Faults.{firstFault}
+use Rattle.terms.proofs.AcceptedTable.{accepted-table}
+use Rattle.terms.proofs.Values.{Sound}
+use Rattle.answers.specs.Pairs.{pairsIn}
+use Rattle.solver.specs.Shortened.{shortened}
+use Rattle.solver.specs.Sides.{lowSources, Prepared}
+use Rattle.solver.specs.Equations.{EquationsTaken}
+use Rattle.solver.proofs.Alike.{Alike, alike-bits, alike-count, alike-lows}
+use Rattle.solver.proofs.ShortTable.{sound-accepted, short-alike, short-widths, short-sound, short-pairs}
+
+-- the first n numbers of a buffer are such a copy
+pub copy-length : (table buffer : List ℕ) (n room : ℕ) → n ≡ length table → n ≤ room → length buffer ≡ room → length (take n buffer) ≡ length table
+copy-length table buffer n room e l m = length-take-le n buffer (omega arith) ∙ e
+
+module _ (table short : List ℕ) (accepted : firstFault table ≡ Accepted) (size : length short ≡ length table) (rows : rowsOf short ≡ shortened (rowsOf table)) where
+  abbrev t : List Row
+  t = rowsOf table
+
+  sound : Sound t
+  sound = accepted-table table accepted .sound
+
+  alike : Alike (rowsOf short) t
+  alike = rw rows (short-alike t sound)
+
+  pub copy-accepted : firstFault short ≡ Accepted
+  copy-accepted =
+      let it = accepted-table table accepted in
+      sound-accepted short (ap (λ (n : ℕ). n % 4) size ∙ it .whole) (omega (arith, alike .count, it .few)) (rw rows (short-sound t sound))
+
+  pub copy-bits : bitsOf (rowsOf short) ≡ bitsOf t
+  copy-bits = alike-bits (rowsOf short) t alike
+
+  pub copy-prepared : (widths variables lows : List ℕ) → ((r : ℕ) → r < length t → getD widths r 0 ≡ widthOf t r)
+      → ((r : ℕ) → r < length (rowsOf short) → getD variables r 0 ≡ countKind 0 (take r (rowsOf short)))
+      → ((v : ℕ) → v < countKind 0 t → getD lows v 0 ≡ getD (lowSources 0 t) v 0) → Prepared short widths variables lows
+  copy-prepared widths variables lows ws vs ls =
+      record {
+        numbered = record {
+          accepted = copy-accepted;
+          widths-are = λ r h. ws r (omega (arith, alike .count)) ∙ ap (λ (l : List ℕ). getD l r 0) (sym (ap widthsOf rows ∙ short-widths t sound));
+          variables-are = vs;
+        };
+        lows-are =
+            λ v h.
+            ls v (omega (arith, alike-count 0 (rowsOf short) t alike))
+            ∙ ap (λ (l : List ℕ). getD l v 0) (sym (alike-lows (rowsOf short) t alike 0));
+      }
+
+  copy-pairs : pairsIn (rowsOf short) (rowsOf short) ≡ pairsIn t t
+  copy-pairs = ap (λ (u : List Row). pairsIn u u) rows ∙ short-pairs t sound
+
+  pub copy-taken : (links : List ℕ) (row ties : ℕ) → EquationsTaken (rowsOf short) links row ties → EquationsTaken t links row ties
+  copy-taken links row ties taken =
+      record {
+        row-is = rw (copy-bits, copy-pairs) at (taken .row-is);
+        ties-are = rw (copy-bits, copy-pairs) at (taken .ties-are);
+        few = taken .few;
+        low = λ e. taken .low (e ∙ sym (alike .count));
+        classes-are = λ e. rw (copy-bits, copy-pairs) at (taken .classes-are (e ∙ sym (alike .count)));
+      }
