@@ -35,6 +35,9 @@ typedef struct {
     size_t sheet_len;
     uint16_t answer[LW_SOLVER_NUMBERS], work[LW_SOLVER_NUMBERS];
     size_t work_len, rows_in_use, variable;
+    size_t answer_len;
+    uint8_t fresh[LW_MAX_VARIABLE_BITS];
+    size_t fresh_len;
     lw_record record; /* of a right side: its length as free */
 } call;
 
@@ -205,6 +208,96 @@ static void too_many_rows(call *c)
     c->rows_in_use = LW_SOLVER_NUMBERS / 4 + 1;
 }
 
+/* Answer tables of which a pattern is made, with fresh bits that are all 0. */
+
+static void answer_row(call *c, size_t variable, size_t kind, size_t width, size_t fresh)
+{
+    uint16_t *n = c->answer + c->answer_len;
+    n[0] = (uint16_t)variable, n[1] = (uint16_t)kind, n[2] = (uint16_t)width, n[3] = (uint16_t)fresh;
+    c->answer_len += 4;
+}
+
+static void no_rows(call *c)
+{
+    c->pattern_len = sizeof c->pattern;
+}
+
+static void one_bit(call *c)
+{
+    answer_row(c, 0, LW_FRESH, 1, 0);
+    c->pattern_len = c->fresh_len = 1;
+}
+
+static void one_fill(call *c)
+{
+    answer_row(c, 0, 1, 1024, 0);
+    c->pattern_len = 1024;
+}
+
+/* 4096 rows of width 1, each a fresh piece of its own. */
+static void fresh_rows(call *c)
+{
+    for (size_t i = 0; i < 4096; i++)
+        answer_row(c, i / 1024, LW_FRESH, 1, i);
+    c->pattern_len = c->fresh_len = 4096;
+}
+
+/* The same with one fresh piece. */
+static void one_piece(call *c)
+{
+    for (size_t i = 0; i < 4096; i++)
+        answer_row(c, i / 1024, LW_FRESH, 1, 0);
+    c->pattern_len = 4096;
+    c->fresh_len = 1;
+}
+
+/* The same with fills of 0 and 1 in turn. */
+static void fill_rows(call *c)
+{
+    for (size_t i = 0; i < 4096; i++)
+        answer_row(c, i / 1024, i % 2, 1, 0);
+    c->pattern_len = 4096;
+}
+
+/* 64 variables, each of 64 bits in one fresh piece. */
+static void wide_rows(call *c)
+{
+    for (size_t v = 0; v < 64; v++)
+        answer_row(c, v, LW_FRESH, 64, v);
+    c->pattern_len = c->fresh_len = 4096;
+}
+
+static void no_whole_answer_row(call *c)
+{
+    fresh_rows(c);
+    c->answer_len--;
+}
+
+/* Refused at its last row. */
+static void bad_answer_row(call *c)
+{
+    fresh_rows(c);
+    c->answer[4 * 4095 + 3] = 4096;
+}
+
+static void few_fresh_bits(call *c)
+{
+    fresh_rows(c);
+    c->fresh_len--;
+}
+
+static void bad_fresh_bit(call *c)
+{
+    fresh_rows(c);
+    c->fresh[4095] = 2;
+}
+
+static void short_pattern(call *c)
+{
+    fresh_rows(c);
+    c->pattern_len--;
+}
+
 /* Sheets; their tables are lent whole. */
 
 static void lines(call *c, const char *line, size_t count)
@@ -269,6 +362,7 @@ typedef lw_record form_function(const uint16_t *, size_t, size_t, uint16_t *, si
 typedef lw_record sheet_function(const uint8_t *, size_t, uint16_t *, size_t);
 typedef lw_record solve_function(const uint16_t *, size_t, uint16_t *, size_t, uint16_t *, size_t);
 typedef lw_part part_function(const uint16_t *, size_t, size_t, size_t);
+typedef lw_record pattern_function(const uint16_t *, size_t, const uint8_t *, size_t, uint8_t *, size_t);
 
 enum { STACK = 1 << 20 };
 
@@ -326,11 +420,21 @@ static lw_part part_entry(const uint16_t *answer, size_t answer_len, size_t rows
     return (lw_part){1, 1};
 }
 
+__attribute__((noinline))
+static lw_record pattern_entry(const uint16_t *answer, size_t answer_len, const uint8_t *fresh, size_t fresh_len,
+                               uint8_t *pattern, size_t pattern_len)
+{
+    (void)answer, (void)answer_len, (void)fresh, (void)fresh_len, (void)pattern, (void)pattern_len;
+    entry = ENTRY;
+    return (lw_record){.outcome = 1};
+}
+
 static value_function *volatile const value_functions[] = {value_entry, lw_value};
 static form_function *volatile const form_functions[] = {form_entry, lw_normal_form};
 static sheet_function *volatile const sheet_functions[] = {sheet_entry, lw_read_sheet};
 static solve_function *volatile const solve_functions[] = {solve_entry, lw_solve};
 static part_function *volatile const part_functions[] = {part_entry, lw_right_side};
+static pattern_function *volatile const pattern_functions[] = {pattern_entry, lw_make_pattern};
 
 static void count(void)
 {
@@ -385,6 +489,15 @@ static void *run_part(void *argument)
         part = part_functions[i](c->answer, LW_SOLVER_NUMBERS, c->rows_in_use, c->variable);
     count();
     c->record.free = (uint32_t)part.len;
+    return NULL;
+}
+
+static void *run_pattern(void *argument)
+{
+    call *c = argument;
+    for (size_t i = 0; i < 2; i++)
+        c->record = pattern_functions[i](c->answer, c->answer_len, c->fresh, c->fresh_len, c->pattern, c->pattern_len);
+    count();
     return NULL;
 }
 
@@ -502,6 +615,20 @@ int main(int argc, char **argv)
         {"no such variable", no_such_variable, 0, 0},
         {"too many rows", too_many_rows, 0, 0},
     };
+    static const test patterns[] = {
+        {"no rows", no_rows, LW_ACCEPTED, 0},
+        {"one fresh bit", one_bit, LW_ACCEPTED, 1},
+        {"one fill", one_fill, LW_ACCEPTED, 1024},
+        {"4096 fresh pieces", fresh_rows, LW_ACCEPTED, 4096},
+        {"4096 rows, one fresh piece", one_piece, LW_ACCEPTED, 4096},
+        {"4096 fills", fill_rows, LW_ACCEPTED, 4096},
+        {"64 variables of 64 bits", wide_rows, LW_ACCEPTED, 4096},
+        {"refused 33, not whole rows", no_whole_answer_row, LW_REFUSED_ANSWER, 0},
+        {"refused 33 at row 4095", bad_answer_row, LW_REFUSED_ANSWER, 0},
+        {"refused 34, fresh bits too few", few_fresh_bits, LW_REFUSED_FRESH, 0},
+        {"refused 34, the last byte above 1", bad_fresh_bit, LW_REFUSED_FRESH, 0},
+        {"refused 32", short_pattern, LW_REFUSED_OUTPUT, 0},
+    };
     size_t count = sizeof tests / sizeof tests[0];
     const char *header = argc == 2 ? argv[1] : "";
     void *memory;
@@ -514,6 +641,8 @@ int main(int argc, char **argv)
     measure_all("lw_read_sheet", run_sheet, sheets, sizeof sheets / sizeof sheets[0], stated(header, "lw_read_sheet"));
     measure_all("lw_solve", run_solve, solves, sizeof solves / sizeof solves[0], stated(header, "lw_solve"));
     measure_all("lw_right_side", run_part, parts, sizeof parts / sizeof parts[0], stated(header, "lw_right_side"));
+    measure_all("lw_make_pattern", run_pattern, patterns, sizeof patterns / sizeof patterns[0],
+                stated(header, "lw_make_pattern"));
     free(memory);
     return run_done("stack");
 }

@@ -7,7 +7,8 @@
   which can also be read from a text; the calls take that table and leave their
   results in buffers of the caller. One of them solves the equations: it tells
   whether every, no or some choice of the variables' bits meets them all, and
-  for some it describes these choices.
+  for some it describes these choices. Another makes such a choice from the
+  description.
 
   The library is proved: for every input each call yields the record and the
   buffer contents that this header names, and it always returns. It is linked
@@ -122,6 +123,11 @@
   So the variable is s t t t u, with any words s, t and u of one, two and one
   bits: 16 patterns meet the table.
 
+  Fresh bits give a bit to every bit of the fresh pieces: fresh piece 0 first,
+  the high bit of each fresh piece first, and each fresh piece once, however
+  often it stands. So the fresh bits 1 0 1 0 are s = 1, t = 01 and u = 0, and
+  with them the pattern is 1 0 1 0 1 0 1 0.
+
 
                                   Sheets
 
@@ -161,7 +167,8 @@
 
   Lengths count elements, not bytes: 16-bit numbers for a table, for a normal
   form, for an answer table and for a work area, bytes for a pattern, for a
-  value and for a sheet. A table of R rows has length 4 * R.
+  value, for fresh bits and for a sheet. A table of R rows has length 4 * R, and
+  so has an answer table of R rows.
 
   Each pointer is to as many elements as its length says, aligned for their
   type. The buffers of one call must not overlap. A pointer may be NULL where
@@ -181,6 +188,7 @@
      lw_read_sheet   4288 bytes
      lw_solve        181888 bytes
      lw_right_side   64 bytes
+     lw_make_pattern 16576 bytes
 */
 
 #ifndef LINKWORDS_H
@@ -245,6 +253,8 @@ extern "C" {
 #define LW_REFUSED_ROW       30 /* the row asked for is absent, or is an equation */
 #define LW_REFUSED_PATTERN   31 /* pattern of another length, or a byte above 1 */
 #define LW_REFUSED_OUTPUT    32 /* output buffer too short */
+#define LW_REFUSED_ANSWER    33 /* answer table not of its form, or over 4096 bits */
+#define LW_REFUSED_FRESH     34 /* fresh bits of another number, or a byte above 1 */
 
 /* the record */
 
@@ -504,6 +514,60 @@ lw_part lw_right_side(const uint16_t *answer, size_t answer_len,
 
      Nothing is asked of the numbers in answer, and there is no refusal. The
      answer table is only read.
+*/
+
+lw_record lw_make_pattern(const uint16_t *answer, size_t answer_len,
+                          const uint8_t *fresh, size_t fresh_len,
+                          uint8_t *pattern, size_t pattern_len);
+/*
+     Writes the pattern that an answer table gives with the fresh bits. After
+     lw_solve with outcome LW_SOLVED, the answer table is the first 4 * pieces
+     numbers of its buffer, the fresh bits are free in number, and the pattern
+     meets the table: every choice of fresh bits gives one, and no two of them
+     the same. After LW_ALWAYS there is no answer table, and any bits are a
+     pattern.
+
+     All of answer is rows in use: answer_len is 4 times their number. Nothing is
+     asked of where they come from, but they have this form:
+
+       - The variable of the first row is 0. That of each other row is that of
+         the row before it, or 1 more. None is above 63.
+       - The kind is 0, 1 or 2.
+       - The width is at least 1. The widths of a variable's rows add up to at
+         most 1024, and those of all rows to at most 4096.
+       - A fill has fresh number 0. Two fills that follow directly in one
+         variable differ in their bit.
+       - The fresh number of a fresh piece is that of an earlier row which is a
+         fresh piece, and then the two have the same width; or it is the lowest
+         number which is not that of an earlier fresh piece.
+
+     So fresh pieces need not be as few or as long as they can be: two that
+     always follow each other may be two. An answer table of no rows has this
+     form. It takes no fresh bits and gives the pattern of no bits.
+
+     If the call is accepted, outcome is LW_ACCEPTED, free is the length of the
+     pattern, that is the widths of all rows together, and all other fields are
+     0. The first free bytes of pattern are then the pattern: row by row, the
+     bit of a fill as many times as it is wide, and the bits of a fresh piece,
+     high bit first, wherever it stands. The bytes of pattern that follow keep
+     their content.
+
+     Otherwise outcome is the first refusal that applies, in the order below,
+     and nothing is written to pattern.
+
+     outcome                 cause                               field row
+     33 LW_REFUSED_ANSWER    answer_len is no multiple of 4, or  0
+                             the rows are not of the form above
+     34 LW_REFUSED_FRESH     fresh_len is not the number of      0
+                             fresh bits, that is the widths of
+                             the fresh pieces together, each
+                             fresh piece once; or a byte of
+                             fresh is above 1
+     32 LW_REFUSED_OUTPUT    pattern_len is below the length of  0
+                             the pattern
+
+     The answer table and the fresh bits are only read. Neither may overlap
+     pattern.
 */
 
 #ifdef __cplusplus

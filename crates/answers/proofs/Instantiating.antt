@@ -26,7 +26,7 @@ use Rattle.answers.proofs.AnswerRows.{partsFrom, rowSlots, slotsTo, Eac
 use Rattle.answers.proofs.FreeBits.{widthsTo}
 
 -- rows turned round
-each-turn : (P : AnswerRow → Type 0) (xs ys : List AnswerRow) → Each P xs → Each P ys → Each P (reverseAux xs ys)
+pub each-turn : (P : AnswerRow → Type 0) (xs ys : List AnswerRow) → Each P xs → Each P ys → Each P (reverseAux xs ys)
 each-turn P [] ys h k = k
 each-turn P (x ∷ xs) ys h k = each-turn P xs (x ∷ ys) (h .1) (h .0, k)
 
@@ -136,7 +136,7 @@ unfolding partsFrom reads
 parts-value φ k o zero = refl
 parts-value φ k o (suc w) = ap (λ (t : List ℕ). φ k o ∷ t) (parts-value φ k (suc o) w)
 
-fills-value : (φ : ℕ → ℕ → ℕ) (b w : ℕ) → map (value φ) (replicate w (fill b)) ≡ replicate w b
+pub fills-value : (φ : ℕ → ℕ → ℕ) (b w : ℕ) → map (value φ) (replicate w (fill b)) ≡ replicate w b
 fills-value φ b zero = refl
 fills-value φ b (suc w) = ap (λ (t : List ℕ). b ∷ t) (fills-value φ b w)
 
@@ -208,7 +208,7 @@ module _ (n : ℕ) (c : List ℕ) (seen : List Pair) (inv : Represents n c seen)
           two true d w = omega (arith, eqb-true k (r .fresh) d, h .0 .is-piece e .0)
           two false d w = f w
 
-  width-found : (rows : List AnswerRow) → Each WholeRow rows → (k : ℕ) → member k (freshNumbers rows) ≡ true → freshWidth rows k ≡ wideOf k
+  pub width-found : (rows : List AnswerRow) → Each WholeRow rows → (k : ℕ) → member k (freshNumbers rows) ≡ true → freshWidth rows k ≡ wideOf k
   unfolding freshNumbers member freshWidth
   width-found [] h k m = let z : _≡_ {A = ℕ} 0 1 = cc in absurd (omega arith)
   width-found (r ∷ rows) h k m = go (isFresh r) refl m (λ (q : member k (freshNumbers rows) ≡ true). width-found rows (h .1) k q)
@@ -222,7 +222,7 @@ module _ (n : ℕ) (c : List ℕ) (seen : List Pair) (inv : Represents n c seen)
           two (inl d) w = rw (eq-eqb (r .fresh) k d) (h .0 .is-piece e .1 ∙ ap wideOf d)
           two (inr d) w = rw (ne-eqb (r .fresh) k d) (f (rw (ne-eqb k (r .fresh) (λ x. d (sym x))) at w))
 
-  answer-whole : Each WholeRow answer
+  pub answer-whole : Each WholeRow answer
   unfolding answerRows
   answer-whole = each-turn WholeRow (rowsTo n ws (inClass c) n) [] (known .whole) tt
 

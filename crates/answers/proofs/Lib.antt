@@ -24,3 +24,5 @@ pub mod Tables
 pub mod Demands
 pub mod WorkedCases
 pub mod Lent
+pub mod RowSides
+pub mod OurSystem

@@ -7,6 +7,7 @@ ghost use Rattle.forms.specs.Call.{formRecord, formAfter};
 ghost use Rattle.sheets.specs.Call.{sheetRecord, tableAfter};
 ghost use Rattle.answers.specs.Solve.{solveRecord, answerAfter, workAfter};
 ghost use Rattle.answers.specs.RightSide.{rightSideStart, rightSideLength};
+ghost use Rattle.assignments.specs.Call.{patternRecord, patternAfter};
 use solver::Part;
 use terms::Record;
 
@@ -54,4 +55,13 @@ pub extern "C" fn lw_right_side(answer: &[u16], rows_in_use: usize, variable: us
     ensures len { λ r. ⌜ r .len ≡ rightSideLength (now (answer .entry)) rows_in_use variable ⌝ }
 {
     solver::right_part(answer, rows_in_use, variable)
+}
+
+// The pattern that an answer table gives at fresh bits.
+#[no_mangle]
+pub extern "C" fn lw_make_pattern(answer: &[u16], fresh: &[u8], pattern: &mut [u8]) -> Record
+    ensures record { λ r. ⌜ r ≡ patternRecord (now (answer .entry)) (now (fresh .entry)) (length (now (pattern .entry))) ⌝ }
+    ensures pattern { λ _. ⌜ now (pattern .exit) ≡ patternAfter (now (answer .entry)) (now (fresh .entry)) (now (pattern .entry)) ⌝ }
+{
+    assignments::make_pattern(answer, fresh, pattern)
 }

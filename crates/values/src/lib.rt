@@ -39,7 +39,7 @@ fn bit(table: &[u16], widths: &[u16], starts: &[u32], pattern: &[u8], row: usize
 }
 
 // Whether each byte is 0 or 1.
-fn all_bits(pattern: &[u8]) -> bool
+pub fn all_bits(pattern: &[u8]) -> bool
     ensures { λ r. ⌜ r ≡ allBits (now (pattern .entry)) ⌝ }
 {
     let mut i = 0;

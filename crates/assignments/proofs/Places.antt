@@ -1,0 +1,133 @@
+-- Which variable a place belongs to, and where it stands within it; the widths of an accepted table's variables.
+use mathlib.Core.Path.{_≡_, refl, sym, ap, _∙_}
+use mathlib.Core.Logic.{_⊎_, inl, inr}
+use mathlib.Core.Bool.{Bool, true, false, cond}
+use mathlib.Core.List.{List, [], _∷_}
+use Prim.Native.Nat.{ℕ, zero, suc, _+_, _-_, _≤_, _<_}
+use native.Mathlib.Omega.{arith}
+use lib.Dec.{eqb, ltb}
+use lib.ListN.{length}
+use lib.Seq.{take-length}
+use borrow.Author.Tests.{ne-eqb, lt-ltb, le-ltb}
+use Rattle.terms.specs.declared.Row.{Row}
+use Rattle.terms.specs.declared.Fault.the-variants.{Accepted}
+use Rattle.terms.specs.Faults.{firstFault}
+use Rattle.terms.specs.Table.{rowsOf, rowAt, byKind, bitsOf, countKind}
+use Rattle.terms.proofs.AcceptedTable.{accepted-table}
+use Rattle.terms.proofs.Faults.{kept, kept-width, totals-small}
+use Rattle.terms.proofs.Values.{width-variable}
+use Rattle.answers.specs.Answer.{variableWidths, begins, variableAt}
+use Rattle.answers.proofs.Agreement.{dec-lt}
+use Rattle.answers.proofs.GeneralSystems.{widthSum}
+use Rattle.answers.proofs.Variables.{begins-first}
+
+-- widths of variables: from 1 to 1,024
+abbrev pub Sized : List ℕ → Type 0
+Sized [] = Unit {0}
+Sized (w ∷ ws) = (1 ≤ w) × (w ≤ 1024) × Sized ws
+
+-- the place of a bit within its variable
+unfoldable pub placeIn : List ℕ → ℕ → ℕ
+placeIn [] i = 0
+placeIn (w ∷ ws) i = cond (ltb i w) i (placeIn ws (i - w))
+
+pub variable-first : (ws : List ℕ) → Sized ws → variableAt ws 0 ≡ 0
+unfolding variableAt
+variable-first [] p = refl
+variable-first (w ∷ ws) p = rw (lt-ltb 0 w (p .0))
+
+pub place-first : (ws : List ℕ) → placeIn ws 0 ≡ 0
+unfolding placeIn
+place-first [] = refl
+place-first (w ∷ ws) = go (ltb 0 w) (place-first ws)
+  where
+    go : (b : Bool) → placeIn ws 0 ≡ 0 → cond b 0 (placeIn ws (0 - w)) ≡ 0
+    go true h = refl
+    go false h = let e : 0 - w ≡ 0 = omega arith in ap (placeIn ws) e ∙ h
+
+-- the next place begins a variable, or goes on with the one before
+pub record Next (ws : List ℕ) (i : ℕ) : Type 0 where
+  pub at-begin : begins ws (suc i) ≡ true → (variableAt ws (suc i) ≡ suc (variableAt ws i)) × (placeIn ws (suc i) ≡ 0)
+  pub within : begins ws (suc i) ≡ false → (variableAt ws (suc i) ≡ variableAt ws i) × (placeIn ws (suc i) ≡ suc (placeIn ws i))
+
+clash : {A : Type 0} → true ≡ false → A
+clash h = let z : _≡_ {A = ℕ} 0 1 = cc in absurd (omega arith)
+
+pub next-place : (ws : List ℕ) → Sized ws → (i : ℕ) → suc i < widthSum ws → Next ws i
+unfolding variableAt begins placeIn widthSum
+next-place [] p i l = absurd (omega arith)
+next-place (w ∷ ws) p i l = go (dec-lt (suc i) w) (dec-lt i w) (λ (k : suc (i - w) < widthSum ws). next-place ws (p .2) (i - w) k)
+  where
+    go : (suc i < w) ⊎ (w ≤ suc i) → (i < w) ⊎ (w ≤ i) → (suc (i - w) < widthSum ws → Next ws (i - w)) → Next (w ∷ ws) i
+    go (inl a) b r =
+        record {
+          at-begin = rw (lt-ltb (suc i) w a, ne-eqb (suc i) 0 (omega arith)) (λ h. clash (sym h));
+          within = rw (lt-ltb (suc i) w a, lt-ltb i w (omega arith)) (λ h. (refl, refl));
+        }
+    go (inr a) (inl b) r =
+        let e : suc i - w ≡ 0 = omega arith in
+        record {
+          at-begin = rw (le-ltb (suc i) w a, lt-ltb i w b, e) (λ h. (ap suc (variable-first ws (p .2)), place-first ws));
+          within = rw (le-ltb (suc i) w a, lt-ltb i w b, e, begins-first ws) (λ h. clash h);
+        }
+    go (inr a) (inr b) r =
+        let e : suc i - w ≡ suc (i - w) = omega arith in
+        let N = r (omega arith) in
+        record {
+          at-begin = rw (le-ltb (suc i) w a, le-ltb i w b, e) (λ h. let k = N .at-begin h in (ap suc (k .0), k .1));
+          within = rw (le-ltb (suc i) w a, le-ltb i w b, e) (λ h. let k = N .within h in (ap suc (k .0), k .1));
+        }
+
+pub place-small : (ws : List ℕ) → Sized ws → (i : ℕ) → i < widthSum ws → placeIn ws i < 1024
+unfolding placeIn widthSum
+place-small [] p i l = absurd (omega arith)
+place-small (w ∷ ws) p i l = go (dec-lt i w) (λ (k : i - w < widthSum ws). place-small ws (p .2) (i - w) k)
+  where
+    go : (i < w) ⊎ (w ≤ i) → (i - w < widthSum ws → placeIn ws (i - w) < 1024) → cond (ltb i w) i (placeIn ws (i - w)) < 1024
+    go (inl a) r = rw (lt-ltb i w a) (omega (arith, p .1))
+    go (inr a) r = rw (le-ltb i w a) (r (omega arith))
+
+-- the widths in a table
+widths-sized : (t : List Row) → ((r : ℕ) → r < length t → rowAt t r .kind ≡ 0 → (1 ≤ rowAt t r .a) × (rowAt t r .a ≤ 1024)) → Sized (variableWidths t)
+unfolding variableWidths byKind
+widths-sized [] h = tt
+widths-sized (r ∷ t) h = go (r .kind) (h 0 (omega arith)) (widths-sized t (λ i l. h (suc i) (omega arith)))
+  where
+    go : (k : ℕ) → (k ≡ 0 → (1 ≤ r .a) × (r .a ≤ 1024)) → Sized (variableWidths t)
+        → Sized (byKind k (r .a ∷ variableWidths t) (variableWidths t) (variableWidths t) (variableWidths t) (variableWidths t))
+    go zero p q = (p refl .0, p refl .1, q)
+    go (suc zero) p q = q
+    go (suc (suc zero)) p q = q
+    go (suc (suc (suc zero))) p q = q
+    go (suc (suc (suc (suc k)))) p q = q
+
+widths-count : (t : List Row) → length (variableWidths t) ≡ countKind 0 t
+unfolding variableWidths countKind byKind
+widths-count [] = refl
+widths-count (r ∷ t) = go (r .kind) (widths-count t)
+  where
+    vs : List ℕ
+    vs = variableWidths t
+
+    go : (k : ℕ) → length (variableWidths t) ≡ countKind 0 t → length (byKind k (r .a ∷ vs) vs vs vs vs) ≡ cond (eqb k 0) 1 0 + countKind 0 t
+    go zero e = omega arith
+    go (suc zero) e = omega arith
+    go (suc (suc zero)) e = omega arith
+    go (suc (suc (suc zero))) e = omega arith
+    go (suc (suc (suc (suc k)))) e = rw (ne-eqb (suc (suc (suc (suc k)))) 0 (omega arith)) (omega arith)
+
+module _ (table : List ℕ) (accepted : firstFault table ≡ Accepted) where
+  pub table-sized : Sized (variableWidths (rowsOf table))
+  table-sized =
+      widths-sized (rowsOf table) (λ r l e.
+      let w = width-variable (rowsOf table) r l e in
+      let k = kept-width (rowsOf table) r (kept (rowsOf table) r (accepted-table table accepted .sound r l)) (omega arith) in
+      (omega (arith, k .0), omega (arith, k .1)))
+
+  pub table-variables : length (variableWidths (rowsOf table)) ≤ 64
+  table-variables =
+      let small : countKind 0 (rowsOf table) ≤ 64 = rw (take-length (rowsOf table)) at (totals-small (rowsOf table) (length (rowsOf table)) (accepted-table table accepted .sound) .0) in
+      omega (arith, widths-count (rowsOf table))
+
+  pub table-bits : bitsOf (rowsOf table) ≤ 4096
+  table-bits = rw (take-length (rowsOf table)) at (totals-small (rowsOf table) (length (rowsOf table)) (accepted-table table accepted .sound) .1)

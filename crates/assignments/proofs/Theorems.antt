@@ -1,0 +1,160 @@
+-- The pattern maker takes the solver's answer: the rows of a solved table have the form it asks for, and it makes exactly the
+-- assignments that satisfy the table, each from one list of fresh bytes. Assumes nothing.
+use mathlib.Core.Path.{_≡_, refl, sym, ap, _∙_, subst}
+use mathlib.Core.Bool.{true, false}
+use mathlib.Core.List.{List, [], _∷_, _++_, reverse}
+use Prim.Native.Nat.{ℕ, _*_, _≤_}
+use native.Mathlib.Omega.{arith}
+use native.Mathlib.Nat.{mul-mod-left}
+use lib.ListN.{length, take, drop}
+use lib.Seq.{take-at}
+use borrow.Author.Tests.{eq-eqb, le-ltb}
+use Rattle.terms.specs.declared.Row.{Row}
+use Rattle.terms.specs.declared.Fault.the-variants.{Accepted}
+use Rattle.terms.specs.Assignments.{Assignment, done, off, on}
+use Rattle.terms.specs.Calls.{completed, stopAt}
+use Rattle.terms.specs.Faults.{firstFault}
+use Rattle.terms.specs.Table.{rowsOf, bitsOf, satisfies}
+use Rattle.terms.proofs.Assignments.{assignment-length}
+use Rattle.terms.proofs.Buffers.{overwrite-fits}
+use Rattle.values.specs.Value.{allBits}
+use Rattle.answers.specs.Answer.{AnswerRow, variableWidths, begins, answerNumbers, freeBits, instantiate}
+use Rattle.answers.specs.Solve.{unsatisfiable, pairsTogether, solvedRows, answerRecord}
+use Rattle.answers.specs.Pairs.{pairsIn}
+use Rattle.answers.proofs.Variables.{widths-sum, begins-first, begins-behind}
+use Rattle.answers.proofs.Tables.{tableClasses, represent, apart-one, solved-rows}
+use Rattle.answers.proofs.Demands.{demand-2, demand-3}
+use Rattle.answers.proofs.OurSystem.{some-left}
+use Rattle.assignments.specs.Form.{answerRowsOf, patternBits, rowsFine, hasForm}
+use Rattle.assignments.specs.Call.{wrongFresh, patternRecord, patternAfter}
+use Rattle.assignments.proofs.Places.{table-sized, table-variables, table-bits}
+use Rattle.assignments.proofs.FineRows.{answer-fine, answer-bits}
+
+-- Rows written as numbers are read as they were.
+pub rows-back : (rows : List AnswerRow) → answerRowsOf (answerNumbers rows) ≡ rows
+unfolding answerRowsOf answerNumbers
+rows-back [] = refl
+rows-back (r ∷ rows) = ap (λ (l : List AnswerRow). r ∷ l) (rows-back rows)
+
+numbers-length : (rows : List AnswerRow) → length (answerNumbers rows) ≡ length rows * 4
+unfolding answerNumbers
+numbers-length [] = refl
+numbers-length (r ∷ rows) = omega (arith, numbers-length rows)
+
+form-of : (rows : List AnswerRow) → rowsFine [] rows ≡ true → hasForm (answerNumbers rows) ≡ true
+unfolding hasForm
+form-of rows h = rw (numbers-length rows, mul-mod-left (length rows) 4, rows-back rows) h
+
+bits-all : {n : ℕ} {f : List ℕ} → Assignment n f → allBits f ≡ true
+unfolding allBits
+bits-all done = refl
+bits-all (off a) = bits-all a
+bits-all (on a) = bits-all a
+
+-- What the call leaves in a buffer with the old content.
+abbrev pub patternOf : List Row → List ℕ → List ℕ → List ℕ
+patternOf t f old = take (bitsOf t) (patternAfter (answerNumbers (solvedRows t)) f old)
+
+-- The call with the answer of a solved table, fresh bytes f and a buffer with the old content: its record, what it writes, and that
+-- this is an assignment that satisfies the table.
+pub record Makes (t : List Row) (f old : List ℕ) : Type 0 where
+  pub returns : patternRecord (answerNumbers (solvedRows t)) f (length old) ≡ completed 0 (bitsOf t)
+  pub writes : patternOf t f old ≡ instantiate (solvedRows t) f
+  pub keeps : patternAfter (answerNumbers (solvedRows t)) f old ≡ instantiate (solvedRows t) f ++ drop (bitsOf t) old
+  pub is-assignment : Assignment (bitsOf t) (patternOf t f old)
+  pub does-satisfy : satisfies t (patternOf t f old) ≡ true
+
+-- The only fresh bytes that make an assignment, whatever the buffer holds.
+pub record OnlyFresh (t : List Row) (p : List ℕ) : Type 0 where
+  pub bytes : List ℕ
+  pub are-bits : Assignment (answerRecord t .free) bytes
+  pub make : (old : List ℕ) → bitsOf t ≤ length old → patternOf t bytes old ≡ p
+  pub no-other : (f old : List ℕ) → Assignment (answerRecord t .free) f → bitsOf t ≤ length old → patternOf t f old ≡ p → f ≡ bytes
+
+-- From a solved table to its assignments: all fresh bytes make one, and each is made by exactly one list of them.
+pub record MadeFromSolved (t : List Row) : Type 0 where
+  pub every-fresh : (f old : List ℕ) → Assignment (answerRecord t .free) f → bitsOf t ≤ length old → Makes t f old
+  pub every-assignment : (p : List ℕ) → Assignment (bitsOf t) p → satisfies t p ≡ true → OnlyFresh t p
+
+module _ (table : List ℕ) (accepted : firstFault table ≡ Accepted) (solved : answerRecord (rowsOf table) .outcome ≡ 2) where
+  abbrev t : List Row
+  t = rowsOf table
+
+  abbrev rows : List AnswerRow
+  rows = solvedRows (rowsOf table)
+
+  abbrev some : unsatisfiable (rowsOf table) ≡ false
+  some = some-left (rowsOf table) solved
+
+  abbrev ws : List ℕ
+  ws = variableWidths (rowsOf table)
+
+  ending : begins ws (bitsOf t) ≡ true
+  ending = ap (begins ws) (sym (widths-sum t)) ∙ begins-behind ws
+
+  rows-fine : rowsFine [] rows ≡ true
+  rows-fine =
+      ap (rowsFine []) (solved-rows table accepted some)
+      ∙ answer-fine (bitsOf t) (tableClasses table accepted) (reverse (pairsTogether (pairsIn t t))) (represent table accepted) (apart-one table accepted some) ws
+      (begins-first ws) ending (table-sized table accepted) (widths-sum t) (table-variables table accepted) (table-bits table accepted)
+
+  -- The answer of a solved table has the form that is asked for.
+  pub solved-form : hasForm (answerNumbers (solvedRows (rowsOf table))) ≡ true
+  solved-form = form-of rows rows-fine
+
+  -- Its pattern has the table's variable bits.
+  pub pattern-length : patternBits (solvedRows (rowsOf table)) ≡ bitsOf (rowsOf table)
+  pattern-length =
+      ap patternBits (solved-rows table accepted some)
+      ∙ answer-bits (bitsOf t) (tableClasses table accepted) (reverse (pairsTogether (pairsIn t t))) (represent table accepted) (apart-one table accepted some) ws
+      (begins-first ws) ending (table-sized table accepted) (widths-sum t) (table-variables table accepted) (table-bits table accepted)
+
+  free-is : answerRecord t .free ≡ freeBits rows
+  free-is = demand-3 table accepted .solved-free solved
+
+  module _ (f old : List ℕ) (bits : Assignment (answerRecord (rowsOf table) .free) f) (room : bitsOf (rowsOf table) ≤ length old) where
+    filled : Assignment (bitsOf t) (instantiate rows f) × (satisfies t (instantiate rows f) ≡ true)
+    filled = demand-2 table accepted solved .every-filling f (subst (λ (n : ℕ). Assignment n f) free-is bits)
+
+    fresh-right : wrongFresh (answerNumbers rows) f ≡ false
+    unfolding wrongFresh
+    fresh-right = rw (rows-back rows, eq-eqb (length f) (freeBits rows) (assignment-length bits ∙ free-is), bits-all bits)
+
+    record-is : patternRecord (answerNumbers rows) f (length old) ≡ completed 0 (bitsOf t)
+    unfolding patternRecord stopAt
+    record-is = rw (solved-form, fresh-right, rows-back rows, pattern-length, le-ltb (length old) (bitsOf t) room)
+
+    length-is : length (instantiate rows f) ≡ bitsOf t
+    length-is = assignment-length (filled .0)
+
+    after-is : patternAfter (answerNumbers rows) f old ≡ instantiate rows f ++ drop (bitsOf t) old
+    unfolding patternAfter
+    after-is = rw (record-is, rows-back rows) (overwrite-fits (instantiate rows f) old (omega (arith, length-is)) ∙ ap (λ (n : ℕ). instantiate rows f ++ drop n old) length-is)
+
+    pattern-is : patternOf t f old ≡ instantiate rows f
+    pattern-is = ap (take (bitsOf t)) after-is ∙ take-at (instantiate rows f) (drop (bitsOf t) old) (bitsOf t) length-is
+
+    makes : Makes t f old
+    makes = record {
+      returns = record-is;
+      writes = pattern-is;
+      keeps = after-is;
+      is-assignment = subst (Assignment (bitsOf t)) (sym pattern-is) (filled .0);
+      does-satisfy = ap (satisfies t) pattern-is ∙ filled .1;
+    }
+
+  -- The call makes the assignments that satisfy a solved table, and no others.
+  pub made-from-solved : MadeFromSolved (rowsOf table)
+  made-from-solved =
+      record {
+        every-fresh = makes;
+        every-assignment = λ p a s.
+            let F = demand-2 table accepted solved .one-filling p a s in
+            let b : Assignment (answerRecord t .free) (F .filling) = subst (λ (n : ℕ). Assignment n (F .filling)) (sym free-is) (F .bits) in
+            record {
+              bytes = F .filling;
+              are-bits = b;
+              make = λ old room. pattern-is (F .filling) old b room ∙ F .gives;
+              no-other = λ f old c room e. F .only f (subst (λ (n : ℕ). Assignment n f) free-is c) (sym (pattern-is f old c room) ∙ e);
+            };
+      }

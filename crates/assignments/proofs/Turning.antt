@@ -1,0 +1,246 @@
+-- The rows of an answer read last first: what is asked of a row behind those before it.
+use mathlib.Core.Path.{_≡_, refl, sym, ap, _∙_}
+use mathlib.Core.Logic.{_⊎_, inl, inr, _≢_}
+use mathlib.Core.Bool.{Bool, true, false, not, _&&_, _||_, cond}
+use mathlib.Core.List.{List, [], _∷_, _++_, reverse, reverseAux, reverse-cons}
+use Prim.Native.Nat.{ℕ, zero, suc, _+_, _≤_, _<_}
+use native.Mathlib.Omega.{arith}
+use lib.Dec.{eqb, ltb}
+use lib.ListN.{length}
+use borrow.Author.Tests.{eqb-true, eq-eqb, lt-ltb}
+use Rattle.answers.specs.Pairs.{least}
+use Rattle.answers.specs.Answer.{AnswerRow, isFresh, member, distinct, freshNumbers, freshWidth}
+use Rattle.answers.proofs.Booleans.{and-both}
+use Rattle.answers.proofs.Agreement.{dec-lt}
+use Rattle.answers.proofs.Instantiating.{distinct-is}
+use Rattle.assignments.specs.Form.{variableFine, kindFine, widthFine, widthIn, variableWide, patternBits, patternWide, fillFine, neighboursFine, lowestUnseen, freshFine, rowFine, rowsFine}
+
+or-true : (t : Bool) → t || true ≡ true
+or-true true = refl
+or-true false = refl
+
+-- Rows that stand last first, each fine behind those before it.
+abbrev pub FineBack : List AnswerRow → Type 0
+FineBack [] = Unit {0}
+FineBack (r ∷ before) = (rowFine (reverse before) r ≡ true) × FineBack before
+
+fine-turned : (xs ys : List AnswerRow) → FineBack xs → rowsFine (reverse xs) ys ≡ true → rowsFine [] (reverseAux xs ys) ≡ true
+unfolding rowsFine
+fine-turned [] ys h k = k
+fine-turned (x ∷ xs) ys h k =
+    fine-turned xs (x ∷ ys) (h .1)
+    (and-both (rowFine (reverse xs) x) (rowsFine (reverse xs ++ (x ∷ [])) ys) (h .0) (ap (λ (l : List AnswerRow). rowsFine l ys) (sym (reverse-cons x xs)) ∙ k))
+
+pub fine-rows : (xs : List AnswerRow) → FineBack xs → rowsFine [] (reverse xs) ≡ true
+unfolding rowsFine
+fine-rows xs h = fine-turned xs [] h refl
+
+-- sums and numbers of rows that are turned round
+in-turned : (v : ℕ) (xs ys : List AnswerRow) → widthIn (reverseAux xs ys) v ≡ widthIn xs v + widthIn ys v
+unfolding widthIn
+in-turned v [] ys = omega arith
+in-turned v (x ∷ xs) ys = in-turned v xs (x ∷ ys) ∙ omega arith
+
+bits-turned : (xs ys : List AnswerRow) → patternBits (reverseAux xs ys) ≡ patternBits xs + patternBits ys
+unfolding patternBits
+bits-turned [] ys = omega arith
+bits-turned (x ∷ xs) ys = bits-turned xs (x ∷ ys) ∙ omega arith
+
+in-reverse : (v : ℕ) (xs : List AnswerRow) → widthIn (reverse xs) v ≡ widthIn xs v
+in-reverse v xs = in-turned v xs [] ∙ unfold widthIn in omega arith
+
+pub bits-reverse : (xs : List AnswerRow) → patternBits (reverse xs) ≡ patternBits xs
+bits-reverse xs = bits-turned xs [] ∙ unfold patternBits in omega arith
+
+length-turned : (xs ys : List AnswerRow) → length (reverseAux xs ys) ≡ length xs + length ys
+length-turned [] ys = omega arith
+length-turned (x ∷ xs) ys = length-turned xs (x ∷ ys) ∙ omega arith
+
+-- a number in rows: a row has it
+or-shared : (a b c : Bool) → (a || b) || c ≡ b || (a || c)
+or-shared true true c = refl
+or-shared true false c = refl
+or-shared false b c = refl
+
+has : ℕ → AnswerRow → Bool
+has k r = isFresh r && eqb k (r .fresh)
+
+has-more : (k : ℕ) (r : AnswerRow) (xs : List AnswerRow) → member k (freshNumbers (r ∷ xs)) ≡ has k r || member k (freshNumbers xs)
+unfolding freshNumbers member has
+has-more k r xs = go (isFresh r)
+  where
+    go : (b : Bool) → member k (cond b (r .fresh ∷ freshNumbers xs) (freshNumbers xs)) ≡ (b && eqb k (r .fresh)) || member k (freshNumbers xs)
+    go true = refl
+    go false = refl
+
+numbers-turned : (k : ℕ) (xs ys : List AnswerRow) → member k (freshNumbers (reverseAux xs ys)) ≡ member k (freshNumbers xs) || member k (freshNumbers ys)
+numbers-turned k [] ys = unfold freshNumbers member in refl
+numbers-turned k (x ∷ xs) ys =
+    numbers-turned k xs (x ∷ ys)
+    ∙ ap (λ (b : Bool). member k (freshNumbers xs) || b) (has-more k x ys)
+    ∙ sym (or-shared (has k x) (member k (freshNumbers xs)) (member k (freshNumbers ys)))
+    ∙ ap (λ (b : Bool). b || member k (freshNumbers ys)) (sym (has-more k x xs))
+
+pub numbers-reverse : (k : ℕ) (xs : List AnswerRow) → member k (freshNumbers (reverse xs)) ≡ member k (freshNumbers xs)
+numbers-reverse k xs = numbers-turned k xs [] ∙ unfold freshNumbers member in go (member k (freshNumbers xs))
+  where
+    go : (b : Bool) → b || false ≡ b
+    go true = refl
+    go false = refl
+
+-- a row has a number that is among those of the rows
+pub number-here : (k : ℕ) (r : AnswerRow) (xs : List AnswerRow) → member k (freshNumbers (r ∷ xs)) ≡ true
+    → ((isFresh r ≡ true) × (k ≡ r .fresh)) ⊎ (member k (freshNumbers xs) ≡ true)
+unfolding has
+number-here k r xs h = go (isFresh r) (eqb k (r .fresh)) refl refl (sym (has-more k r xs) ∙ h)
+  where
+    go : (a b : Bool) → isFresh r ≡ a → eqb k (r .fresh) ≡ b → (a && b) || member k (freshNumbers xs) ≡ true → ((isFresh r ≡ true) × (k ≡ r .fresh)) ⊎ (member k (freshNumbers xs) ≡ true)
+    go true true e d q = inl (e, eqb-true k (r .fresh) d)
+    go true false e d q = inr q
+    go false b e d q = inr q
+
+-- the row before
+variable-after : (xs : List AnswerRow) (s r : AnswerRow)
+    → variableFine (xs ++ (s ∷ [])) r ≡ (eqb (r .variable) (s .variable) || eqb (r .variable) (suc (s .variable))) && ltb (r .variable) 64
+unfolding variableFine
+variable-after [] s r = refl
+variable-after (x ∷ []) s r = refl
+variable-after (x ∷ y ∷ xs) s r = variable-after (y ∷ xs) s r
+
+neighbours-after : (xs : List AnswerRow) (s r : AnswerRow)
+    → neighboursFine (xs ++ (s ∷ [])) r ≡ isFresh r || isFresh s || not (eqb (s .variable) (r .variable)) || not (eqb (s .kind) (r .kind))
+unfolding neighboursFine
+neighbours-after [] s r = refl
+neighbours-after (x ∷ []) s r = refl
+neighbours-after (x ∷ y ∷ xs) s r = neighbours-after (y ∷ xs) s r
+
+-- Variable v may follow the rows; a row of this variable, kind and freshness may stand behind them.
+abbrev pub Follows : List AnswerRow → ℕ → Type 0
+Follows [] v = v ≡ 0
+Follows (s ∷ before) v = (v ≡ s .variable) ⊎ (v ≡ suc (s .variable))
+
+abbrev pub Differs : List AnswerRow → AnswerRow → Type 0
+Differs [] r = Unit {0}
+Differs (s ∷ before) r = isFresh r ≡ false → isFresh s ≡ false → s .variable ≡ r .variable → s .kind ≢ r .kind
+
+variable-fine : (before : List AnswerRow) (r : AnswerRow) → Follows before (r .variable) → r .variable < 64 → variableFine (reverse before) r ≡ true
+variable-fine [] r f l = unfold variableFine in eq-eqb (r .variable) 0 f
+variable-fine (s ∷ before) r f l =
+    ap (λ (b : List AnswerRow). variableFine b r) (reverse-cons s before) ∙ variable-after (reverse before) s r
+    ∙ and-both (eqb (r .variable) (s .variable) || eqb (r .variable) (suc (s .variable))) (ltb (r .variable) 64) (go f) (lt-ltb (r .variable) 64 l)
+  where
+    go : (r .variable ≡ s .variable) ⊎ (r .variable ≡ suc (s .variable)) → eqb (r .variable) (s .variable) || eqb (r .variable) (suc (s .variable)) ≡ true
+    go (inl e) = rw (eq-eqb (r .variable) (s .variable) e)
+    go (inr e) = rw (eq-eqb (r .variable) (suc (s .variable)) e) (or-true (eqb (r .variable) (s .variable)))
+
+neighbours-fine : (before : List AnswerRow) (r : AnswerRow) → Differs before r → neighboursFine (reverse before) r ≡ true
+neighbours-fine [] r d = unfold neighboursFine in refl
+neighbours-fine (s ∷ before) r d =
+    ap (λ (b : List AnswerRow). neighboursFine b r) (reverse-cons s before) ∙ neighbours-after (reverse before) s r
+    ∙ go (isFresh r) (isFresh s) (eqb (s .variable) (r .variable)) (eqb (s .kind) (r .kind)) refl refl refl refl
+  where
+    go : (a b c e : Bool) → isFresh r ≡ a → isFresh s ≡ b → eqb (s .variable) (r .variable) ≡ c → eqb (s .kind) (r .kind) ≡ e → a || b || not c || not e ≡ true
+    go true b c e p q u v = refl
+    go false true c e p q u v = refl
+    go false false false e p q u v = refl
+    go false false true false p q u v = refl
+    go false false true true p q u v = absurd (d p q (eqb-true (s .variable) (r .variable) u) (eqb-true (s .kind) (r .kind) v))
+
+-- the lowest number that is not among some
+least-at : (f : ℕ → Bool) (k d j : ℕ) → j ≤ d → (j < d → f (k + j) ≡ true) → ((m : ℕ) → k ≤ m → m < k + j → f m ≡ false) → least f k d ≡ k + j
+unfolding least
+least-at f k zero j l h g = omega arith
+least-at f k (suc d) zero l h g = let e : k + 0 ≡ k = omega arith in rw (e, rw e at (h (omega arith)))
+least-at f k (suc d) (suc j) l h g =
+    let e : k + suc j ≡ suc k + j = omega arith in
+    rw (g k (omega arith) (omega arith)) (least-at f (suc k) d j (omega arith) (λ q. ap f (sym e) ∙ h (omega arith)) (λ m a b. g m (omega arith) (omega arith)) ∙ sym e)
+
+distinct-most : (xs : List ℕ) → distinct xs ≤ length xs
+unfolding distinct
+distinct-most [] = omega arith
+distinct-most (x ∷ xs) = go (member x xs) (distinct-most xs)
+  where
+    go : (b : Bool) → distinct xs ≤ length xs → cond {A = ℕ} b 0 1 + distinct xs ≤ suc (length xs)
+    go true l = omega arith
+    go false l = omega arith
+
+numbers-most : (xs : List AnswerRow) → length (freshNumbers xs) ≤ length xs
+unfolding freshNumbers
+numbers-most [] = omega arith
+numbers-most (x ∷ xs) = go (isFresh x) (numbers-most xs)
+  where
+    go : (b : Bool) → length (freshNumbers xs) ≤ length xs → length (cond b (x .fresh ∷ freshNumbers xs) (freshNumbers xs)) ≤ suc (length xs)
+    go true l = omega arith
+    go false l = omega arith
+
+-- The fresh numbers of some rows are those below a bound.
+pub record Below (m : ℕ) (rows : List AnswerRow) : Type 0 where
+  pub there : (k : ℕ) → k < m → member k (freshNumbers rows) ≡ true
+  pub only : (k : ℕ) → member k (freshNumbers rows) ≡ true → k < m
+
+lowest-unseen : (m : ℕ) (before : List AnswerRow) → Below m before → lowestUnseen (reverse before) ≡ m
+unfolding lowestUnseen
+lowest-unseen m before b =
+    least-at (λ k. not (member k (freshNumbers (reverse before)))) 0 (length (reverse before)) m
+    (omega (
+      arith,
+      length-turned before [],
+      numbers-most before,
+      distinct-most (freshNumbers before),
+      distinct-is m (freshNumbers before) (b .only) (b .there),
+    ))
+    (λ l. let z : 0 + m ≡ m = omega arith in ap (λ (k : ℕ). not (member k (freshNumbers (reverse before)))) z ∙ ap not (numbers-reverse m before ∙ out (member m (freshNumbers before)) refl))
+    (λ k a l. ap not (numbers-reverse k before ∙ b .there k (omega arith)))
+    ∙ omega arith
+  where
+    out : (t : Bool) → member m (freshNumbers before) ≡ t → t ≡ false
+    out false e = refl
+    out true e = absurd (omega (arith, b .only m e))
+
+-- What makes a row fine behind those before it, which stand last first.
+pub record Behind (before : List AnswerRow) (r : AnswerRow) : Type 0 where
+  pub follows : Follows before (r .variable)
+  pub low-variable : r .variable < 64
+  pub low-kind : r .kind < 3
+  pub wide : 1 ≤ r .width
+  pub in-variable : widthIn before (r .variable) + r .width ≤ 1024
+  pub in-all : patternBits before + r .width ≤ 4096
+  pub fill-number : isFresh r ≡ false → r .fresh ≡ 0
+  pub differs : Differs before r
+  pub seen : ℕ
+  pub seen-are : Below seen before
+  pub at-most : isFresh r ≡ true → r .fresh ≤ seen
+  pub same-width : isFresh r ≡ true → r .fresh < seen → freshWidth (reverse before) (r .fresh) ≡ r .width
+
+fill-fine : (r : AnswerRow) → (isFresh r ≡ false → r .fresh ≡ 0) → fillFine r ≡ true
+unfolding fillFine
+fill-fine r h = go (isFresh r) refl
+  where
+    go : (t : Bool) → isFresh r ≡ t → t || eqb (r .fresh) 0 ≡ true
+    go true e = refl
+    go false e = eq-eqb (r .fresh) 0 (h e)
+
+fresh-fine : (before : List AnswerRow) (r : AnswerRow) → Behind before r → freshFine (reverse before) r ≡ true
+unfolding freshFine
+fresh-fine before r b = go (isFresh r) refl (dec-lt (r .fresh) (b .seen))
+  where
+    go : (t : Bool) → isFresh r ≡ t → (r .fresh < b .seen) ⊎ (b .seen ≤ r .fresh)
+        → not t || (member (r .fresh) (freshNumbers (reverse before)) && eqb (freshWidth (reverse before) (r .fresh)) (r .width)) || eqb (r .fresh) (lowestUnseen (reverse before)) ≡ true
+    go false e d = refl
+    go true e (inl d) = rw (numbers-reverse (r .fresh) before, b .seen-are .there (r .fresh) d, eq-eqb (freshWidth (reverse before) (r .fresh)) (r .width) (b .same-width e d))
+    go true e (inr d) =
+        let q : r .fresh ≡ lowestUnseen (reverse before) = omega (arith, b .at-most e, lowest-unseen (b .seen) before (b .seen-are)) in
+        rw (eq-eqb (r .fresh) (lowestUnseen (reverse before)) q) (or-true (member (r .fresh) (freshNumbers (reverse before)) && eqb (freshWidth (reverse before) (r .fresh)) (r .width)))
+
+pub behind-fine : (before : List AnswerRow) (r : AnswerRow) → Behind before r → rowFine (reverse before) r ≡ true
+unfolding rowFine kindFine widthFine variableWide patternWide
+behind-fine before r b =
+    rw (
+      variable-fine before r (b .follows) (b .low-variable),
+      lt-ltb (r .kind) 3 (b .low-kind),
+      lt-ltb 0 (r .width) (b .wide),
+      lt-ltb (widthIn (reverse before) (r .variable) + r .width) 1025 (omega (arith, in-reverse (r .variable) before, b .in-variable)),
+      lt-ltb (patternBits (reverse before) + r .width) 4097 (omega (arith, bits-reverse before, b .in-all)),
+      fill-fine r (b .fill-number),
+      neighbours-fine before r (b .differs),
+    ) (fresh-fine before r b)

@@ -1,0 +1,230 @@
+/*
+  plain_pattern.c -- a second pattern maker: see plain_pattern.h
+
+  Sums are of size_t, which no table in memory can exceed.
+*/
+
+#include "plain_pattern.h"
+
+#include <stdbool.h>
+
+enum { FRESH = 2, NUMBERS = 65536 };
+
+typedef struct {
+    size_t variable, kind, width, fresh;
+} row_numbers;
+
+static row_numbers row_of(const uint16_t *answer, size_t r)
+{
+    const uint16_t *n = answer + 4 * r;
+    return (row_numbers){n[0], n[1], n[2], n[3]};
+}
+
+/* Variables start at 0 and stay or rise by one, up to 63. */
+
+static bool starts_at_0(const uint16_t *answer, size_t rows)
+{
+    return rows == 0 || row_of(answer, 0).variable == 0;
+}
+
+static bool stays_or_rises(const uint16_t *answer, size_t rows)
+{
+    for (size_t r = 1; r < rows; r++) {
+        size_t before = row_of(answer, r - 1).variable, own = row_of(answer, r).variable;
+        if (own != before && own != before + 1)
+            return false;
+    }
+    return true;
+}
+
+static bool up_to_63(const uint16_t *answer, size_t rows)
+{
+    for (size_t r = 0; r < rows; r++)
+        if (row_of(answer, r).variable > 63)
+            return false;
+    return true;
+}
+
+/* Kinds are 0 to 2. */
+static bool kind_up_to_2(const uint16_t *answer, size_t rows)
+{
+    for (size_t r = 0; r < rows; r++)
+        if (row_of(answer, r).kind > 2)
+            return false;
+    return true;
+}
+
+/* Widths are at least 1 and add up to at most 1,024 in a variable. */
+
+static bool width_from_1(const uint16_t *answer, size_t rows)
+{
+    for (size_t r = 0; r < rows; r++)
+        if (row_of(answer, r).width < 1)
+            return false;
+    return true;
+}
+
+static bool variable_up_to_1024(const uint16_t *answer, size_t rows)
+{
+    size_t sum = 0; /* of the variable's rows so far, which stand together */
+    for (size_t r = 0; r < rows; r++) {
+        if (r != 0 && row_of(answer, r - 1).variable != row_of(answer, r).variable)
+            sum = 0;
+        sum += row_of(answer, r).width;
+        if (sum > 1024)
+            return false;
+    }
+    return true;
+}
+
+/* Fills have fresh number 0, and neighbouring fills of one variable differ in bit. */
+
+static bool is_fill(row_numbers row)
+{
+    return row.kind == 0 || row.kind == 1;
+}
+
+static bool fill_without_fresh(const uint16_t *answer, size_t rows)
+{
+    for (size_t r = 0; r < rows; r++)
+        if (is_fill(row_of(answer, r)) && row_of(answer, r).fresh != 0)
+            return false;
+    return true;
+}
+
+static bool fills_differ(const uint16_t *answer, size_t rows)
+{
+    for (size_t r = 1; r < rows; r++) {
+        row_numbers left = row_of(answer, r - 1), right = row_of(answer, r);
+        if (is_fill(left) && is_fill(right) && left.variable == right.variable && left.kind == right.kind)
+            return false;
+    }
+    return true;
+}
+
+/* A fresh number is one already seen, with the same width, or the lowest unseen. */
+
+static bool seen[NUMBERS]; /* which numbers are, in the rows so far */
+
+static void see_none(const uint16_t *answer, size_t rows)
+{
+    for (size_t r = 0; r < rows; r++)
+        seen[row_of(answer, r).fresh] = false;
+}
+
+static bool seen_with_width(const uint16_t *answer, size_t rows)
+{
+    static size_t width[NUMBERS]; /* at the first appearance of each number */
+    see_none(answer, rows);
+    for (size_t r = 0; r < rows; r++) {
+        row_numbers row = row_of(answer, r);
+        if (row.kind != FRESH)
+            continue;
+        if (!seen[row.fresh])
+            width[row.fresh] = row.width;
+        else if (width[row.fresh] != row.width)
+            return false;
+        seen[row.fresh] = true;
+    }
+    return true;
+}
+
+static bool lowest_unseen(const uint16_t *answer, size_t rows)
+{
+    size_t lowest = 0;
+    see_none(answer, rows);
+    for (size_t r = 0; r < rows; r++) {
+        row_numbers row = row_of(answer, r);
+        if (row.kind != FRESH || seen[row.fresh])
+            continue;
+        if (row.fresh != lowest)
+            return false;
+        seen[row.fresh] = true;
+        lowest++; /* all below it are seen */
+    }
+    return true;
+}
+
+/* The widths, of all rows and of each fresh piece once. */
+
+size_t plain_pattern_bits(const uint16_t *answer, size_t answer_len)
+{
+    size_t bits = 0;
+    for (size_t r = 0; r < answer_len / 4; r++)
+        bits += row_of(answer, r).width;
+    return bits;
+}
+
+/*
+  Where the bits of each fresh piece start among the fresh bits of a table of
+  the form: behind those of the pieces that appear before it. Gives the number
+  of fresh bits.
+*/
+static size_t fresh_starts(const uint16_t *answer, size_t rows, size_t start[NUMBERS])
+{
+    size_t bits = 0;
+    see_none(answer, rows);
+    for (size_t r = 0; r < rows; r++) {
+        row_numbers row = row_of(answer, r);
+        if (row.kind != FRESH || seen[row.fresh])
+            continue;
+        seen[row.fresh] = true;
+        start[row.fresh] = bits;
+        bits += row.width;
+    }
+    return bits;
+}
+
+static size_t starts[NUMBERS];
+
+size_t plain_fresh_bits(const uint16_t *answer, size_t answer_len)
+{
+    return fresh_starts(answer, answer_len / 4, starts);
+}
+
+unsigned plain_faults(const uint16_t *answer, size_t answer_len)
+{
+    size_t rows = answer_len / 4;
+    const bool holds[CLAUSES] = {
+        [WHOLE_ROWS] = answer_len % 4 == 0,
+        [STARTS_AT_0] = starts_at_0(answer, rows),
+        [STAYS_OR_RISES] = stays_or_rises(answer, rows),
+        [UP_TO_63] = up_to_63(answer, rows),
+        [KIND_UP_TO_2] = kind_up_to_2(answer, rows),
+        [WIDTH_FROM_1] = width_from_1(answer, rows),
+        [VARIABLE_UP_TO_1024] = variable_up_to_1024(answer, rows),
+        [FILL_WITHOUT_FRESH] = fill_without_fresh(answer, rows),
+        [FILLS_DIFFER] = fills_differ(answer, rows),
+        [SEEN_WITH_WIDTH] = seen_with_width(answer, rows),
+        [LOWEST_UNSEEN] = lowest_unseen(answer, rows),
+        [ALL_UP_TO_4096] = plain_pattern_bits(answer, answer_len) <= 4096,
+    };
+    unsigned faults = 0;
+    for (unsigned i = 0; i < CLAUSES; i++)
+        if (!holds[i])
+            faults |= 1U << i;
+    return faults;
+}
+
+lw_record plain_make_pattern(const uint16_t *answer, size_t answer_len, const uint8_t *fresh, size_t fresh_len,
+                             uint8_t *pattern, size_t pattern_len)
+{
+    if (plain_faults(answer, answer_len) != 0)
+        return (lw_record){.outcome = 33};
+    if (fresh_len != plain_fresh_bits(answer, answer_len))
+        return (lw_record){.outcome = 34};
+    for (size_t i = 0; i < fresh_len; i++)
+        if (fresh[i] > 1)
+            return (lw_record){.outcome = 34};
+    size_t bits = plain_pattern_bits(answer, answer_len), place = 0;
+    if (pattern_len < bits)
+        return (lw_record){.outcome = 32};
+
+    fresh_starts(answer, answer_len / 4, starts);
+    for (size_t r = 0; r < answer_len / 4; r++) {
+        row_numbers row = row_of(answer, r);
+        for (size_t i = 0; i < row.width; i++)
+            pattern[place++] = row.kind == FRESH ? fresh[starts[row.fresh] + i] : (uint8_t)row.kind;
+    }
+    return (lw_record){.free = (uint32_t)bits};
+}
