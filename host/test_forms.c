@@ -19,7 +19,7 @@
 
 #include "guard.h"
 #include "linkwords.h"
-#include "random_table.h"
+#include "refused_tables.h"
 #include "reference.h"
 #include "timing.h"
 
@@ -530,45 +530,19 @@ static void test_limits(void)
     group_done("long forms and deep tables");
 }
 
-/* Refusals 11 to 18, one or two of each: test_value.c has them all. */
+/* Refusals 11 to 18. */
 static void test_table_refusals(void)
 {
     table t;
 
-    for (size_t len = 1; len < 8; len++)
-        if (len % 4 != 0)
-            REFUSE_TABLE((const uint16_t[]){VARIABLE(1), FILL(0, 1)}, len, 11, 512);
     t.len = 0;
-    while (t.len < 2052)
+    while (t.len < 2048)
         add(&t, FILL(1, 2));
-    t.len = 2048;
     ACCEPT(ALL(t), 511, 2, FORM(ONES(2)));
-    for (t.len = 2049; t.len <= 2052; t.len++)
-        REFUSE_TABLE(ALL(t), 11, 512);
-
-    /* The fault is in the row asked for, or behind it. */
-    REFUSE_TABLE(TABLE(5, 0, 0, 0), 12, 0);
-    REFUSE_TABLE(TABLE(VARIABLE(1), 65535, 1, 0, 0), 12, 1);
-    REFUSE_TABLE(TABLE(LW_VARIABLE, 1, 1, 0), 13, 0);
-    REFUSE_TABLE(TABLE(VARIABLE(1), LW_FILL, 1, 1, 1), 13, 1);
-    REFUSE_TABLE(TABLE(VARIABLE(1), JOIN(0, 1)), 14, 1);
-    REFUSE_TABLE(TABLE(VARIABLE(1), EQUATION(0, 0), CUT(1, 0, 0)), 14, 2);
-    REFUSE_TABLE(TABLE(VARIABLE(1025)), 15, 0);
-    REFUSE_TABLE(TABLE(VARIABLE(1), FILL(2, 1)), 15, 1);
-    REFUSE_TABLE(TABLE(VARIABLE(1024), JOIN(0, 0)), 15, 1);
-    REFUSE_TABLE(TABLE(VARIABLE(8), CUT(0, 8, 0)), 16, 1);
-    REFUSE_TABLE(TABLE(VARIABLE(8), CUT(0, 3, 4)), 16, 1);
-    REFUSE_TABLE(TABLE(VARIABLE(2), VARIABLE(3), EQUATION(0, 1)), 18, 2);
-    t.len = 0;
-    while (t.len < 4 * 65)
-        add(&t, VARIABLE(1));
-    REFUSE_TABLE(ALL(t), 17, 64);
-    REFUSE_TABLE(TABLE(VARIABLE(1024), VARIABLE(1024), VARIABLE(1024), VARIABLE(1024), VARIABLE(1)), 17, 4);
-
-    /* Two faults: the first in this order within a row, and the lower row. */
-    REFUSE_TABLE(TABLE(9, 9, 9, 9, 9, 9), 11, 512);
-    REFUSE_TABLE(TABLE(VARIABLE(1), LW_JOIN, 0, 7, 1), 13, 1);
-    REFUSE_TABLE(TABLE(VARIABLE(1), VARIABLE(2), EQUATION(0, 1), 9, 9, 9, 9), 18, 2);
+    refuse_too_long(refuse_table);
+    refuse_one_by_one(refuse_table);
+    refuse_two_at_once(refuse_table);
+    refuse_beyond_maximum(refuse_table);
     group_done("refusals 11 to 18");
 }
 

@@ -19,7 +19,7 @@
 #include "guard.h"
 #include "linkwords.h"
 #include "plain_solver.h"
-#include "random_table.h"
+#include "refused_tables.h"
 #include "reference.h"
 
 enum { LEAST = 16384, LONGEST = LEAST + 8192, LARGE_TABLES = 2000 };
@@ -513,70 +513,22 @@ static void test_memory(void)
     group_done("refusal 10");
 }
 
-/* Refusals 11 to 18, and two at once. */
+/* Refusals 11 to 18. */
 static void test_table_refusals(void)
 {
     table t;
 
-    for (size_t len = 1; len < 8; len++)
-        if (len % 4 != 0)
-            REFUSE_TABLE((const uint16_t[]){VARIABLE(1), FILL(0, 1)}, len, 11, 512);
     t.len = 0;
-    while (t.len < 2052)
+    while (t.len < 2048)
         add(&t, FILL(1, 2));
-    t.len = 2048;
     ACCEPT(ALL(t), ALWAYS(0), NO_ANSWER);
-    for (t.len = 2049; t.len <= 2052; t.len++)
-        REFUSE_TABLE(ALL(t), 11, 512);
-
-    REFUSE_TABLE(TABLE(5, 0, 0, 0), 12, 0);
-    REFUSE_TABLE(TABLE(VARIABLE(1), 65535, 1, 0, 0), 12, 1);
-    REFUSE_TABLE(TABLE(LW_VARIABLE, 1, 1, 0), 13, 0);
-    REFUSE_TABLE(TABLE(LW_VARIABLE, 1, 0, 1), 13, 0);
-    REFUSE_TABLE(TABLE(VARIABLE(1), LW_FILL, 1, 1, 1), 13, 1);
-    REFUSE_TABLE(TABLE(VARIABLE(1), LW_JOIN, 0, 0, 1), 13, 1);
-    REFUSE_TABLE(TABLE(VARIABLE(1), LW_EQUATION, 0, 0, 1), 13, 1);
-    REFUSE_TABLE(TABLE(VARIABLE(1), JOIN(0, 1)), 14, 1);
-    REFUSE_TABLE(TABLE(VARIABLE(1), JOIN(2, 0), VARIABLE(1)), 14, 1);
-    REFUSE_TABLE(TABLE(VARIABLE(1), EQUATION(0, 600)), 14, 1);
-    REFUSE_TABLE(TABLE(VARIABLE(1), EQUATION(0, 0), CUT(1, 0, 0)), 14, 2);
-    REFUSE_TABLE(TABLE(VARIABLE(1), EQUATION(0, 0), EQUATION(0, 1)), 14, 2);
-    REFUSE_TABLE(TABLE(VARIABLE(0)), 15, 0);
-    REFUSE_TABLE(TABLE(VARIABLE(1), FILL(2, 1)), 15, 1);
-    REFUSE_TABLE(TABLE(VARIABLE(1024), JOIN(0, 0)), 15, 1);
-    REFUSE_TABLE(TABLE(VARIABLE(8), CUT(0, 3, 4)), 16, 1);
-    REFUSE_TABLE(TABLE(VARIABLE(2), VARIABLE(3), EQUATION(0, 1)), 18, 2);
-    t.len = 0;
-    while (t.len < 4 * 65)
-        add(&t, VARIABLE(1));
-    REFUSE_TABLE(ALL(t), 17, 64);
-    t.len = 4;
-    while (t.len < 4 * 66)
-        add(&t, EQUATION(0, 0));
-    REFUSE_TABLE(ALL(t), 17, 65);
-    REFUSE_TABLE(TABLE(VARIABLE(1024), VARIABLE(1024), VARIABLE(1024), VARIABLE(1024), VARIABLE(1)), 17, 4);
+    refuse_too_long(refuse_table);
+    refuse_one_by_one(refuse_table);
+    refuse_two_at_once(refuse_table);
+    refuse_beyond_maximum(refuse_table);
 
     /* A table without a pattern is refused too, for a fault behind the row at which none is left. */
     REFUSE_TABLE(TABLE(FILL(0, 1), FILL(1, 1), EQUATION(0, 1), VARIABLE(1), EQUATION(0, 2)), 14, 4);
-
-    /* Two faults: the first in this order within a row, and the lower row, whatever the two numbers are. */
-    REFUSE_TABLE(TABLE(9, 9, 9, 9, 9, 9), 11, 512);
-    REFUSE_TABLE(TABLE(VARIABLE(1), LW_JOIN, 0, 7, 1), 13, 1);
-    static const struct { uint16_t row[4]; uint32_t number; } faults[] = {
-        {{5, 0, 0, 0}, 12},  {{LW_FILL, 0, 1, 7}, 13}, {{CUT(600, 0, 0)}, 14}, {{FILL(2, 1)}, 15},
-        {{CUT(0, 1, 0)}, 16}, {{VARIABLE(1)}, 17},      {{EQUATION(0, 64)}, 18},
-    };
-    for (size_t i = 0; i < 7; i++)
-        for (size_t j = 0; j < 7; j++) {
-            t.len = 0;
-            while (t.len < 4 * 64)
-                add(&t, VARIABLE(1));
-            add(&t, JOIN(0, 1));
-            add(&t, faults[i].row[0], faults[i].row[1], faults[i].row[2], faults[i].row[3]);
-            add(&t, FILL(0, 1));
-            add(&t, faults[j].row[0], faults[j].row[1], faults[j].row[2], faults[j].row[3]);
-            REFUSE_TABLE(ALL(t), faults[i].number, 65);
-        }
     group_done("refusals 11 to 18");
 }
 

@@ -1,0 +1,196 @@
+/*
+  refused_tables.h -- tables that every call on a table refuses, 11 to 18
+
+  Each function hands its tables one by one to a function of the test, with the
+  number and the row that the call has to tell.
+*/
+
+#ifndef REFUSED_TABLES_H
+#define REFUSED_TABLES_H
+
+#include "random_table.h"
+
+typedef void refuse_table_function(int line, const uint16_t *numbers, size_t len, uint32_t number, uint32_t row);
+
+#define REFUSE_ONE(refuse, ...) (refuse)(__LINE__, __VA_ARGS__)
+
+/* Every cause of the refusals 11 to 16 and 18 by itself. (17 is among the limits.) */
+static inline void refuse_one_by_one(refuse_table_function refuse)
+{
+    /* 11: lengths that are no whole rows. */
+    static const uint16_t good[] = {VARIABLE(1), FILL(0, 1)};
+    for (size_t len = 1; len < 8; len++)
+        if (len % 4 != 0)
+            REFUSE_ONE(refuse, good, len, 11, 512);
+
+    /* 12 */
+    REFUSE_ONE(refuse, TABLE(5, 0, 0, 0), 12, 0);
+    REFUSE_ONE(refuse, TABLE(VARIABLE(1), 5, 1, 0, 0), 12, 1);
+    REFUSE_ONE(refuse, TABLE(VARIABLE(1), 256, 1, 0, 0), 12, 1);
+    REFUSE_ONE(refuse, TABLE(VARIABLE(1), 65535, 0, 0, 0), 12, 1);
+
+    /* 13: each column that is not used. */
+    REFUSE_ONE(refuse, TABLE(LW_VARIABLE, 1, 1, 0), 13, 0);
+    REFUSE_ONE(refuse, TABLE(LW_VARIABLE, 1, 0, 1), 13, 0);
+    REFUSE_ONE(refuse, TABLE(LW_VARIABLE, 1, 0, 65535), 13, 0);
+    REFUSE_ONE(refuse, TABLE(LW_FILL, 1, 1, 1), 13, 0);
+    REFUSE_ONE(refuse, TABLE(VARIABLE(1), VARIABLE(1), LW_JOIN, 0, 1, 1), 13, 2);
+    REFUSE_ONE(refuse, TABLE(VARIABLE(1), VARIABLE(1), LW_EQUATION, 0, 1, 1), 13, 2);
+
+    /* 14: row 3 names itself, a later row, rows past the table or an equation, in each column that names a row. */
+    static const uint16_t kinds[] = {LW_JOIN, LW_CUT, LW_EQUATION};
+    static const uint16_t wrong[] = {3, 4, 5, 512, 65535, 2};
+    for (size_t k = 0; k < 3; k++)
+        for (size_t n = 0; n < 6; n++) {
+            table t = {.len = 0};
+            add(&t, VARIABLE(4));
+            add(&t, VARIABLE(4));
+            add(&t, EQUATION(0, 1));
+            add(&t, kinds[k], wrong[n], 0, 0);
+            add(&t, VARIABLE(4));
+            REFUSE_ONE(refuse, ALL(t), 14, 3);
+            if (kinds[k] != LW_CUT) {
+                t.numbers[4 * 3 + 1] = 0;
+                t.numbers[4 * 3 + 2] = wrong[n];
+                REFUSE_ONE(refuse, ALL(t), 14, 3);
+            }
+        }
+    REFUSE_ONE(refuse, TABLE(JOIN(0, 0)), 14, 0);
+    REFUSE_ONE(refuse, TABLE(CUT(0, 0, 0)), 14, 0);
+    REFUSE_ONE(refuse, TABLE(EQUATION(0, 0)), 14, 0);
+
+    /* 15 */
+    REFUSE_ONE(refuse, TABLE(VARIABLE(0)), 15, 0);
+    REFUSE_ONE(refuse, TABLE(VARIABLE(1025)), 15, 0);
+    REFUSE_ONE(refuse, TABLE(VARIABLE(65535)), 15, 0);
+    REFUSE_ONE(refuse, TABLE(FILL(0, 0)), 15, 0);
+    REFUSE_ONE(refuse, TABLE(FILL(1, 1025)), 15, 0);
+    REFUSE_ONE(refuse, TABLE(FILL(1, 65535)), 15, 0);
+    REFUSE_ONE(refuse, TABLE(FILL(2, 1)), 15, 0);
+    REFUSE_ONE(refuse, TABLE(FILL(65535, 1)), 15, 0);
+    REFUSE_ONE(refuse, TABLE(VARIABLE(1024), FILL(0, 1), JOIN(0, 1)), 15, 2);
+    REFUSE_ONE(refuse, TABLE(VARIABLE(1024), FILL(0, 1), JOIN(1, 0)), 15, 2);
+    REFUSE_ONE(refuse, TABLE(VARIABLE(1024), JOIN(0, 0)), 15, 1);
+    REFUSE_ONE(refuse, TABLE(VARIABLE(512), VARIABLE(513), JOIN(0, 1)), 15, 2);
+
+    /* 16: also of a cut and of a join, whose widths are their own. */
+    REFUSE_ONE(refuse, TABLE(VARIABLE(8), CUT(0, 8, 0)), 16, 1);
+    REFUSE_ONE(refuse, TABLE(VARIABLE(8), CUT(0, 8, 8)), 16, 1);
+    REFUSE_ONE(refuse, TABLE(VARIABLE(8), CUT(0, 65535, 0)), 16, 1);
+    REFUSE_ONE(refuse, TABLE(VARIABLE(8), CUT(0, 3, 4)), 16, 1);
+    REFUSE_ONE(refuse, TABLE(VARIABLE(8), CUT(0, 0, 65535)), 16, 1);
+    REFUSE_ONE(refuse, TABLE(VARIABLE(8), CUT(0, 6, 3), CUT(1, 4, 0)), 16, 2);
+    REFUSE_ONE(refuse, TABLE(VARIABLE(3), VARIABLE(2), JOIN(0, 1), CUT(2, 5, 0)), 16, 3);
+    REFUSE_ONE(refuse, TABLE(VARIABLE(5), FILL(0, 3), CUT(1, 3, 0)), 16, 2);
+
+    /* 18 */
+    REFUSE_ONE(refuse, TABLE(VARIABLE(2), VARIABLE(3), EQUATION(0, 1)), 18, 2);
+    REFUSE_ONE(refuse, TABLE(VARIABLE(3), VARIABLE(2), EQUATION(0, 1)), 18, 2);
+    REFUSE_ONE(refuse, TABLE(VARIABLE(3), CUT(0, 1, 0), EQUATION(0, 1)), 18, 2);
+    REFUSE_ONE(refuse, TABLE(VARIABLE(2), JOIN(0, 0), EQUATION(1, 0)), 18, 2);
+}
+
+/* Two faults: which of them is told. */
+static inline void refuse_two_at_once(refuse_table_function refuse)
+{
+    table t;
+
+    /* 11 before anything in the rows. */
+    REFUSE_ONE(refuse, TABLE(9, 9, 9, 9, 9, 9), 11, 512);
+    REFUSE_ONE(refuse, TABLE(9), 11, 512);
+    t.len = 0;
+    while (t.len < 2052)
+        add(&t, 9, 9, 9, 9);
+    REFUSE_ONE(refuse, ALL(t), 11, 512);
+
+    /* Within a row, in the order of the numbers. */
+    REFUSE_ONE(refuse, TABLE(5, 65535, 65535, 65535), 12, 0);
+    REFUSE_ONE(refuse, TABLE(LW_VARIABLE, 0, 1, 0), 13, 0);
+    REFUSE_ONE(refuse, TABLE(LW_VARIABLE, 1025, 0, 1), 13, 0);
+    REFUSE_ONE(refuse, TABLE(LW_FILL, 2, 0, 1), 13, 0);
+    REFUSE_ONE(refuse, TABLE(LW_JOIN, 0, 0, 1), 13, 0);
+    REFUSE_ONE(refuse, TABLE(VARIABLE(1024), LW_JOIN, 0, 0, 1), 13, 1);
+    REFUSE_ONE(refuse, TABLE(LW_EQUATION, 0, 0, 1), 13, 0);
+    REFUSE_ONE(refuse, TABLE(VARIABLE(1), VARIABLE(2), LW_EQUATION, 0, 1, 1), 13, 2);
+    REFUSE_ONE(refuse, TABLE(VARIABLE(1024), JOIN(0, 2), VARIABLE(1024)), 14, 1);
+    REFUSE_ONE(refuse, TABLE(VARIABLE(1), CUT(2, 0, 1), VARIABLE(1)), 14, 1);
+    REFUSE_ONE(refuse, TABLE(VARIABLE(1), CUT(1, 9, 9)), 14, 1);
+    REFUSE_ONE(refuse, TABLE(VARIABLE(1), EQUATION(0, 2), VARIABLE(2)), 14, 1);
+    REFUSE_ONE(refuse, TABLE(VARIABLE(1), EQUATION(0, 0), EQUATION(0, 1)), 14, 2);
+
+    /* A 65th variable, and variable bits beyond 4096: 13 and 15 come before 17. */
+    static const uint16_t variables[][4] = {
+        {LW_VARIABLE, 1, 1, 0}, {LW_VARIABLE, 1, 0, 1}, {VARIABLE(0)}, {VARIABLE(1025)},
+    };
+    static const uint32_t told[] = {13, 13, 15, 15};
+    for (size_t i = 0; i < 4; i++) {
+        t.len = 0;
+        while (t.len < 4 * 64)
+            add(&t, VARIABLE(64));
+        add(&t, variables[i][0], variables[i][1], variables[i][2], variables[i][3]);
+        REFUSE_ONE(refuse, ALL(t), told[i], 64);
+    }
+
+    /* A 65th equation: 13 and 14 come before 17, and 17 before 18. */
+    static const uint16_t equations[][4] = {
+        {LW_EQUATION, 0, 0, 1}, {EQUATION(66, 0)}, {EQUATION(0, 65)}, {EQUATION(0, 1)},
+    };
+    static const uint32_t told_of_equation[] = {13, 14, 14, 17};
+    for (size_t i = 0; i < 4; i++) {
+        t.len = 0;
+        add(&t, VARIABLE(1));
+        add(&t, VARIABLE(2));
+        while (t.len < 4 * 66)
+            add(&t, EQUATION(1, 1));
+        add(&t, equations[i][0], equations[i][1], equations[i][2], equations[i][3]);
+        REFUSE_ONE(refuse, ALL(t), told_of_equation[i], 66);
+    }
+
+    /* In two rows, the lower row, whatever the two numbers are. Rows 0 to 63 are variables, row 64 has width 2. */
+    static const struct { uint16_t row[4]; uint32_t number; } faults[] = {
+        {{5, 0, 0, 0}, 12},  {{LW_FILL, 0, 1, 7}, 13}, {{CUT(600, 0, 0)}, 14}, {{FILL(2, 1)}, 15},
+        {{CUT(0, 1, 0)}, 16}, {{VARIABLE(1)}, 17},      {{EQUATION(0, 64)}, 18},
+    };
+    for (size_t i = 0; i < 7; i++)
+        for (size_t j = 0; j < 7; j++) {
+            t.len = 0;
+            while (t.len < 4 * 64)
+                add(&t, VARIABLE(1));
+            add(&t, JOIN(0, 1));
+            add(&t, faults[i].row[0], faults[i].row[1], faults[i].row[2], faults[i].row[3]);
+            add(&t, FILL(0, 1));
+            add(&t, faults[j].row[0], faults[j].row[1], faults[j].row[2], faults[j].row[3]);
+            REFUSE_ONE(refuse, ALL(t), faults[i].number, 65);
+        }
+    REFUSE_ONE(refuse, TABLE(VARIABLE(1), VARIABLE(2), FILL(0, 1), EQUATION(0, 1), FILL(0, 1), 9, 9, 9, 9), 18, 3);
+}
+
+/* 17: one variable, one equation or one bit too many. */
+static inline void refuse_beyond_maximum(refuse_table_function refuse)
+{
+    table t;
+
+    t.len = 0;
+    while (t.len < 4 * 65)
+        add(&t, VARIABLE(1));
+    REFUSE_ONE(refuse, ALL(t), 17, 64);
+    t.len = 4;
+    while (t.len < 4 * 66)
+        add(&t, EQUATION(0, 0));
+    REFUSE_ONE(refuse, ALL(t), 17, 65);
+    REFUSE_ONE(refuse, TABLE(VARIABLE(1024), VARIABLE(1024), VARIABLE(1024), VARIABLE(1024), VARIABLE(1)), 17, 4);
+}
+
+/* 11 for more than 512 rows, whatever follows the last whole one. */
+static inline void refuse_too_long(refuse_table_function refuse)
+{
+    table t;
+
+    t.len = 0;
+    while (t.len < 2052)
+        add(&t, FILL(1, 2));
+    for (t.len = 2049; t.len <= 2052; t.len++)
+        REFUSE_ONE(refuse, ALL(t), 11, 512);
+}
+
+#endif
