@@ -17,6 +17,8 @@
 #include <stdlib.h>
 #include <string.h>
 
+#include "linkwords.h"
+
 /* Checks. */
 
 enum { FAILURES_SHOWN = 10 };
@@ -45,6 +47,23 @@ static inline bool check(bool holds, const char *file, int line, const char *for
     }
     return false;
 }
+
+static inline bool same_record(lw_record a, lw_record b)
+{
+    return a.outcome == b.outcome && a.pieces == b.pieces && a.fresh == b.fresh && a.free == b.free &&
+           a.ties == b.ties && a.row == b.row;
+}
+
+/* A record is as expected, field by field. */
+static inline bool check_record_at(const char *file, int line, const char *name, lw_record got, lw_record want)
+{
+    return check(same_record(got, want), file, line,
+                 "%s: record %u %u %u %u %u %u, expected %u %u %u %u %u %u", name,
+                 got.outcome, got.pieces, got.fresh, got.free, got.ties, got.row,
+                 want.outcome, want.pieces, want.fresh, want.free, want.ties, want.row);
+}
+
+#define check_record(line, ...) check_record_at(__FILE__, line, __VA_ARGS__)
 
 /* One line for a group of tests: the checks since the line before. */
 static inline void group_done(const char *name)

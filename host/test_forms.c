@@ -40,15 +40,6 @@ static void print_form(const char *name, const uint16_t *form, size_t pieces)
     printf("%s\n", pieces > 16 ? " .." : "");
 }
 
-static bool check_record(int line, const char *name, lw_record got, lw_record want)
-{
-    return check(got.outcome == want.outcome && got.pieces == want.pieces && got.fresh == want.fresh &&
-                 got.free == want.free && got.ties == want.ties && got.row == want.row, __FILE__, line,
-                 "%s: record %u %u %u %u %u %u, expected %u %u %u %u %u %u", name,
-                 got.outcome, got.pieces, got.fresh, got.free, got.ties, got.row,
-                 want.outcome, want.pieces, want.fresh, want.free, want.ties, want.row);
-}
-
 /*
   One call: the record; table unchanged; want_form as the first 4 * want.pieces
   numbers of the output, and behind them what was there before. The output has

@@ -52,20 +52,6 @@ static void print_answer(const uint16_t *answer, size_t len)
     printf("%s\n", len > 96 ? " .." : "");
 }
 
-static bool same_record(lw_record a, lw_record b)
-{
-    return a.outcome == b.outcome && a.pieces == b.pieces && a.fresh == b.fresh && a.free == b.free &&
-           a.ties == b.ties && a.row == b.row;
-}
-
-static bool check_record(int line, const char *name, lw_record got, lw_record want)
-{
-    return check(same_record(got, want), __FILE__, line,
-                 "%s: record %u %u %u %u %u %u, expected %u %u %u %u %u %u", name,
-                 got.outcome, got.pieces, got.fresh, got.free, got.ties, got.row,
-                 want.outcome, want.pieces, want.fresh, want.free, want.ties, want.row);
-}
-
 /*
   One call: the record; answer table and fresh bytes unchanged; want_pattern as
   the first want.free bytes of the output if the call is accepted, and behind

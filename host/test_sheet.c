@@ -90,15 +90,6 @@ static void print_text(const uint8_t *bytes, size_t len)
 
 /* Calls and what they are compared with. */
 
-static bool check_record(int line, const char *name, lw_record got, lw_record want)
-{
-    return check(got.outcome == want.outcome && got.pieces == want.pieces && got.fresh == want.fresh &&
-                 got.free == want.free && got.ties == want.ties && got.row == want.row, __FILE__, line,
-                 "%s: record %u %u %u %u %u %u, expected %u %u %u %u %u %u", name,
-                 got.outcome, got.pieces, got.fresh, got.free, got.ties, got.row,
-                 want.outcome, want.pieces, want.fresh, want.free, want.ties, want.row);
-}
-
 /*
   One call on the first lent bytes of a text of len bytes: the record; the text
   unchanged; want_table as the first 4 * want.pieces numbers of the output, and

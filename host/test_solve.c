@@ -49,20 +49,6 @@ static void print_answer(const char *name, const uint16_t *answer, size_t rows)
     printf("%s\n", rows > 16 ? " .." : "");
 }
 
-static bool same_record(lw_record a, lw_record b)
-{
-    return a.outcome == b.outcome && a.pieces == b.pieces && a.fresh == b.fresh && a.free == b.free &&
-           a.ties == b.ties && a.row == b.row;
-}
-
-static bool check_record(int line, const char *name, lw_record got, lw_record want)
-{
-    return check(same_record(got, want), __FILE__, line,
-                 "%s: record %u %u %u %u %u %u, expected %u %u %u %u %u %u", name,
-                 got.outcome, got.pieces, got.fresh, got.free, got.ties, got.row,
-                 want.outcome, want.pieces, want.fresh, want.free, want.ties, want.row);
-}
-
 /* The right side of a variable, by a plain loop. */
 static lw_part plain_right_side(const uint16_t *answer, size_t answer_len, size_t rows, size_t variable)
 {

@@ -18,15 +18,6 @@
 
 static const uint8_t zeros[8192];
 
-static bool check_record(int line, const char *name, lw_record got, lw_record want)
-{
-    return check(got.outcome == want.outcome && got.pieces == want.pieces && got.fresh == want.fresh &&
-                 got.free == want.free && got.ties == want.ties && got.row == want.row, __FILE__, line,
-                 "%s: record %u %u %u %u %u %u, expected %u %u %u %u %u %u", name,
-                 got.outcome, got.pieces, got.fresh, got.free, got.ties, got.row,
-                 want.outcome, want.pieces, want.fresh, want.free, want.ties, want.row);
-}
-
 /* One call: the record; table and pattern unchanged; want_value as the first want.free bytes of the output. */
 static void call(int line, const char *name, const uint16_t *numbers, size_t len, size_t row,
                  const uint8_t *pattern, size_t pattern_len, size_t value_len,
