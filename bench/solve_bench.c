@@ -1,287 +1,152 @@
 /*
-  solve_bench.c -- how fast lw_solve is, against a plain union-find in C
+  solve_bench.c -- how fast lw_solve is, against a plain union-find in C and
+  against z3
 
       solve_bench [ROUNDS]
 
-  lw_solve is timed from the table's check to the answer, with the work area's
-  zeros. The plain union-find (plain_ties of host/plain_solver.c) only ties the
-  same bit pairs, which are laid out for it beforehand, and sets up its array. So
-  it is less work, and the goal is at most three times its time. Both are timed
-  in turn in one run, so that what else the machine does meets both alike, and
-  medians and best times of ROUNDS rounds (301 if not given) are printed.
+  Prints the measured part of docs/BENCHMARKS.md, in medians of ROUNDS rounds
+  (301 if not given); what is compared is said in run, which prints the rest. z3
+  is slow and has its turn in every 25th round only; it is left out where it is
+  not installed. The current directory has to be bench/.
 
-  Each table has 64 variables of 64 bits and 64 equations of 1024 bits, 65536 bit
-  pairs. There are no fills, so the pattern of zeros meets it, and no pair is
-  left out. The tables are the same in each run.
-
-  Last, the time for 8, 16, 32 and 64 of the equations: it should grow no faster
-  than the pairs.
-
-  The exit status is 0 if the goals are met.
+  The exit status is 0 if the goals are met, 1 if one is missed, and 2 if not all
+  could be measured.
 */
-
-#define _POSIX_C_SOURCE 199309L /* clock_gettime */
 
 #include <stdbool.h>
 #include <stdio.h>
-#include <string.h>
+#include <stdlib.h>
 
-#include "linkwords.h"
-#include "plain_solver.h"
-#include "random_table.h"
-#include "reference.h"
-#include "timing.h"
+#include "measure.h"
+#include "report.h"
+#include "tables.h"
 
-enum { EQUATIONS = 64, WIDTH = 1024, PAIRS = EQUATIONS * WIDTH, MAX_ROUNDS = 100000, REPEATS = 3 };
+#define GOAL 3.0         /* lw_solve to the plain union-find, at most */
+#define GROWTH_GOAL 10.0 /* 64 equations to 8, at most */
 
-static const double goal = 3.0, growth_goal = 10.0; /* of 64 equations to 8 */
+/* The time is that of many calls where one of them is short. */
+enum { LONG = 3, SHORT = 30, SHORTEST = 100 };
 
-/* Tables. The equations are the last rows, so that fewer of them are a shorter table. */
+static subject subjects[] = {
+    {.name = "empty", .says = "no rows.", .make = make_empty, .calls = SHORTEST},
+    {.name = "bit", .says = "a variable of 1 bit, equal to a fill.", .make = make_fixed, .size = 1, .calls = SHORTEST},
+    {.name = "small",
+     .says = "a variable of 16 bits, of which bits 14 to 3 are equal to bits 12 to 1.",
+     .make = make_overlap, .size = 16, .calls = SHORTEST},
+    {.name = "typical",
+     .says = "64 words of 16 bits: 32 pixels and 32 link words. In 16 equations two link words are the low part of\n"
+             "  a pixel, the next pixel and the high part of the one behind, cut at odd places; in 4 equations a link\n"
+             "  word is a marker of three fixed bits and the low 13 bits of a pixel.",
+     .make = make_link, .size = 32, .calls = SHORT},
+    {.name = "turned",
+     .says = "of the largest size, as are the next two. 64 variables of 64 bits, joined by doubling to words of\n"
+             "  1,024 bits, and these turned at odd places, one out of another.",
+     .make = make_turned, .size = 1024, .calls = LONG, .for_goal = true},
+    {.name = "chained",
+     .says = "half of each side is the 512 bits that a chain of 300 cuts leaves, the other half is cut at an odd\n"
+             "  place.",
+     .make = make_chained, .size = 300, .calls = LONG, .for_goal = true},
+    {.name = "copied",
+     .says = "each side is 16 copies of a variable under a chain of 300 cuts, turned at an odd place.",
+     .make = make_copied, .size = 300, .calls = LONG},
+};
 
-/* Rows 0 to 63. */
-static void variables(draft *d)
+enum { SUBJECTS = sizeof subjects / sizeof subjects[0], TURNED = 4, CHAINED = 5 };
+
+static subject widths[] = {
+    {.name = "turned", .make = make_turned, .size = 128, .calls = LONG},
+    {.name = "turned", .make = make_turned, .size = 256, .calls = LONG},
+    {.name = "turned", .make = make_turned, .size = 512, .calls = LONG},
+    {.name = "turned", .make = make_turned, .size = 1024, .calls = LONG},
+};
+
+static subject depths[] = {
+    {.name = "deep", .make = make_deep, .size = 25, .calls = LONG},
+    {.name = "deep", .make = make_deep, .size = 50, .calls = LONG},
+    {.name = "deep", .make = make_deep, .size = 100, .calls = LONG},
+    {.name = "deep", .make = make_deep, .size = 200, .calls = LONG},
+    {.name = "deep", .make = make_deep, .size = 400, .calls = LONG},
+};
+
+enum { WIDTHS = sizeof widths / sizeof widths[0], DEPTHS = sizeof depths / sizeof depths[0] };
+
+static growth growths[] = {
+    {.title = "Equations, in turned",
+     .says = "The table turned with so many of its equations.", .unit = "equations", .goal = GROWTH_GOAL},
+    {.title = "Equations, in chained",
+     .says = "The table chained with so many of its equations.", .unit = "equations", .goal = GROWTH_GOAL},
+    {.title = "Width of equations",
+     .says = "64 equations; the last step is the table turned, and the others have its variables joined to fewer bits.",
+     .unit = "bits"},
+    {.title = "Depth of cuts",
+     .says = "64 equations, in each step the same bit pairs: half of each side is 512 bits under a chain of cuts.",
+     .unit = "cuts", .by_rows = true},
+};
+
+enum { GROWTHS = sizeof growths / sizeof growths[0] };
+
+static bool prepare_all(void)
 {
-    while (d->variables < 64)
-        add_row(d, 64, VARIABLE(64));
+    for (size_t k = 0; k < SUBJECTS; k++)
+        if (!prepare(&subjects[k]))
+            return false;
+    for (size_t k = 0; k < WIDTHS; k++)
+        if (!prepare(&widths[k]))
+            return false;
+    for (size_t k = 0; k < DEPTHS; k++)
+        if (!prepare(&depths[k]))
+            return false;
+    for (size_t k = 0; k < DEPTHS; k++)
+        if (!same_pairs(&depths[0], &depths[k]))
+            return false;
+    return same_pairs(&subjects[TURNED], &widths[WIDTHS - 1]);
 }
 
-static size_t join(draft *d, size_t a, size_t b)
+static void set_steps(void)
 {
-    return add_row(d, d->width[a] + d->width[b], JOIN(a, b));
-}
-
-static size_t cut(draft *d, size_t a, size_t high, size_t low)
-{
-    return add_row(d, high - low + 1, CUT(a, high, low));
-}
-
-/* 16 variables from v on, joined two by two, four by four and so on to 1024 bits. */
-static size_t doubled(draft *d, size_t v)
-{
-    size_t words[16];
-    for (size_t i = 0; i < 16; i++)
-        words[i] = v + i;
-    for (size_t count = 16; count != 1; count /= 2)
-        for (size_t i = 0; i < count / 2; i++)
-            words[i] = join(d, words[2 * i], words[2 * i + 1]);
-    return words[0];
-}
-
-/* A word of 1024 bits turned: cut at an odd place, its low part before its high part. */
-static size_t turned(draft *d, size_t word)
-{
-    size_t at = 2 * below(WIDTH / 2) + 1, low = cut(d, word, at - 1, 0);
-    return join(d, low, cut(d, word, WIDTH - 1, at));
-}
-
-/* 64 equations between sides, each of two different ones. */
-static void equate(draft *d, const size_t *sides, size_t count)
-{
-    for (size_t e = 0; e < EQUATIONS; e++) {
-        size_t a = below(count), b = (a + 1 + below(count - 1)) % count;
-        add_row(d, 0, EQUATION(sides[a], sides[b]));
-    }
-}
-
-/* Four doubled words, and words turned at odd places, one out of another, as many as there are rows for. */
-static void make_turned(draft *d)
-{
-    size_t sides[512], count = 0;
-
-    variables(d);
-    for (size_t g = 0; g < 4; g++)
-        sides[count++] = doubled(d, 16 * g);
-    while (d->rows + 3 <= LW_MAX_ROWS - EQUATIONS) {
-        sides[count] = turned(d, sides[below(count)]);
-        count++;
-    }
-    equate(d, sides, count);
-}
-
-/*
-  A doubled word under 300 cuts, which leave 512 bits of it, one or two less at
-  one end each; these joined with 512 bits of a doubled word, cut at odd places.
-*/
-static void make_chained(draft *d)
-{
-    size_t sides[512], count = 0, chain, other;
-
-    variables(d);
-    chain = doubled(d, 0);
-    other = doubled(d, 16);
-    for (size_t i = 0; i < 300; i++) {
-        size_t less = i < 212 ? 2 : 1, high = d->width[chain] - 1;
-        chain = one_in(2) ? cut(d, chain, high - less, 0) : cut(d, chain, high, less);
-    }
-    while (d->rows + 2 <= LW_MAX_ROWS - EQUATIONS) {
-        size_t low = 2 * below(256) + 1, half = cut(d, other, low + 511, low);
-        sides[count++] = one_in(2) ? join(d, chain, half) : join(d, half, chain);
-    }
-    equate(d, sides, count);
-}
-
-/* A variable under 300 cuts of all its bits, joined with itself to 1024 bits, and that turned at odd places. */
-static void make_copied(draft *d)
-{
-    size_t sides[512], count = 0, word = 0;
-
-    variables(d);
-    for (size_t i = 0; i < 300; i++)
-        word = cut(d, word, 63, 0);
-    while (d->width[word] < WIDTH)
-        word = join(d, word, word);
-    sides[count++] = word;
-    while (d->rows + 3 <= LW_MAX_ROWS - EQUATIONS)
-        sides[count++] = turned(d, word);
-    equate(d, sides, count);
-}
-
-/* A table with what both sides of the comparison need of it. */
-typedef struct {
-    const char *name;
-    void (*make)(draft *);
-    bool for_goal;
-    draft d;
-    ref_table facts;
-    lw_record record;
-    uint16_t left[PAIRS], right[PAIRS];
-    size_t pairs;
-} input;
-
-static uint16_t answer[LW_SOLVER_NUMBERS], work[LW_SOLVER_NUMBERS], parent[PLAIN_SOURCES];
-
-/* Makes the table, lays out its pairs, and compares the answer with the plain solver's. */
-static bool prepare(input *in)
-{
-    static uint16_t sources[REF_ROWS][REF_WIDTH], plain[LW_SOLVER_NUMBERS];
-
-    clear(&in->d);
-    in->make(&in->d);
-    lw_record check = ref_check(in->d.t.numbers, in->d.t.len, &in->facts);
-    if (check.outcome != 0) {
-        printf("%s: refused %u, row %u\n", in->name, check.outcome, check.row);
-        return false;
-    }
-    plain_sources(in->d.t.numbers, &in->facts, sources);
-    in->pairs = 0;
-    for (size_t r = 0; r < in->d.rows; r++) {
-        const uint16_t *n = in->d.t.numbers + 4 * r;
-        if (n[0] != LW_EQUATION)
-            continue;
-        for (size_t i = 0; i < in->facts.width[n[1]]; i++) {
-            in->left[in->pairs] = sources[n[1]][i];
-            in->right[in->pairs++] = sources[n[2]][i];
+    for (size_t equations = 8; equations <= EQUATIONS; equations *= 2)
+        for (size_t i = 0; i < 2; i++) {
+            const subject *in = &subjects[i == 0 ? TURNED : CHAINED];
+            add_step(&growths[i], in, equations, in->d.rows - EQUATIONS + equations, WIDTH * equations);
         }
-    }
-
-    lw_record want = plain_solve(in->d.t.numbers, &in->facts, plain);
-    in->record = lw_solve(in->d.t.numbers, in->d.t.len, answer, LW_SOLVER_NUMBERS, work, LW_SOLVER_NUMBERS);
-    size_t ties = plain_ties(in->left, in->right, in->pairs, parent, in->facts.bits);
-    if (in->pairs != PAIRS || in->record.outcome != LW_SOLVED || memcmp(&in->record, &want, sizeof want) != 0 ||
-        memcmp(answer, plain, 4 * want.pieces * sizeof *answer) != 0 || ties != want.ties) {
-        printf("%s: %zu pairs, outcome %u, ties %u and %zu: not the answer of the plain solver\n", in->name, in->pairs,
-               in->record.outcome, in->record.ties, ties);
-        return false;
-    }
-    return true;
+    for (size_t k = 0; k < WIDTHS; k++)
+        add_step(&growths[2], &widths[k], widths[k].size, widths[k].d.rows, widths[k].pairs);
+    for (size_t k = 0; k < DEPTHS; k++)
+        add_step(&growths[3], &depths[k], depths[k].size, depths[k].d.rows, depths[k].pairs);
 }
 
-/* Times. */
-
-static volatile size_t sink; /* so that no call is left out */
-
-static double solve_time(const input *in, size_t rows)
+/* Whether the goals are met. */
+static bool print_all(size_t rounds, bool z3)
 {
-    double start = seconds();
-    for (int i = 0; i < REPEATS; i++)
-        sink += lw_solve(in->d.t.numbers, 4 * rows, answer, LW_SOLVER_NUMBERS, work, LW_SOLVER_NUMBERS).ties;
-    return (seconds() - start) / REPEATS;
-}
-
-static double ties_time(const input *in)
-{
-    double start = seconds();
-    for (int i = 0; i < REPEATS; i++)
-        sink += plain_ties(in->left, in->right, in->pairs, parent, in->facts.bits);
-    return (seconds() - start) / REPEATS;
-}
-
-typedef struct {
-    double best, median;
-} summary;
-
-static summary sum_up(double *times, size_t rounds)
-{
-    qsort(times, rounds, sizeof *times, by_size);
-    return (summary){times[0], times[rounds / 2]};
-}
-
-/* Whether lw_solve keeps to the goal on this table. */
-static bool compare(const input *in, size_t rounds)
-{
-    static double solve[MAX_ROUNDS], ties[MAX_ROUNDS];
-
-    for (size_t i = 0; i < rounds; i++) {
-        solve[i] = solve_time(in, in->d.rows);
-        ties[i] = ties_time(in);
-    }
-    summary s = sum_up(solve, rounds), t = sum_up(ties, rounds);
-    double ratio = s.median / t.median;
-    printf("%s\n", in->name);
-    printf("    %zu rows, %zu pairs, ties %u, pieces %u, fresh %u, free %u\n", in->d.rows, in->pairs, in->record.ties,
-           in->record.pieces, in->record.fresh, in->record.free);
-    printf("    lw_solve          median %8.1f us  best %8.1f us\n", 1e6 * s.median, 1e6 * s.best);
-    printf("    plain union-find  median %8.1f us  best %8.1f us\n", 1e6 * t.median, 1e6 * t.best);
-    printf("    ratio             median %8.2f     best %8.2f", ratio, s.best / t.best);
-    if (in->for_goal)
-        printf("     goal at most %.1f: %s", goal, ratio <= goal ? "met" : "MISSED");
-    printf("\n");
-    return !in->for_goal || ratio <= goal;
-}
-
-/* Whether the time grows no faster than the equations. */
-static bool grow_equations(const input *in, size_t rounds)
-{
-    static double times[4][MAX_ROUNDS];
-    summary s[4];
-
-    for (size_t i = 0; i < rounds; i++)
-        for (size_t k = 0; k < 4; k++)
-            times[k][i] = solve_time(in, in->d.rows - EQUATIONS + ((size_t)8 << k));
-    printf("growth, %s\n", in->name);
-    for (size_t k = 0; k < 4; k++) {
-        s[k] = sum_up(times[k], rounds);
-        printf("    %2d equations     median %8.1f us  best %8.1f us", 8 << k, 1e6 * s[k].median, 1e6 * s[k].best);
-        if (k != 0)
-            printf("  %.2f times that of half as many", s[k].median / s[k - 1].median);
-        printf("\n");
-    }
-    double ratio = s[3].median / s[0].median;
-    printf("    64 equations / 8  median %8.2f     goal at most %.1f: %s\n", ratio, growth_goal,
-           ratio <= growth_goal ? "met" : "MISSED");
-    return ratio <= growth_goal;
+    print_subjects(subjects, SUBJECTS);
+    printf("\nTimes of `lw_solve` and of the union-find are medians of %zu rounds.\n", rounds);
+    bool met = print_ties(subjects, SUBJECTS, GOAL);
+    print_z3(subjects, SUBJECTS, z3);
+    printf("\n## Growth\n\n"
+           "Expected: the time grows no faster than the pairs, and with the depth of cuts no faster than the rows.\n");
+    for (size_t i = 0; i < GROWTHS; i++)
+        met &= print_growth(&growths[i]);
+    return met;
 }
 
 int main(int argc, char **argv)
 {
-    static input inputs[] = {
-        {.name = "doubling joins, turned at odd places", .make = make_turned, .for_goal = true},
-        {.name = "a chain of 300 cuts under each side", .make = make_chained, .for_goal = true},
-        {.name = "a chain of 300 cuts under each of 16 copies (no goal)", .make = make_copied, .for_goal = false},
-    };
     size_t rounds = argc > 1 ? strtoul(argv[1], NULL, 10) : 301;
-    bool met = true;
+    bool z3 = z3_found();
 
     if (rounds < 1 || rounds > MAX_ROUNDS) {
-        printf("rounds are 1 to %d\n", MAX_ROUNDS);
-        return 1;
+        fprintf(stderr, "rounds are 1 to %d\n", MAX_ROUNDS);
+        return 2;
     }
-    for (size_t i = 0; i < sizeof inputs / sizeof inputs[0]; i++) {
-        if (!prepare(&inputs[i]))
-            return 1;
-        met &= compare(&inputs[i], rounds);
+    if (!prepare_all()) {
+        fprintf(stderr, "the tables are not what they should be\n");
+        return 2;
     }
-    for (size_t i = 0; i < 2; i++)
-        met &= grow_equations(&inputs[i], rounds);
-    return met ? 0 : 1;
+    set_steps();
+    if (!measure(subjects, SUBJECTS, rounds, z3))
+        return 2;
+    for (size_t i = 0; i < GROWTHS; i++)
+        measure_growth(&growths[i], rounds);
+    bool met = print_all(rounds, z3);
+    return fflush(stdout) != 0 || ferror(stdout) ? 2 : met ? 0 : 1;
 }

@@ -13,7 +13,7 @@
 #include "linkwords.h"
 #include "reference.h"
 
-enum { ENUM_BITS = 14 }; /* most variable bits */
+enum { ENUM_BITS = 16 }; /* most variable bits */
 
 typedef struct {
     size_t met;                      /* how many patterns meet the table */

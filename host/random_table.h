@@ -70,6 +70,9 @@ static inline bool one_in(size_t n)
     return below(n) == 0;
 }
 
+/* What a table is meant to be; it may turn out otherwise. */
+typedef enum { MEANT_ALWAYS, MEANT_NEVER, MEANT_SOLVED } intent;
+
 /* A table in the making: what is known of its rows keeps the next row valid. */
 typedef struct {
     table t;

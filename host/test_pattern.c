@@ -26,7 +26,12 @@
 #include "random_table.h"
 #include "reference.h"
 
-enum { BITS = 4096, LARGE_TABLES = 1000, ALL_FILLINGS = 10 /* fresh bits of which all fillings are tried */ };
+enum {
+    BITS = 4096,
+    LARGE_TABLES = 1000,
+    SMALL_BITS = 14,  /* most variable bits of a small table */
+    ALL_FILLINGS = 10 /* fresh bits of which all fillings are tried */
+};
 
 /* Rows of an answer table, which is written down as a table is: see TABLE. */
 
@@ -1102,10 +1107,10 @@ static void test_small(unsigned long tables)
     char name[64];
 
     for (unsigned long i = 0; i < tables; i++) {
-        size_t bits = 1 + below(ENUM_BITS), widest = one_in(3) ? ENUM_BITS : 1 + below(6);
+        size_t bits = 1 + below(SMALL_BITS), widest = one_in(3) ? SMALL_BITS : 1 + below(6);
         do
             make_equations(&d, bits, widest, 1 + below(one_in(3) ? 16 : 6));
-        while (d.bits > ENUM_BITS); /* a variable more, where no row could be named */
+        while (d.bits > SMALL_BITS); /* a variable more, where no row could be named */
         snprintf(name, sizeof name, "small table %lu", i);
         if (!solve(name, &d, &s))
             continue;

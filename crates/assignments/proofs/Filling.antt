@@ -11,22 +11,14 @@ use lib.Seq.{take-suc, take-all, getD-drop}
 use borrow.Author.Tests.{lt-ltb, le-ltb}
 use Rattle.terms.specs.declared.Row.{Row}
 use Rattle.terms.specs.Table.{rowsOf, rowAt}
-use Rattle.terms.specs.Calls.{overwrite}
-use Rattle.terms.proofs.Buffers.{overwrite-length, overwrite-more}
+use Rattle.terms.specs.Calls.{overwrite, Written, Behind}
+use Rattle.terms.proofs.Buffers.{overwrite-length, written-more}
 use Rattle.answers.specs.Answer.{AnswerRow, isFresh, freshStart, rowBits, bitsOfRows, instantiate}
 use Rattle.answers.proofs.Agreement.{dec-lt}
 use Rattle.assignments.specs.Form.{answerRowsOf, patternBits}
-use Rattle.assignments.specs.Making.{answerRow, answerRowAt, noAnswerRow, Shaped, byteIn, bytesIn, Written, Behind, WritesRows}
+use Rattle.assignments.specs.Making.{answerRow, answerRowAt, noAnswerRow, Shaped, byteIn, bytesIn, WritesRows}
 use Rattle.assignments.proofs.OneMore.{bits-part}
 use Rattle.assignments.proofs.Reading.{answer-length, answer-row}
-
--- one byte more
-written-more : (xs base : List ℕ) (n : ℕ) (out : List ℕ) (x : ℕ) → Written xs base n out → Written (xs ++ (x ∷ [])) base (n + 1) (set out n x)
-written-more xs base n out x k =
-    record {
-      counted = omega (arith, k .counted, length-append xs (x ∷ []));
-      bytes = ap (λ (o : List ℕ). set o n x) (k .bytes) ∙ overwrite-more xs base x n (sym (k .counted));
-    }
 
 bytes-count : (fresh : List ℕ) (kind start n : ℕ) → length (bytesIn fresh kind start n) ≡ n
 unfolding bytesIn
@@ -70,7 +62,7 @@ module _ (fresh : List ℕ) (start kind width : ℕ) (out₀ : List ℕ) (from :
         length-append earlier (bytesIn fresh kind start j),
         bytes-count fresh kind start j,
         bytes-count fresh kind start width,
-        ap length (here .bytes),
+        ap length (here .numbers),
         overwrite-length (earlier ++ bytesIn fresh kind start j) base,
       ))
 
@@ -133,7 +125,7 @@ pub record Filling (answer fresh starts out₀ out : List ℕ) (at i : ℕ) : Ty
 
 pub filling-first : (answer fresh starts out₀ : List ℕ) → Filling answer fresh starts out₀ out₀ 0 0
 unfolding bitsOfRows overwrite
-filling-first answer fresh starts out₀ = record { within = omega arith; same-room = refl; written = λ bits free s n l. record { counted = refl; bytes = refl } }
+filling-first answer fresh starts out₀ = record { within = omega arith; same-room = refl; written = λ bits free s n l. record { counted = refl; numbers = refl } }
 
 module _ (answer fresh starts out₀ out : List ℕ) (at i : ℕ) (k : Filling answer fresh starts out₀ out at i) where
   abbrev rows : List AnswerRow
@@ -183,5 +175,5 @@ module _ (answer fresh starts out₀ out : List ℕ) (at i : ℕ) (k : Filling a
   pub filling-done : length answer / 4 ≤ i → WritesRows answer fresh starts out₀ out
   unfolding instantiate
   filling-done l bits free s n room =
-      k .written bits free s n room .bytes
+      k .written bits free s n room .numbers
       ∙ ap (λ (x : List AnswerRow). overwrite (bitsOfRows rows fresh x) out₀) (take-all i rows (omega (arith, answer-length answer)))

@@ -93,16 +93,6 @@ unfoldable pub bytesIn : List ℕ → ℕ → ℕ → ℕ → List ℕ
 bytesIn fresh kind start zero = []
 bytesIn fresh kind start (suc n) = bytesIn fresh kind start n ++ (byteIn fresh kind (start + n) ∷ [])
 
--- The n bytes xs stand in front of what was there before.
-pub record Written (xs base : List ℕ) (n : ℕ) (out : List ℕ) : Type 0 where
-  pub counted : n ≡ length xs
-  pub bytes : out ≡ overwrite xs base
-
--- New bytes were written behind those that were there, if there is room.
-abbrev pub Behind : List ℕ → ℕ → List ℕ → ℕ → List ℕ → Type 0
-Behind new n out m out′ =
-    (earlier base : List ℕ) → length earlier + length new ≤ length base → Written earlier base n out → Written (earlier ++ new) base m out′
-
 -- What the writing of the rows promises, where the fresh bits are as many as the table has and the output has room.
 abbrev pub WritesRows : List ℕ → List ℕ → List ℕ → List ℕ → List ℕ → Type 0
 WritesRows answer fresh starts out out′ =

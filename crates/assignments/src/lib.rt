@@ -3,10 +3,10 @@
 // Rows are read as rows of four numbers: variable, kind, width and fresh number stand in the columns kind, a, b and c.
 ghost use mathlib.Core.Path.{_≡_};
 ghost use mathlib.Core.Bool.{cond};
-ghost use Prim.Native.Nat.{_+_, _%_};
 ghost use lib.ListN.{length};
+ghost use Rattle.terms.specs.Calls.{Behind};
 ghost use Rattle.assignments.specs.Call.{patternRecord, patternAfter};
-ghost use Rattle.assignments.specs.Making.{widthBefore, isNew, variableIn, widthsIn, fillIn, freshIn, fineIn, advanced, ReadsForm, byteIn, bytesIn, Behind, WritesRows};
+ghost use Rattle.assignments.specs.Making.{widthBefore, isNew, variableIn, widthsIn, fillIn, freshIn, fineIn, advanced, ReadsForm, byteIn, bytesIn, WritesRows};
 use terms::Record;
 use terms::Row;
 
@@ -30,13 +30,6 @@ struct Found {
     fine: bool,
     bits: u16,
     free: u16,
-}
-
-// x + y, wrapped.
-fn plus(x: u16, y: u16) -> u16
-    ensures { λ r. ⌜ r ≡ (x + y) % 65536 ⌝ }
-{
-    terms::narrow(terms::wide(x) + terms::wide(y))
 }
 
 // The width of variable v in the rows passed.
@@ -188,12 +181,12 @@ fn advance(p: Progress, r: Row) -> Progress
 {
     Progress {
         variable: r.kind,
-        next: plus(r.kind, 1),
+        next: terms::plus(r.kind, 1),
         kind: r.a,
-        width: plus(width_before(p, r.kind), r.b),
-        bits: plus(p.bits, r.b),
-        pieces: plus(p.pieces, new_pieces(p, r)),
-        free: plus(p.free, new_bits(p, r)),
+        width: terms::plus(width_before(p, r.kind), r.b),
+        bits: terms::plus(p.bits, r.b),
+        pieces: terms::plus(p.pieces, new_pieces(p, r)),
+        free: terms::plus(p.free, new_bits(p, r)),
     }
 }
 

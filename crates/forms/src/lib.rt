@@ -5,7 +5,7 @@
 // normal form of the bits that were met.
 ghost use mathlib.Core.Path.{_≡_};
 ghost use mathlib.Core.Bool.{false, cond};
-ghost use Prim.Native.Nat.{_+_, _-_, _%_, _<_, _≤_};
+ghost use Prim.Native.Nat.{_<_, _≤_};
 ghost use lib.Dec.{eqb};
 ghost use lib.ListN.{length, getD, set, take};
 ghost use Rattle.terms.specs.Table.{rowsOf, widthOf, sourceOf, extract};
@@ -22,23 +22,6 @@ pub struct Piece {
     pub variable: u16,
     pub high: u16,
     pub low: u16,
-}
-
-// x - y, or 0.
-fn minus(x: u16, y: u16) -> u16
-    ensures { λ r. ⌜ r ≡ x - y ⌝ }
-{
-    if x < y {
-        return 0;
-    }
-    x - y
-}
-
-// x + y, wrapped.
-fn plus(x: u16, y: u16) -> u16
-    ensures { λ r. ⌜ r ≡ (x + y) % 65536 ⌝ }
-{
-    ((terms::wide(x) + terms::wide(y)) % 65536) as u16
 }
 
 // Whether two neighbours are one piece.
@@ -71,7 +54,7 @@ fn merge(p: Piece, q: Piece) -> Piece
         return Piece {
             kind: kind,
             variable: p.variable,
-            high: plus(plus(p.high, q.high), 1),
+            high: terms::plus(terms::plus(p.high, q.high), 1),
             low: q.low,
         };
     }
@@ -162,7 +145,7 @@ pub fn put_form(
             Piece {
                 kind: 2,
                 variable: v,
-                high: minus(r.a, 1),
+                high: terms::difference(r.a, 1),
                 low: 0,
             },
         );
@@ -174,7 +157,7 @@ pub fn put_form(
             Piece {
                 kind: r.a,
                 variable: 0,
-                high: minus(r.b, 1),
+                high: terms::difference(r.b, 1),
                 low: 0,
             },
         );
@@ -231,7 +214,7 @@ fn put_cut(
             Piece {
                 kind: r.a,
                 variable: 0,
-                high: minus(high, low),
+                high: terms::difference(high, low),
                 low: 0,
             },
         );
@@ -246,8 +229,8 @@ fn put_cut(
             widths,
             variables,
             a,
-            plus(high, r.c),
-            plus(low, r.c),
+            terms::plus(high, r.c),
+            terms::plus(low, r.c),
             out,
             n,
         );
@@ -258,14 +241,14 @@ fn put_cut(
     }
     let right = terms::load(widths, b);
     if high < right {
-        if minus(high, low) == minus(right, 1) {
+        if terms::difference(high, low) == terms::difference(right, 1) {
             return put_form(table, widths, variables, b, out, n);
         }
         return put_cut(table, widths, variables, b, high, low, out, n);
     }
     let left = terms::load(widths, a);
     if right <= low {
-        if minus(high, low) == minus(left, 1) {
+        if terms::difference(high, low) == terms::difference(left, 1) {
             return put_form(table, widths, variables, a, out, n);
         }
         return put_cut(
@@ -280,7 +263,7 @@ fn put_cut(
         );
     }
     let mut m = n;
-    if high - right == minus(left, 1) {
+    if high - right == terms::difference(left, 1) {
         m = put_form(table, widths, variables, a, out, n);
     } else {
         m = put_cut(table, widths, variables, a, high - right, 0, out, n);
@@ -288,7 +271,16 @@ fn put_cut(
     if low == 0 {
         return put_form(table, widths, variables, b, out, m);
     }
-    put_cut(table, widths, variables, b, minus(right, 1), low, out, m)
+    put_cut(
+        table,
+        widths,
+        variables,
+        b,
+        terms::difference(right, 1),
+        low,
+        out,
+        m,
+    )
 }
 
 // 1 for a variable.

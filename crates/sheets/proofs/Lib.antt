@@ -10,3 +10,4 @@ pub mod Written
 pub mod SheetCases
 pub mod Theorems
 pub mod PrintedText
+pub mod TableRead

@@ -25,7 +25,7 @@ use Rattle.answers.proofs.Tables.{tableClasses, classes-run, represent, conflic
 use Rattle.answers.proofs.Theorems.{links-before}
 use Rattle.answers.proofs.Demands.{solved-sum, solved-appear}
 use Rattle.classes.specs.Links.{rootsOf}
-use Rattle.solver.specs.Rows.{RowsPut, PutsRows}
+use Rattle.borders.specs.Rows.{RowsPut, PutsRows}
 use Rattle.solver.specs.Equations.{EquationsTaken}
 use Rattle.solver.specs.Call.{answerOver, Answered}
 

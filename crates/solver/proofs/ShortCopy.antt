@@ -13,11 +13,11 @@ use Rattle.terms.specs.Faults.{firstFault}
 use Rattle.terms.proofs.AcceptedTable.{accepted-table}
 use Rattle.terms.proofs.Values.{Sound}
 use Rattle.answers.specs.Pairs.{pairsIn}
-use Rattle.solver.specs.Shortened.{shortened}
-use Rattle.solver.specs.Sides.{lowSources, Prepared}
+use Rattle.sides.specs.Shortened.{shortened}
+use Rattle.sides.specs.Sides.{lowSources, Prepared}
 use Rattle.solver.specs.Equations.{EquationsTaken}
-use Rattle.solver.proofs.Alike.{Alike, alike-bits, alike-count, alike-lows}
-use Rattle.solver.proofs.ShortTable.{sound-accepted, short-alike, short-widths, short-sound, short-pairs}
+use Rattle.sides.proofs.Alike.{Alike, alike-bits, alike-count, alike-lows}
+use Rattle.sides.proofs.ShortTable.{sound-accepted, short-alike, short-widths, short-sound, short-pairs}
 
 -- the first n numbers of a buffer are such a copy
 pub copy-length : (table buffer : List ℕ) (n room : ℕ) → n ≡ length table → n ≤ room → length buffer ≡ room → length (take n buffer) ≡ length table

@@ -19,7 +19,7 @@ use Rattle.classes.specs.Links.{Low, rootsOf, pair, linked, PairTaken}
 use Rattle.classes.proofs.Links.{Canon, canon-merge, merge-len, merge-is}
 use Rattle.classes.proofs.Roots.{roots-settled}
 use Rattle.classes.proofs.Taking.{tie-or-not, no-conflict, a-conflict}
-use Rattle.solver.specs.Sides.{pairsFrom}
+use Rattle.sides.specs.Sides.{pairsFrom}
 use Rattle.solver.specs.Equations.{EquationsTaken}
 
 -- ---- one pair more at the end of those taken

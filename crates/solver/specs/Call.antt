@@ -13,7 +13,7 @@ use Rattle.terms.specs.Faults.{firstFault}
 use Rattle.terms.specs.Calls.{overwrite}
 use Rattle.answers.specs.Answer.{answerNumbers}
 use Rattle.answers.specs.Solve.{solvedRows, answerRecord}
-use Rattle.solver.specs.Sides.{lowSources}
+use Rattle.sides.specs.Sides.{lowSources}
 use Rattle.solver.specs.Equations.{EquationsTaken}
 
 -- Links that were undone: each source links to itself.

@@ -8,7 +8,7 @@ use Rattle.terms.specs.Table.{rowsOf, bitsOf, countUp}
 use Rattle.answers.specs.Pairs.{pairsIn}
 use Rattle.answers.specs.Classes.{runAll, conflictAt, linksBefore}
 use Rattle.classes.specs.Links.{Low, rootsOf}
-use Rattle.solver.specs.Sides.{Prepared}
+use Rattle.sides.specs.Sides.{Prepared}
 
 -- Each source links to itself.
 abbrev pub unlinked : List Row → List ℕ

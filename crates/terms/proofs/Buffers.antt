@@ -3,8 +3,8 @@ use mathlib.Core.Path.{_≡_, refl, sym, _∙_, ap}
 use mathlib.Core.List.{List, [], _∷_, _++_}
 use Prim.Native.Nat.{ℕ, zero, suc, _+_, _<_, _≤_}
 use native.Mathlib.Omega.{arith}
-use lib.ListN.{length, getD, drop, set}
-use Rattle.terms.specs.Calls.{overwrite}
+use lib.ListN.{length, getD, drop, set, length-append}
+use Rattle.terms.specs.Calls.{overwrite, Written}
 
 pub overwrite-length : (new old : List ℕ) → length (overwrite new old) ≡ length old
 unfolding overwrite
@@ -35,3 +35,11 @@ overwrite-more [] old x (suc n) e = absurd (omega arith)
 overwrite-more (z ∷ new) old x zero e = absurd (omega arith)
 overwrite-more (z ∷ new) [] x (suc n) e = refl
 overwrite-more (z ∷ new) (y ∷ old) x (suc n) e = ap (λ (l : List ℕ). z ∷ l) (overwrite-more new old x n (omega arith))
+
+-- one number more
+pub written-more : (xs base : List ℕ) (n : ℕ) (out : List ℕ) (x : ℕ) → Written xs base n out → Written (xs ++ (x ∷ [])) base (n + 1) (set out n x)
+written-more xs base n out x k =
+    record {
+      counted = omega (arith, k .counted, length-append xs (x ∷ []));
+      numbers = ap (λ (o : List ℕ). set o n x) (k .numbers) ∙ overwrite-more xs base x n (sym (k .counted));
+    }

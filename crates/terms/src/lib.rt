@@ -3,7 +3,7 @@
 // widths of earlier rows and for three running totals.
 ghost use mathlib.Core.Path.{_≡_};
 ghost use mathlib.Core.Bool.{cond};
-ghost use Prim.Native.Nat.{_≤_, _<_, _%_};
+ghost use Prim.Native.Nat.{_+_, _-_, _%_, _≤_, min};
 ghost use lib.Dec.{eqb, ltb};
 ghost use lib.ListN.{getD, length, set, take};
 ghost use Rattle.terms.specs.Table.{rowsOf, rowAt, widthIn, widthsOf, bitsIn, bitsOf, startsOf};
@@ -393,7 +393,7 @@ fn one_if(kind: u16, wanted: u16) -> usize
 }
 
 // The variable bits that a row adds.
-fn row_bits(row: Row) -> u32
+pub fn row_bits(row: Row) -> u32
     ensures { λ r. ⌜ (r ≡ bitsIn row) × (r ≤ 65535) ⌝ }
 {
     let kind = row.kind;
@@ -409,6 +409,43 @@ pub fn narrow(x: usize) -> u16
     ensures { λ r. ⌜ r ≡ x % 65536 ⌝ }
 {
     (x % 65536) as u16
+}
+
+// x + y, wrapped.
+pub fn plus(x: u16, y: u16) -> u16
+    ensures { λ r. ⌜ r ≡ (x + y) % 65536 ⌝ }
+{
+    narrow(wide(x) + wide(y))
+}
+
+// x - y, or 0, in 16 bits.
+pub fn difference(x: u16, y: u16) -> u16
+    ensures { λ r. ⌜ r ≡ x - y ⌝ }
+{
+    if x < y {
+        return 0;
+    }
+    x - y
+}
+
+// x - y, or 0.
+pub fn minus(x: usize, y: usize) -> usize
+    ensures { λ r. ⌜ r ≡ x - y ⌝ }
+{
+    if x < y {
+        return 0;
+    }
+    x - y
+}
+
+// The lesser of two numbers.
+pub fn lesser(a: usize, b: usize) -> usize
+    ensures { λ r. ⌜ (r ≡ min a b) × (r ≤ b) ⌝ }
+{
+    if a < b {
+        return a;
+    }
+    b
 }
 
 // The check of a table. `widths` has room for 512 numbers, and afterwards the width of each row that was passed.

@@ -8,7 +8,7 @@ use Rattle.forms.proofs.merge.Statement.{statement}
 use Rattle.forms.proofs.merge.Tie as tie
 use Rattle.forms.proofs.merge.Reads as reads
 use Rattle.forms.proofs.merge.Lts as lts
-use Rattle.forms.proofs.plus.Reads as plus-reads
+use Rattle.terms.proofs.plus.Reads as plus-reads
 
 plus-requires : tie.Need-plus-requires
 plus-requires c κs = search needs

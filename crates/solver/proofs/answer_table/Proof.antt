@@ -10,7 +10,7 @@ use Rattle.terms.specs.Table.{rowsOf, bitsOf, countUp}
 use Rattle.terms.proofs.AcceptedTable.{accepted-table}
 use Rattle.terms.proofs.Faults.{totals-small}
 use Rattle.forms.proofs.Numbering.{numbers-left}
-use Rattle.solver.specs.Sides.{Prepared}
+use Rattle.sides.specs.Sides.{Prepared}
 use Rattle.solver.specs.Equations.{unlinked}
 use Rattle.solver.proofs.ShortCopy.{copy-length, copy-accepted, copy-bits, copy-prepared, copy-taken}
 use borrow.Author.Needs.{needs}
@@ -20,7 +20,7 @@ use Rattle.solver.proofs.answer_table.Reads as reads
 use Rattle.solver.proofs.answer_table.Lts as lts
 use Rattle.forms.proofs.number.Reads as number-reads
 use Rattle.solver.proofs.conclude.Reads as conclude-reads
-use Rattle.solver.proofs.shorten.Reads as shorten-reads
+use Rattle.sides.proofs.shorten.Reads as shorten-reads
 use Rattle.solver.proofs.take_equations.Reads as take-equations-reads
 use Rattle.solver.proofs.unlink.Reads as unlink-reads
 

@@ -15,8 +15,8 @@ use Rattle.solver.proofs.conclude.Tie as tie
 use Rattle.solver.proofs.conclude.Reads as reads
 use Rattle.solver.proofs.conclude.Lts as lts
 use Rattle.classes.proofs.settle.Reads as settle-reads
-use Rattle.solver.proofs.minus.Reads as minus-reads
-use Rattle.solver.proofs.put_rows.Reads as put-rows-reads
+use Rattle.terms.proofs.minus.Reads as minus-reads
+use Rattle.borders.proofs.put_rows.Reads as put-rows-reads
 use Rattle.solver.proofs.short.Reads as short-reads
 use Rattle.terms.proofs.complete.Reads as complete-reads
 

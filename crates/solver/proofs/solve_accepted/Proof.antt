@@ -14,8 +14,8 @@ use Rattle.solver.proofs.solve_accepted.Tie as tie
 use Rattle.solver.proofs.solve_accepted.Reads as reads
 use Rattle.solver.proofs.solve_accepted.Lts as lts
 use Rattle.solver.proofs.answer_table.Reads as answer-table-reads
-use Rattle.solver.proofs.lesser.Reads as lesser-reads
-use Rattle.solver.proofs.low_sources.Reads as low-sources-reads
+use Rattle.terms.proofs.lesser.Reads as lesser-reads
+use Rattle.sides.proofs.low_sources.Reads as low-sources-reads
 
 -- src/lib.rt:350:35
 slice-aggregate-low-sources : tie.Need-slice-aggregate-low-sources

@@ -13,7 +13,7 @@ use Rattle.terms.proofs.Rows.{rows-length}
 use Rattle.answers.specs.Pairs.{Pair}
 use Rattle.answers.specs.Classes.{rep, run}
 use Rattle.classes.specs.Links.{numberOf, rootsOf, PairTaken}
-use Rattle.solver.specs.Sides.{Prepared, SidesRead, pairsFrom}
+use Rattle.sides.specs.Sides.{Prepared, SidesRead, pairsFrom}
 use Rattle.solver.specs.Equations.{unlinked, EquationsTaken}
 use Rattle.solver.proofs.Taking.{Taking, taking-first, taking-to, taking-conflict, Between, between-first, between-more, between-conflict, between-done}
 use Rattle.solver.proofs.take_equations.Statement.{statement}
@@ -21,8 +21,8 @@ use Rattle.solver.proofs.take_equations.Tie as tie
 use Rattle.solver.proofs.take_equations.Reads as reads
 use Rattle.solver.proofs.take_equations.Lts as lts
 use Rattle.classes.proofs.take_pair.Reads as take-pair-reads
-use Rattle.solver.proofs.equation_pairs.Reads as equation-pairs-reads
-use Rattle.solver.proofs.lesser.Reads as lesser-reads
+use Rattle.sides.proofs.equation_pairs.Reads as equation-pairs-reads
+use Rattle.terms.proofs.lesser.Reads as lesser-reads
 use Rattle.terms.proofs.load.Reads as load-reads
 
 -- what the promise asks for

@@ -1,0 +1,168 @@
+/* report.c -- see report.h */
+
+#include "report.h"
+
+#include <stdio.h>
+
+/* Figures as text, which is kept for the next few only. */
+
+enum { TEXT = 32, TEXTS = 16 };
+
+static char *new_text(void)
+{
+    static char texts[TEXTS][TEXT];
+    static size_t next;
+    return texts[next++ % TEXTS];
+}
+
+static const char *whole(size_t n)
+{
+    char *text = new_text();
+    if (n < 1000)
+        snprintf(text, TEXT, "%zu", n);
+    else if (n < 1000000)
+        snprintf(text, TEXT, "%zu,%03zu", n / 1000, n % 1000);
+    else
+        snprintf(text, TEXT, "%zu,%03zu,%03zu", n / 1000000, n / 1000 % 1000, n % 1000);
+    return text;
+}
+
+/* About three digits. */
+static const char *figure(double x)
+{
+    if (x >= 99.95)
+        return whole((size_t)(x + 0.5));
+    char *text = new_text();
+    snprintf(text, TEXT, "%.*f", x >= 9.995 ? 1 : x >= 0.0995 ? 2 : 3, x);
+    return text;
+}
+
+static const char *micro(double time)
+{
+    return figure(1e6 * time);
+}
+
+static const char *milli(double time)
+{
+    return figure(1e3 * time);
+}
+
+/* The report. */
+
+void print_subjects(const subject *in, size_t count)
+{
+    static const char *const outcomes[] = {"always", "never", "solved"};
+
+    printf("## Tables\n\n");
+    for (size_t k = 0; k < count; k++)
+        printf("- %s: %s\n", in[k].name, in[k].says);
+    printf("\n| table | variable bits | rows | equations | pairs | outcome | pieces | fresh | free | ties |\n");
+    printf("|---|---:|---:|---:|---:|---|---:|---:|---:|---:|\n");
+    for (size_t k = 0; k < count; k++) {
+        lw_record r = in[k].record;
+        printf("| %s | %s | %zu | %zu | %s | %s ", in[k].name, whole(in[k].d.bits), in[k].d.rows, in[k].d.equations,
+               whole(in[k].pairs), outcomes[r.outcome]);
+        printf("| %s | %s | %s | %s |\n", whole(r.pieces), whole(r.fresh), whole(r.free), whole(r.ties));
+    }
+}
+
+/* One row, with the fixed part of the time. Whether the goal is met, if there is one. */
+static bool print_ratio(subject *in, double fixed, double goal)
+{
+    double solve = median(&in->solve), ties = median(&in->ties);
+
+    printf("| %s | %s | %s ", in->name, micro(solve), micro(ties));
+    if (in->pairs == 0) {
+        printf("| | | | |\n");
+        return true;
+    }
+    printf("| %s | %s | %s %% |", figure(solve / ties), figure(quartile(&in->solve, 0) / quartile(&in->ties, 0)),
+           figure(100 * fixed / solve));
+    if (in->for_goal)
+        printf(" at most %.1f: %s", goal, solve <= goal * ties ? "met" : "MISSED");
+    printf(" |\n");
+    return !in->for_goal || solve <= goal * ties;
+}
+
+bool print_ties(subject *in, size_t count, double goal)
+{
+    double empty = median(&in[0].solve), fixed = median(&in[1].solve);
+    bool met = true;
+
+    printf("\n## Against the plain union-find\n\n");
+    printf("| table | `lw_solve`, µs | union-find, µs | ratio | ratio of best times | fixed part | goal |\n");
+    printf("|---|---:|---:|---:|---:|---:|---|\n");
+    for (size_t k = 0; k < count; k++)
+        met &= print_ratio(&in[k], fixed, goal);
+    printf("\nThe fixed part is the time for the table %s, %s µs; the empty table, which needs no answer, has %s µs.\n"
+           "It is there whatever a table holds: the work area's 16,384 numbers are left 0, and arrays on the stack\n"
+           "start as 0. The union-find has no such part, looks at no rows and writes no answer. So the ratio is\n"
+           "greater where pairs are few.\n",
+           in[1].name, micro(fixed), micro(empty));
+    return met;
+}
+
+/* One row. A difference that spreads by as much as itself is not printed. */
+static void print_z3_row(subject *in)
+{
+    double solve = median(&in->solve), time = median(&in->z3), alone = median(&in->z3_alone);
+
+    printf("| %s | %s | %s ", in->name, micro(solve), milli(time));
+    if (in->pairs == 0)
+        printf("| | | |\n");
+    else if (alone <= quartile(&in->z3_alone, 3) - quartile(&in->z3_alone, 1))
+        printf("| %s | in the noise | in the noise |\n", figure(time / solve));
+    else
+        printf("| %s | %s | %s |\n", figure(time / solve), milli(alone), figure(alone / solve));
+}
+
+void print_z3(subject *in, size_t count, bool z3)
+{
+    printf("\n## Against z3\n\n");
+    printf("| table | `lw_solve`, µs | z3, ms | z3 / `lw_solve` | z3 without its start, ms | that / `lw_solve` |\n");
+    printf("|---|---:|---:|---:|---:|---:|\n");
+    for (size_t k = 0; k < count; k++)
+        if (z3)
+            print_z3_row(&in[k]);
+        else
+            printf("| %s | %s | not measured | not measured | not measured | not measured |\n", in[k].name,
+                   micro(median(&in[k].solve)));
+    if (z3)
+        printf("\nz3 ran %zu times on each table, in every %dth round. Its time for the empty table is its start. A\n"
+               "time without it is in the noise if the middle half of the differences spreads by as much as their\n"
+               "median.\n",
+               in[0].z3.count, Z3_EVERY);
+}
+
+static double amount(const growth *g, size_t k)
+{
+    return (double)(g->by_rows ? g->steps[k].rows : g->steps[k].pairs);
+}
+
+bool print_growth(growth *g)
+{
+    const char *what = g->by_rows ? "rows" : "pairs";
+    size_t last = g->count - 1;
+
+    printf("\n### %s\n\n%s\n\n", g->title, g->says);
+    printf("| %s | rows | pairs | `lw_solve`, µs | time / step before | %s / step before |\n", g->unit, what);
+    printf("|---:|---:|---:|---:|---:|---:|\n");
+    for (size_t k = 0; k < g->count; k++) {
+        double time = median(&g->steps[k].solve);
+        printf("| %s | %zu | %s | %s ", whole(g->steps[k].size), g->steps[k].rows, whole(g->steps[k].pairs),
+               micro(time));
+        if (k == 0)
+            printf("| | |\n");
+        else
+            printf("| %.2f | %.2f |\n", time / median(&g->steps[k - 1].solve), amount(g, k) / amount(g, k - 1));
+    }
+
+    double time = median(&g->steps[last].solve) / median(&g->steps[0].solve), more = amount(g, last) / amount(g, 0);
+    printf("\nFrom %s to %s %s it takes %.2f times the time, for %.2f times the %s: %s than the %s.",
+           whole(g->steps[0].size), whole(g->steps[last].size), g->unit, time, more, what,
+           time <= more ? "no faster" : "FASTER", what);
+    if (g->goal > 0)
+        printf("\nGoal at most %.1f times: %s.", g->goal, time <= g->goal ? "met" : "MISSED");
+    printf("\n");
+    return g->goal <= 0 || time <= g->goal;
+}

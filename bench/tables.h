@@ -1,0 +1,189 @@
+/*
+  tables.h -- the tables of the benchmark
+
+  They are the same in each run, and each is met by some pattern. In the largest
+  ones the equations are the last rows, so that fewer of them are a shorter table.
+*/
+
+#ifndef TABLES_H
+#define TABLES_H
+
+#include "linkwords.h"
+#include "random_table.h"
+
+enum { EQUATIONS = 64, WIDTH = 1024 };
+
+/* Rows. */
+
+static inline void variables(draft *d, size_t count, size_t width)
+{
+    while (d->variables < count)
+        add_row(d, width, VARIABLE(width));
+}
+
+static inline size_t join(draft *d, size_t a, size_t b)
+{
+    return add_row(d, d->width[a] + d->width[b], JOIN(a, b));
+}
+
+static inline size_t cut(draft *d, size_t a, size_t high, size_t low)
+{
+    return add_row(d, high - low + 1, CUT(a, high, low));
+}
+
+/* Rows from v on joined two by two, four by four and so on; count is a power of 2, up to 16. */
+static inline size_t doubled(draft *d, size_t v, size_t count)
+{
+    size_t words[16];
+    for (size_t i = 0; i < count; i++)
+        words[i] = v + i;
+    for (; count != 1; count /= 2)
+        for (size_t i = 0; i < count / 2; i++)
+            words[i] = join(d, words[2 * i], words[2 * i + 1]);
+    return words[0];
+}
+
+/* A word turned: cut at an odd place, its low part before its high part. */
+static inline size_t turned(draft *d, size_t word)
+{
+    size_t width = d->width[word], at = 2 * below(width / 2) + 1, low = cut(d, word, at - 1, 0);
+    return join(d, low, cut(d, word, width - 1, at));
+}
+
+/* 64 equations between sides, each of two different ones. */
+static inline void equate(draft *d, const size_t *sides, size_t count)
+{
+    for (size_t e = 0; e < EQUATIONS; e++) {
+        size_t a = below(count), b = (a + 1 + below(count - 1)) % count;
+        add_row(d, 0, EQUATION(sides[a], sides[b]));
+    }
+}
+
+/* Tables. The second argument is a width, a number of cuts, or whatever else the table is to have. */
+
+static inline void make_empty(draft *d, size_t none)
+{
+    (void)d, (void)none;
+}
+
+/* A variable that is a fill. */
+static inline void make_fixed(draft *d, size_t width)
+{
+    add_row(d, width, VARIABLE(width));
+    add_row(d, width, FILL(0, width));
+    add_row(d, 0, EQUATION(0, 1));
+}
+
+/* A variable whose bits but the highest and the lowest repeat after two. */
+static inline void make_overlap(draft *d, size_t width)
+{
+    variables(d, 1, width);
+    size_t left = cut(d, 0, width - 2, 3), right = cut(d, 0, width - 4, 1);
+    add_row(d, 0, EQUATION(left, right));
+}
+
+/*
+  Pixels, and as many link words, all of 16 bits. Two neighbouring link words
+  hold the low part of a pixel, cut at an odd place, the next pixel, and the high
+  part of the one behind. Each eighth link word is also a marker, 101, before the
+  low bits of a pixel that is sent again.
+*/
+static inline void make_link(draft *d, size_t pixels)
+{
+    variables(d, 2 * pixels, 16);
+    for (size_t p = 0; p < pixels; p += 2) {
+        size_t at = (5 * p + 1) % 16, low = cut(d, p, at - 1, 0), high = cut(d, (p + 2) % pixels, 15, at);
+        size_t carried = join(d, join(d, low, p + 1), high), words = join(d, pixels + p, pixels + p + 1);
+        add_row(d, 0, EQUATION(words, carried));
+    }
+    size_t one = add_row(d, 1, FILL(1, 1)), zero = add_row(d, 1, FILL(0, 1));
+    size_t marker = join(d, join(d, one, zero), one);
+    for (size_t p = 0; p < pixels; p += 8) {
+        size_t marked = join(d, marker, cut(d, p + 5, 12, 0));
+        add_row(d, 0, EQUATION(pixels + p, marked));
+    }
+}
+
+/*
+  64 variables of 64 bits, all of them in doubled words of the width, and words
+  turned at odd places, one out of another, as many as there are rows for.
+*/
+static inline void make_turned(draft *d, size_t width)
+{
+    size_t sides[512], count = 0, words = width / 64;
+
+    seed = 20240229; /* the same numbers for each width */
+    variables(d, 64, 64);
+    for (size_t v = 0; v < 64; v += words)
+        sides[count++] = doubled(d, v, words);
+    while (d->rows + 3 <= LW_MAX_ROWS - EQUATIONS) {
+        sides[count] = turned(d, sides[below(count)]);
+        count++;
+    }
+    equate(d, sides, count);
+}
+
+/*
+  A doubled word under cuts, which leave 512 bits of it, one or two less at one
+  end each; these joined with 512 bits of a doubled word, cut at odd places.
+*/
+static inline void make_chained(draft *d, size_t cuts)
+{
+    size_t sides[512], count = 0, chain, other;
+
+    variables(d, 64, 64);
+    chain = doubled(d, 0, 16);
+    other = doubled(d, 16, 16);
+    for (size_t i = 0; i < cuts; i++) {
+        size_t less = i < 512 - cuts ? 2 : 1, high = d->width[chain] - 1;
+        chain = one_in(2) ? cut(d, chain, high - less, 0) : cut(d, chain, high, less);
+    }
+    while (d->rows + 2 <= LW_MAX_ROWS - EQUATIONS) {
+        size_t low = 2 * below(256) + 1, half = cut(d, other, low + 511, low);
+        sides[count++] = one_in(2) ? join(d, chain, half) : join(d, half, chain);
+    }
+    equate(d, sides, count);
+}
+
+/* A variable under cuts of all its bits, joined with itself to 1024 bits, and that turned at odd places. */
+static inline void make_copied(draft *d, size_t cuts)
+{
+    size_t sides[512], count = 0, word = 0;
+
+    variables(d, 64, 64);
+    for (size_t i = 0; i < cuts; i++)
+        word = cut(d, word, 63, 0);
+    while (d->width[word] < WIDTH)
+        word = join(d, word, word);
+    sides[count++] = word;
+    while (d->rows + 3 <= LW_MAX_ROWS - EQUATIONS)
+        sides[count++] = turned(d, word);
+    equate(d, sides, count);
+}
+
+/*
+  The middle 512 bits of a doubled word, left by up to 400 cuts, each of which
+  takes some from one end or from both; these joined with 512 bits of a doubled
+  word, cut at odd places. The bits of the sides do not depend on the cuts.
+*/
+static inline void make_deep(draft *d, size_t cuts)
+{
+    size_t sides[17], count = 0, chain, other, from = 0;
+
+    seed = 20240229;
+    variables(d, 8, 256);
+    chain = doubled(d, 0, 4);
+    other = doubled(d, 4, 4);
+    for (size_t i = 1; i <= cuts; i++) {
+        size_t gone = 512 * i / cuts, next = gone / 2, high = WIDTH - (gone - next) - 1 - from;
+        chain = cut(d, chain, high, next - from);
+        from = next;
+    }
+    while (count < 17) {
+        size_t low = 2 * below(256) + 1, half = cut(d, other, low + 511, low);
+        sides[count++] = one_in(2) ? join(d, chain, half) : join(d, half, chain);
+    }
+    equate(d, sides, count);
+}
+
+#endif /* TABLES_H */

@@ -1,0 +1,111 @@
+-- What the functions of one place compute, from what they read.
+use mathlib.Core.Path.{_≡_, sym, ap, ap₂, _∙_}
+use mathlib.Core.Logic.{_≢_}
+use mathlib.Core.Bool.{true, false, cond}
+use mathlib.Core.List.{List}
+use Prim.Native.Nat.{ℕ, suc, _+_, _-_, _*_, _%_, _≤_, _<_, min}
+use native.Mathlib.Omega.{arith}
+use lib.Dec.{eqb}
+use lib.ListN.{getD, set}
+use borrow.Author.Tests.{eq-eqb, ne-eqb, lt-ltb, le-ltb}
+use Rattle.answers.specs.Classes.{rep}
+use Rattle.borders.specs.declared.Progress.{Progress}
+use Rattle.borders.specs.Borders.{besideIn, unevenWith, goesIn, numberIn, stepIn, rowWritten}
+
+-- the neighbour of a place
+module _ (m c : List ℕ) (side k a b x : ℕ) (ea : a ≡ k) (eb : b ≡ side) (ex : x ≡ getD m (a + b) 0) where
+  pub beside-open : x ≡ 0 → (s y : ℕ) → s ≡ side → y ≡ getD c (a + b + s + 1) 0 → y ≡ besideIn m c side k
+  unfolding besideIn
+  beside-open o s y es ey =
+      let f : getD m (k + side) 0 ≡ 0 = ap₂ (λ (i j : ℕ). getD m (i + j) 0) (sym ea) (sym eb) ∙ sym ex ∙ o in
+      let e : a + b + s + 1 ≡ k + side + side + 1 = omega arith in
+      rw (eq-eqb (getD m (k + side) 0) 0 f) (ey ∙ ap (λ (i : ℕ). getD c i 0) e)
+
+  pub beside-shut : x ≢ 0 → 0 ≡ besideIn m c side k
+  unfolding besideIn
+  beside-shut o =
+      let f : x ≡ getD m (k + side) 0 = ex ∙ ap₂ (λ (i j : ℕ). getD m (i + j) 0) ea eb in
+      rw (ne-eqb (getD m (k + side) 0) 0 (λ e. o (f ∙ e)))
+
+-- a mark for the representative of a place
+pub place-marked : (m c u u′ : List ℕ) (side k w r r2 h l at old x : ℕ) → w ≡ k → r ≡ getD c (w + 2) 0 → h ≡ besideIn m c side k
+    → r2 ≡ r - 2 → l ≡ besideIn m c side r2 → at ≡ r → old ≡ getD u at 0 → x ≡ cond (eqb h l) old 1 → u′ ≡ set u at x
+    → u′ ≡ unevenWith m c side k u
+unfolding unevenWith
+place-marked m c u u′ side k w r r2 h l at old x ew er eh e2 el ea eo ex eu =
+    let i : w + 2 ≡ suc (suc k) = omega arith in
+    let f : r ≡ rep c (suc (suc k)) = er ∙ ap (rep c) i in
+    rw (← f, ← e2, ← eh, ← el, ← ea, ← eo, ← ex) eu
+
+-- whether a place goes on
+module _ (m c af be : List ℕ) (i at x : ℕ) (et : at ≡ i) (ex : x ≡ getD m at 0) where
+  read-mark : getD m i 0 ≡ x
+  read-mark = ap (λ (j : ℕ). getD m j 0) (sym et) ∙ sym ex
+
+  pub goes-begin : x ≢ 0 → false ≡ goesIn m c af be i
+  unfolding goesIn
+  goes-begin o = rw (read-mark, ne-eqb x 0 o)
+
+  module _ (o : x ≡ 0) (a b : ℕ) (ea : a ≡ getD c (at + 1) 0) (eb : b ≡ getD c (at + 2) 0) where
+    read-a : rep c (suc i) ≡ a
+    read-a = let e : suc i ≡ at + 1 = omega arith in ap (rep c) e ∙ sym ea
+
+    read-b : rep c (suc (suc i)) ≡ b
+    read-b = let e : suc (suc i) ≡ at + 2 = omega arith in ap (rep c) e ∙ sym eb
+
+    pub goes-alike : b < 2 → a ≡ b → true ≡ goesIn m c af be i
+    unfolding goesIn
+    goes-alike l e = rw (read-mark, eq-eqb x 0 o, read-b, lt-ltb b 2 l, read-a, eq-eqb a b e)
+
+    pub goes-unlike : b < 2 → a ≢ b → false ≡ goesIn m c af be i
+    unfolding goesIn
+    goes-unlike l e = rw (read-mark, eq-eqb x 0 o, read-b, lt-ltb b 2 l, read-a, ne-eqb a b e)
+
+    pub goes-low : 2 ≤ b → a < 2 → false ≡ goesIn m c af be i
+    unfolding goesIn
+    goes-low l h = rw (read-mark, eq-eqb x 0 o, read-b, le-ltb b 2 l, read-a, lt-ltb a 2 h)
+
+    module _ (l : 2 ≤ b) (h : 2 ≤ a) (s y : ℕ) (es : s ≡ a) (ey : y ≡ getD af s 0) where
+      read-y : getD af a 0 ≡ y
+      read-y = ap (λ (j : ℕ). getD af j 0) (sym es) ∙ sym ey
+
+      pub goes-after : y ≢ 0 → false ≡ goesIn m c af be i
+      unfolding goesIn
+      goes-after n = rw (read-mark, eq-eqb x 0 o, read-b, le-ltb b 2 l, read-a, le-ltb a 2 h, read-y, ne-eqb y 0 n)
+
+      module _ (n : y ≡ 0) (t z : ℕ) (e3 : t ≡ b) (ez : z ≡ getD be t 0) where
+        read-z : getD be b 0 ≡ z
+        read-z = ap (λ (j : ℕ). getD be j 0) (sym e3) ∙ sym ez
+
+        pub goes-before : z ≢ 0 → false ≡ goesIn m c af be i
+        unfolding goesIn
+        goes-before q = rw (read-mark, eq-eqb x 0 o, read-b, le-ltb b 2 l, read-a, le-ltb a 2 h, read-y, eq-eqb y 0 n, read-z, ne-eqb z 0 q)
+
+        pub goes-both : z ≡ 0 → true ≡ goesIn m c af be i
+        unfolding goesIn
+        goes-both q = rw (read-mark, eq-eqb x 0 o, read-b, le-ltb b 2 l, read-a, le-ltb a 2 h, read-y, eq-eqb y 0 n, read-z, eq-eqb z 0 q)
+
+-- one place more
+module _ (m c af be numbers : List ℕ) (p : Progress) (i at x begun : ℕ) (et : at ≡ i) (ex : x ≡ getD m at 0) (eb : begun ≡ (p .begun + x) % 65536) where
+  begun-is : begun ≡ (p .begun + getD m i 0) % 65536
+  begun-is = eb ∙ ap (λ (y : ℕ). (p .begun + y) % 65536) (ex ∙ ap (λ (j : ℕ). getD m j 0) et)
+
+  pub step-on : goesIn m c af be i ≡ true → (width : ℕ) → width ≡ (p .width + 1) % 65536
+      → record { begun = begun; rows = p .rows; fresh = p .fresh; variable = p .variable; kind = p .kind; width = width; number = p .number } ≡ stepIn m c af be numbers p i
+  unfolding stepIn
+  step-on g width ew = rw (g, ← begun-is, ← ew)
+
+  pub step-new : goesIn m c af be i ≡ false → (r rows own fresh variable kind number : ℕ) → r ≡ getD c (at + 2) 0 → rows ≡ (p .rows + 1) % 65536
+      → own ≡ cond (eqb r (suc (suc i))) 1 0 → fresh ≡ (p .fresh + own) % 65536 → variable ≡ begun - 1 → kind ≡ min r 2 → number ≡ numberIn numbers r
+      → record { begun = begun; rows = rows; fresh = fresh; variable = variable; kind = kind; width = 1; number = number } ≡ stepIn m c af be numbers p i
+  unfolding stepIn
+  step-new g r rows own fresh variable kind number er e1 e2 e3 e4 e5 e6 =
+      let e : at + 2 ≡ suc (suc i) = omega arith in
+      let f : rep c (suc (suc i)) ≡ r = ap (rep c) (sym e) ∙ sym er in
+      rw (g, f, ← begun-is, ← e1, ← e2, ← e3, ← e4, ← e5, ← e6)
+
+-- the last row written
+pub row-put : (a a1 a2 a3 a4 : List ℕ) (p : Progress) (j at : ℕ) → j ≡ p .rows - 1 → at ≡ j → a1 ≡ set a (at * 4) (p .variable)
+    → a2 ≡ set a1 (at * 4 + 1) (p .kind) → a3 ≡ set a2 (at * 4 + 2) (p .width) → a4 ≡ set a3 (at * 4 + 3) (p .number) → a4 ≡ rowWritten a p
+unfolding rowWritten
+row-put a a1 a2 a3 a4 p j at ej et e1 e2 e3 e4 = let e : p .rows - 1 ≡ at = sym (et ∙ ej) in rw (e, ← e1, ← e2, ← e3) e4

@@ -1,0 +1,192 @@
+-- Cases 3, 4, 7, 8 and 9 at every width of 1 to 1,024, and two tables that are solved at every such width. Assumes nothing.
+use mathlib.Core.Path.{_≡_, refl, sym, _∙_, ap}
+use mathlib.Core.Bool.{true, and-true}
+use mathlib.Core.List.{List, [], _∷_, _++_}
+use mathlib.Core.Logic.{_⊎_}
+use Prim.Native.Nat.{ℕ, zero, suc, _+_, _-_, _^_, _≤_, _<_}
+use native.Mathlib.Omega.{arith}
+use lib.ListN.{length, getD, take, replicate, length-replicate}
+use lib.Seq.{take-all}
+use borrow.Author.Tests.{le-ltb, lt-ltb, eq-eqb, ne-eqb}
+use Rattle.terms.specs.declared.Fault.the-variants.{Accepted}
+use Rattle.terms.specs.Calls.{faultRecord}
+use Rattle.terms.specs.Faults.{absent, isAccepted, firstFault, breaks11, lowestFault, faultAt, firstRule, breaks12, breaks13, breaks14, breaks15, breaks16, breaks17, breaks18, unusedColumn, misnamed, notTerm, wrongWidth, outside, wrongBounds, tooMany, unequalSides}
+use Rattle.terms.specs.Table.{rowsOf, byKind, byRows, widthIn, widthsOf, bitsIn, bitsOf, countKind, extract, valueIn, valuesOf, sameWord, sidesAgree, allRows, satisfies}
+use Rattle.terms.proofs.Assignments.{assignment-length}
+use Rattle.terms.proofs.Bounds.{variable-accepted, variable-refused, cut-accepted, cut-refused}
+use Rattle.terms.proofs.Satisfies.{same-word, word-same}
+use Rattle.terms.proofs.Words.{extract-bit, extract-replicate}
+use Rattle.forms.specs.Form.{part, formOf, numbersOf}
+use Rattle.forms.proofs.Theorems.{cut-and-joined}
+use Rattle.answers.specs.Answer.{variableWidths}
+use Rattle.answers.specs.Solve.{alwaysRecord}
+use Rattle.answers.proofs.WorkedCases.{itself, itself-always, fills, fills-never}
+use Rattle.cases.specs.Cases.{Solved, Refused, Form, Holds, row, times, figures}
+use Rattle.cases.proofs.Holding.{met-by-all, solved-case, refused-case, form-case}
+use Rattle.cases.proofs.OneWord.{all-alike, zeros-alone, alike-alone}
+
+-- A variable equal to a fill of zeros; one whose bits but the lowest are equal to its bits but the highest, so that each bit is equal to
+-- the next; one that is cut at bit k and joined again.
+abbrev pub filled : ℕ → List ℕ
+filled w = row 0 w 0 0 ++ row 1 0 w 0 ++ row 4 0 1 0
+
+abbrev pub chained : ℕ → List ℕ
+chained w = row 0 w 0 0 ++ row 3 0 (w - 1) 1 ++ row 3 0 (w - 2) 0 ++ row 4 1 2 0
+
+abbrev pub joined : ℕ → ℕ → List ℕ
+joined w k = row 0 w 0 0 ++ row 3 0 (w - 1) k ++ row 3 0 (k - 1) 0 ++ row 2 1 2 0
+
+module _ (w : ℕ) (least : 1 ≤ w) (most : w ≤ 1024) where
+  -- these tables break no rule
+  itself-accepted : firstFault (row 0 w 0 0 ++ row 4 0 0 0) ≡ Accepted
+  unfolding rowsOf byKind byRows widthIn widthsOf bitsIn bitsOf countKind breaks11 breaks12 breaks13 breaks14 breaks15 breaks16 breaks17 breaks18 unusedColumn notTerm misnamed outside wrongWidth wrongBounds tooMany unequalSides firstRule faultAt lowestFault firstFault
+  itself-accepted = rw (ne-eqb w 0 (λ e. omega arith), le-ltb 1024 w most, le-ltb 4096 (w + 0) (omega arith), eq-eqb w w refl)
+
+  fills-accepted : firstFault (row 1 0 w 0 ++ row 1 1 w 0 ++ row 4 0 1 0) ≡ Accepted
+  unfolding rowsOf byKind byRows widthIn widthsOf bitsIn bitsOf countKind breaks11 breaks12 breaks13 breaks14 breaks15 breaks16 breaks17 breaks18 unusedColumn notTerm misnamed outside wrongWidth wrongBounds tooMany unequalSides firstRule faultAt lowestFault firstFault
+  fills-accepted = rw (ne-eqb w 0 (λ e. omega arith), le-ltb 1024 w most, eq-eqb w w refl)
+
+  filled-accepted : firstFault (filled w) ≡ Accepted
+  unfolding rowsOf byKind byRows widthIn widthsOf bitsIn bitsOf countKind breaks11 breaks12 breaks13 breaks14 breaks15 breaks16 breaks17 breaks18 unusedColumn notTerm misnamed outside wrongWidth wrongBounds tooMany unequalSides firstRule faultAt lowestFault firstFault
+  filled-accepted = rw (ne-eqb w 0 (λ e. omega arith), le-ltb 1024 w most, le-ltb 4096 (w + 0) (omega arith), eq-eqb w w refl)
+
+  bits-are : w + 0 ≡ w
+  bits-are = omega arith
+
+  -- Case 3: a variable equal to itself.
+  pub itself-any : Holds (Solved (row 0 w 0 0 ++ row 4 0 0 0) (figures 0 0 0 w 0 0) [] (2 ^ w))
+  unfolding itself
+  itself-any = solved-case (itself w) (figures 0 0 0 w 0 0) itself-accepted (itself-always w) [] refl
+
+  -- Case 4: fill 0 equal to fill 1.
+  pub fills-any : Holds (Solved (row 1 0 w 0 ++ row 1 1 w 0 ++ row 4 0 1 0) (figures 1 0 0 0 0 2) [] 0)
+  unfolding fills
+  fills-any = solved-case (fills w) (figures 1 0 0 0 0 2) fills-accepted (fills-never w least) [] refl
+
+  -- Case 7: a variable.
+  pub variable-any : Holds (Solved (row 0 w 0 0) (figures 0 0 0 w 0 0) [] (2 ^ w))
+  unfolding rowsOf bitsOf bitsIn byKind satisfies allRows sidesAgree
+  variable-any =
+      solved-case (row 0 w 0 0) (figures 0 0 0 w 0 0) (variable-accepted w least most)
+      (met-by-all (row 0 w 0 0) (λ p. refl) ∙ ap alwaysRecord bits-are) [] refl
+
+  -- A variable equal to a fill of zeros: a pattern's bits against zeros.
+  filled-sides : (p : List ℕ) → length p ≡ w → satisfies (rowsOf (filled w)) p ≡ sameWord p (replicate w 0)
+  unfolding rowsOf bitsOf bitsIn byKind satisfies allRows sidesAgree valuesOf byRows valueIn
+  filled-sides p e =
+      and-true (sameWord (take w p) (replicate w 0))
+      ∙ ap (λ (word : List ℕ). sameWord word (replicate w 0)) (take-all w p (omega (arith, e)))
+
+  pub filled-any : Holds (Solved (filled w) (figures 2 1 0 0 w 0) (row 0 0 w 0) 1)
+  unfolding rowsOf bitsOf bitsIn byKind variableWidths
+  filled-any =
+      zeros-alone (filled w) w least filled-accepted bits-are refl
+      (λ p a e i l.
+      let zeros : p ≡ replicate w 0 = same-word p (replicate w 0) (sym (filled-sides p (assignment-length a)) ∙ e) in
+      ap (λ (word : List ℕ). getD word i 0) zeros ∙ all-alike w 0 i l)
+      (filled-sides (replicate w 0) (length-replicate w 0) ∙ word-same (replicate w 0))
+
+  -- A variable with each bit equal to the next: a pattern's bits but the last against its bits but the first.
+  module _ (two : 2 ≤ w) where
+    chained-accepted : firstFault (chained w) ≡ Accepted
+    unfolding rowsOf byKind byRows widthIn widthsOf bitsIn bitsOf countKind breaks11 breaks12 breaks13 breaks14 breaks15 breaks16 breaks17 breaks18 unusedColumn notTerm misnamed outside wrongWidth wrongBounds tooMany unequalSides firstRule faultAt lowestFault firstFault
+    chained-accepted =
+        let sides : w - 1 + 1 - 1 ≡ w - 2 + 1 - 0 = omega arith in
+        rw (
+          ne-eqb w 0 (λ e. omega arith),
+          le-ltb 1024 w most,
+          le-ltb 4096 (w + 0) (omega arith),
+          lt-ltb (w - 1) w (omega arith),
+          le-ltb (w - 1) 1 (omega arith),
+          lt-ltb (w - 2) w (omega arith),
+          le-ltb (w - 2) 0 (omega arith),
+          eq-eqb (w - 1 + 1 - 1) (w - 2 + 1 - 0) sides,
+        )
+
+    chained-sides : (p : List ℕ) → length p ≡ w
+        → satisfies (rowsOf (chained w)) p ≡ sameWord (extract p (w - 1) 1) (extract p (w - 2) 0)
+    unfolding rowsOf bitsOf bitsIn byKind satisfies allRows sidesAgree valuesOf byRows valueIn
+    chained-sides p e =
+        and-true (sameWord (extract (take w p) (w - 1) 1) (extract (take w p) (w - 2) 0))
+        ∙ ap (λ (word : List ℕ). sameWord (extract word (w - 1) 1) (extract word (w - 2) 0)) (take-all w p (omega (arith, e)))
+
+    -- each bit is equal to the first
+    first-bit : (p : List ℕ) → length p ≡ w → extract p (w - 1) 1 ≡ extract p (w - 2) 0 → (i : ℕ) → i < w → getD p i 0 ≡ getD p 0 0
+    first-bit p e h zero l = refl
+    first-bit p e h (suc i) l = next ∙ first-bit p e h i (omega arith)
+      where
+        next : getD p (suc i) 0 ≡ getD p i 0
+        next =
+            let a : length p - (w - 1 + 1) + i ≡ i = omega arith in
+            let b : length p - (w - 2 + 1) + i ≡ suc i = omega arith in
+            ap (λ (j : ℕ). getD p j 0) (sym b)
+            ∙ sym (extract-bit p (w - 2) 0 i (omega arith) (omega arith))
+            ∙ sym (ap (λ (word : List ℕ). getD word i 0) h)
+            ∙ extract-bit p (w - 1) 1 i (omega arith) (omega arith)
+            ∙ ap (λ (j : ℕ). getD p j 0) a
+
+    pub chained-any : Holds (Solved (chained w) (figures 2 w 1 1 (w - 1) 0) (times w (row 0 2 1 0)) 2)
+    unfolding rowsOf bitsOf bitsIn byKind variableWidths
+    chained-any =
+        alike-alone (chained w) w least chained-accepted bits-are refl two
+        (λ p a e.
+        let n = assignment-length a in
+        first-bit p n (same-word (extract p (w - 1) 1) (extract p (w - 2) 0) (sym (chained-sides p n) ∙ e)))
+        (λ b h. chained-sides (replicate w b) (length-replicate w b) ∙ alike-sides b)
+      where
+        alike-sides : (b : ℕ) → sameWord (extract (replicate w b) (w - 1) 1) (extract (replicate w b) (w - 2) 0) ≡ true
+        alike-sides b =
+            let n : w - 1 + 1 - 1 ≡ w - 2 + 1 - 0 = omega arith in
+            rw (extract-replicate w b (w - 1) 1 (omega arith) (omega arith), extract-replicate w b (w - 2) 0 (omega arith) (omega arith), n)
+            (word-same (replicate (w - 2 + 1 - 0) b))
+
+  -- Case 8: a cut of a variable.
+  pub cut-any : (b c : ℕ) → c ≤ b → b < w → Holds (Solved (row 0 w 0 0 ++ row 3 0 b c) (figures 0 0 0 w 0 0) [] (2 ^ w))
+  unfolding rowsOf bitsOf bitsIn byKind satisfies allRows sidesAgree
+  cut-any b c l m =
+      solved-case (row 0 w 0 0 ++ row 3 0 b c) (figures 0 0 0 w 0 0) (cut-accepted w b c least most l m)
+      (met-by-all (row 0 w 0 0 ++ row 3 0 b c) (λ p. refl) ∙ ap alwaysRecord bits-are) [] refl
+
+  pub cut-refused-any : (b c : ℕ) → (w ≤ b) ⊎ (b < c) → Holds (Refused (row 0 w 0 0 ++ row 3 0 b c) (figures 16 0 0 0 0 1))
+  cut-refused-any b c h =
+      let e = cut-refused w b c least most h in
+      refused-case (row 0 w 0 0 ++ row 3 0 b c) (figures 16 0 0 0 0 1) (ap isAccepted e) (ap faultRecord e) refl
+
+  -- Case 9: a variable cut in two and joined again.
+  module _ (k : ℕ) (low : 1 ≤ k) (high : k < w) where
+    joined-accepted : firstFault (joined w k) ≡ Accepted
+    unfolding rowsOf byKind byRows widthIn widthsOf bitsIn bitsOf countKind breaks11 breaks12 breaks13 breaks14 breaks15 breaks16 breaks17 breaks18 unusedColumn notTerm misnamed outside wrongWidth wrongBounds tooMany unequalSides firstRule faultAt lowestFault firstFault
+    joined-accepted =
+        let all : w - 1 + 1 - k + (k - 1 + 1 - 0) ≡ w = omega arith in
+        rw (
+          ne-eqb w 0 (λ e. omega arith),
+          le-ltb 1024 w most,
+          le-ltb 4096 (w + 0) (omega arith),
+          lt-ltb (w - 1) w (omega arith),
+          le-ltb (w - 1) k (omega arith),
+          lt-ltb (k - 1) w (omega arith),
+          le-ltb (k - 1) 0 (omega arith),
+          all,
+          ne-eqb w 0 (λ e. omega arith),
+          le-ltb 1024 w most,
+        )
+
+    pub joined-any : Holds (Form (joined w k) 3 (figures 0 1 0 w 0 0) (row 2 0 (w - 1) 0))
+    unfolding rowsOf byKind byRows widthIn widthsOf countKind absent notTerm numbersOf
+    joined-any =
+        form-case (joined w k) joined-accepted 3 refl (part 0 (w - 1) 0 ∷ []) form w (omega arith)
+      where
+        form : formOf (rowsOf (joined w k)) 3 ≡ part 0 (w - 1) 0 ∷ []
+        form =
+            cut-and-joined (joined w k) joined-accepted 0 (omega arith) refl
+            {x = 1} {y = 2} {k = k}
+            (record { in-table = omega arith; is-extract = refl; word-is = refl; high-is = refl; low-is = refl })
+            (record { in-table = omega arith; is-extract = refl; word-is = refl; high-is = refl; low-is = refl })
+            (record { in-table = omega arith; is-concat = refl; left-is = refl; right-is = refl })
+            low
+
+-- Case 7: a width outside 1 to 1,024.
+pub variable-refused-any : (w : ℕ) → (w ≡ 0) ⊎ (1024 < w) → Holds (Refused (row 0 w 0 0) (figures 15 0 0 0 0 0))
+variable-refused-any w h =
+    let e = variable-refused w h in
+    refused-case (row 0 w 0 0) (figures 15 0 0 0 0 0) (ap isAccepted e) (ap faultRecord e) refl

@@ -1,0 +1,4 @@
+pub mod Holding
+pub mod OneWord
+pub mod AnyWidth
+pub mod Worked

@@ -1,0 +1,6 @@
+pub mod Printing
+pub mod Lines
+pub mod Solving
+pub mod Prints
+pub mod Cases
+pub mod Theorems

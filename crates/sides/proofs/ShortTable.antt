@@ -1,0 +1,218 @@
+-- The shortened table of an accepted one is accepted, and has its widths, its sources and its bit pairs.
+use mathlib.Core.Path.{_≡_, refl, sym, _∙_, ap, ap₂}
+use mathlib.Core.Bool.{Bool, true, false}
+use mathlib.Core.List.{List, [], _++_}
+use Prim.Native.Nat.{ℕ, zero, suc, _+_, _%_, _<_, _≤_}
+use native.Mathlib.Omega.{arith}
+use lib.Dec.{eqb}
+use lib.ListN.{length, getD, take, drop, replicate}
+use lib.Seq.{ext-getD}
+use borrow.Author.Tests.{eqb-true, eqb-false, ne-eqb, eq-eqb, lt-ltb, le-ltb}
+use Rattle.terms.specs.declared.Row.{Row}
+use Rattle.terms.specs.declared.Fault.the-variants.{Accepted}
+use Rattle.terms.specs.Table.{rowsOf, rowAt, byKind, widthIn, widthsOf, widthOf, bitsOf, extract, valuesOf, valueOf, countUp, sourcesOf}
+use Rattle.terms.specs.Faults.{breaks11, breaks12, breaks13, breaks14, breaks15, breaks16, breaks17, breaks18, unusedColumn, notTerm, misnamed, wrongWidth, wrongBounds, unequalSides, firstRule, faultAt, isAccepted, lowestFault, firstFault}
+use Rattle.terms.proofs.Cases.{KindOf, is-variable, is-constant, is-concat, is-extract, is-equation, kind-of, by-strong}
+use Rattle.terms.proofs.Widths.{width-row, width-early, width-same, widths-count}
+use Rattle.terms.proofs.Faults.{AllKept, Term, Kept, kept, kept-names, concat-names}
+use Rattle.terms.proofs.Values.{Sound, values-count, value-variable, value-constant, value-concat, value-extract, value-equation, width-extract}
+use Rattle.terms.proofs.Sources.{count-up}
+use Rattle.answers.specs.Pairs.{pairsIn}
+use Rattle.sides.specs.Shortened.{shortened}
+use Rattle.sides.proofs.Alike.{AlikeRow, Alike, alike-kinds, alike-take, alike-bits, alike-count, alike-pairs, same-pairs}
+use Rattle.sides.proofs.Shortened.{short-count, short-same, CutOf, short-cut}
+
+-- a row whose tests all fail breaks no rule
+none-broken : (r : ℕ) (b12 b13 b14 b15 b16 b17 b18 : Bool) → AllKept b12 b13 b14 b15 b16 b17 b18
+    → isAccepted (firstRule r b12 b13 b14 b15 b16 b17 b18) ≡ true
+unfolding firstRule
+none-broken r b12 b13 b14 b15 b16 b17 b18 k = rw (k .kept12, k .kept13, k .kept14, k .kept15, k .kept16, k .kept17, k .kept18)
+
+unbroken : (t : List Row) (r : ℕ) → Kept t r → isAccepted (faultAt t r) ≡ true
+unfolding faultAt
+unbroken t r k = none-broken r (breaks12 t r) (breaks13 t r) (breaks14 t r) (breaks15 t r) (breaks16 t r) (breaks17 t r) (breaks18 t r) (k .row-kept)
+
+-- a table no row of which breaks a rule has no lowest fault
+none-lowest : (t : List Row) (r n : ℕ) → ((i : ℕ) → r ≤ i → i < r + n → isAccepted (faultAt t i) ≡ true) → lowestFault t r n ≡ Accepted
+unfolding lowestFault
+none-lowest t r zero h = refl
+none-lowest t r (suc n) h = rw (h r (omega arith) (omega arith)) (none-lowest t (suc r) n (λ i l m. h i (omega arith) (omega arith)))
+
+pub sound-accepted : (numbers : List ℕ) → length numbers % 4 ≡ 0 → length (rowsOf numbers) ≤ 512 → Sound (rowsOf numbers) → firstFault numbers ≡ Accepted
+unfolding firstFault breaks11
+sound-accepted numbers whole few sound =
+    rw (eq-eqb (length numbers % 4) 0 whole, le-ltb 512 (length (rowsOf numbers)) few)
+    (none-lowest (rowsOf numbers) 0 (length (rowsOf numbers)) (λ i l h. sound i (omega arith)))
+
+module _ (t : List Row) (sound : Sound t) where
+  abbrev s : List Row
+  s = shortened t
+
+  pub short-alike : Alike s t
+  short-alike = record { count = short-count t; each = each }
+    where
+      each : (r : ℕ) → r < length t → AlikeRow (rowAt s r) (rowAt t r)
+      each r h = go (eqb (rowAt t r .kind) 3) refl
+        where
+          go : (b : Bool) → eqb (rowAt t r .kind) 3 ≡ b → AlikeRow (rowAt s r) (rowAt t r)
+          go true e =
+              let k : rowAt t r .kind ≡ 3 = eqb-true (rowAt t r .kind) 3 e in
+              record { kind-is = short-cut t sound r h k .is-cut ∙ sym k; same = λ n. absurd (n k) }
+          go false e =
+              let f = short-same t sound r h (eqb-false (rowAt t r .kind) 3 e) in
+              record { kind-is = ap (λ (row : Row). row .kind) f; same = λ n. f }
+
+  short-width : (r : ℕ) → r < length t → widthOf s r ≡ widthOf t r
+  short-width = by-strong (λ (r : ℕ). r < length t → widthOf s r ≡ widthOf t r) step
+    where
+      step : (r : ℕ) → ((i : ℕ) → i < r → i < length t → widthOf s i ≡ widthOf t i) → r < length t → widthOf s r ≡ widthOf t r
+      step r before h = go (eqb (rowAt t r .kind) 3) refl
+        where
+          l : r < length s
+          l = omega (arith, short-count t)
+
+          at : (x : ℕ) → x < r → getD (widthsOf (take r s)) x 0 ≡ getD (widthsOf (take r t)) x 0
+          at x m = width-early s r x (omega (arith, l)) m ∙ before x m (omega arith) ∙ sym (width-early t r x (omega arith) m)
+
+          go : (b : Bool) → eqb (rowAt t r .kind) 3 ≡ b → widthOf s r ≡ widthOf t r
+          go true e = let it = short-cut t sound r h (eqb-true (rowAt t r .kind) 3 e) in width-extract s r l (it .is-cut) ∙ it .wide
+          go false e =
+              width-row s r l
+              ∙ ap (widthIn (widthsOf (take r s))) (short-same t sound r h (eqb-false (rowAt t r .kind) 3 e))
+              ∙ width-same (widthsOf (take r s)) (widthsOf (take r t)) (rowAt t r)
+              (λ f.
+              let names = concat-names t r (rowAt t r) (kept-names t r (kept t r (sound r h))) f in
+              ap₂ _+_ (at (rowAt t r .a) (names .0 .earlier)) (at (rowAt t r .b) (names .1 .earlier)))
+              ∙ sym (width-row t r h)
+
+  pub short-widths : widthsOf s ≡ widthsOf t
+  short-widths =
+      ext-getD 0 (widthsOf s) (widthsOf t) (widths-count s ∙ short-count t ∙ sym (widths-count t))
+      (λ i h. short-width i (omega (arith, widths-count s, short-count t)))
+
+  terms-same : (r x : ℕ) → notTerm s r x ≡ notTerm t r x
+  unfolding notTerm
+  terms-same r x = rw (alike-kinds s t short-alike x)
+
+  names-same : (r : ℕ) (row : Row) → misnamed s r row ≡ misnamed t r row
+  unfolding misnamed
+  names-same r row = rw (terms-same r (row .a), terms-same r (row .b))
+
+  totals-same : (r : ℕ) → breaks17 s r ≡ breaks17 t r
+  unfolding breaks17
+  totals-same r =
+      let a = alike-take (suc r) s t short-alike in
+      rw (alike-count 0 (take (suc r) s) (take (suc r) t) a, alike-bits (take (suc r) s) (take (suc r) t) a, alike-count 4 (take (suc r) s) (take (suc r) t) a)
+
+  kinds-same : (r : ℕ) → breaks12 s r ≡ breaks12 t r
+  unfolding breaks12
+  kinds-same r = rw (alike-kinds s t short-alike r)
+
+  -- a row that stays breaks no rule
+  kept-same : (r : ℕ) → rowAt s r ≡ rowAt t r → Kept t r → Kept s r
+  unfolding breaks13 breaks14 breaks15 breaks16 breaks18
+  kept-same r e k =
+      record {
+        row-kept = record {
+          kept12 = kinds-same r ∙ k .row-kept .kept12;
+          kept13 = rw e (k .row-kept .kept13);
+          kept14 = rw e (names-same r (rowAt t r) ∙ k .row-kept .kept14);
+          kept15 = rw (e, short-widths) (k .row-kept .kept15);
+          kept16 = rw (e, short-widths) (k .row-kept .kept16);
+          kept17 = totals-same r ∙ k .row-kept .kept17;
+          kept18 = rw (e, short-widths) (k .row-kept .kept18);
+        };
+      }
+
+  term-same : (r x : ℕ) → Term t r x → notTerm t r x ≡ false
+  unfolding notTerm
+  term-same r x k = rw (lt-ltb x r (k .earlier), ne-eqb (rowAt t x .kind) 4 (k .no-equation))
+
+  -- nor does a cut
+  kept-cut : (r : ℕ) → CutOf t r (rowAt s r) → Kept t r → Kept s r
+  unfolding breaks13 breaks14 breaks15 breaks16 breaks18 unusedColumn misnamed wrongWidth wrongBounds unequalSides byKind
+  kept-cut r cut k =
+      record {
+        row-kept = record {
+          kept12 = kinds-same r ∙ k .row-kept .kept12;
+          kept13 = rw (cut .is-cut);
+          kept14 = rw (cut .is-cut) (terms-same r (rowAt s r .a) ∙ term-same r (rowAt s r .a) (cut .names));
+          kept15 = rw (cut .is-cut);
+          kept16 =
+              rw (cut .is-cut, short-widths, lt-ltb (rowAt s r .b) (widthOf t (rowAt s r .a)) (cut .below), le-ltb (rowAt s r .b) (rowAt s r .c) (cut .order));
+          kept17 = totals-same r ∙ k .row-kept .kept17;
+          kept18 = rw (cut .is-cut);
+        };
+      }
+
+  short-kept : (r : ℕ) → r < length t → Kept s r
+  short-kept r h = go (eqb (rowAt t r .kind) 3) refl
+    where
+      k : Kept t r
+      k = kept t r (sound r h)
+
+      go : (b : Bool) → eqb (rowAt t r .kind) 3 ≡ b → Kept s r
+      go true e = kept-cut r (short-cut t sound r h (eqb-true (rowAt t r .kind) 3 e)) k
+      go false e = kept-same r (short-same t sound r h (eqb-false (rowAt t r .kind) 3 e)) k
+
+  pub short-sound : Sound s
+  short-sound r h = unbroken s r (short-kept r (omega (arith, short-count t)))
+
+  short-value : (p : List ℕ) → length p ≡ bitsOf t → (r : ℕ) → r < length t → valueOf s p r ≡ valueOf t p r
+  short-value p whole = by-strong (λ (r : ℕ). r < length t → valueOf s p r ≡ valueOf t p r) step
+    where
+      step : (r : ℕ) → ((i : ℕ) → i < r → i < length t → valueOf s p i ≡ valueOf t p i) → r < length t → valueOf s p r ≡ valueOf t p r
+      step r before h = go (kind-of (rowAt t r .kind))
+        where
+          l : r < length s
+          l = omega (arith, short-count t)
+
+          k : Kept t r
+          k = kept t r (sound r h)
+
+          row : Row
+          row = rowAt t r
+
+          same : (row .kind ≡ 3 → ⊥) → rowAt s r ≡ row
+          same = short-same t sound r h
+
+          go : KindOf (row .kind) → valueOf s p r ≡ valueOf t p r
+          go (is-variable e) =
+              let f = same (λ z. absurd (omega arith)) in
+              value-variable s p r l (rw f e)
+              ∙ ap₂ (λ (x : Row) (b : ℕ). take (x .a) (drop b p)) f (alike-bits (take r s) (take r t) (alike-take r s t short-alike))
+              ∙ sym (value-variable t p r h e)
+          go (is-constant e) =
+              let f = same (λ z. absurd (omega arith)) in
+              value-constant s p r l (rw f e) ∙ ap (λ (x : Row). replicate (x .b) (x .a)) f ∙ sym (value-constant t p r h e)
+          go (is-concat e) =
+              let f = same (λ z. absurd (omega arith)) in
+              let names = concat-names t r row (kept-names t r k) e in
+              value-concat s p r l (short-kept r h) (rw f e)
+              ∙ ap (λ (x : Row). valueOf s p (x .a) ++ valueOf s p (x .b)) f
+              ∙ ap₂ (λ (x y : List ℕ). x ++ y)
+              (before (row .a) (names .0 .earlier) (omega (arith, names .0 .earlier)))
+              (before (row .b) (names .1 .earlier) (omega (arith, names .1 .earlier)))
+              ∙ sym (value-concat t p r h k e)
+          go (is-extract e) =
+              let it = short-cut t sound r h e in
+              value-extract s p r l (short-kept r h) (it .is-cut)
+              ∙ ap (λ (w : List ℕ). extract w (rowAt s r .b) (rowAt s r .c))
+              (before (rowAt s r .a) (it .names .earlier) (omega (arith, it .names .earlier)))
+              ∙ sym (it .value p whole)
+          go (is-equation e) =
+              let f = same (λ z. absurd (omega arith)) in
+              value-equation s p r l (rw f e) ∙ sym (value-equation t p r h e)
+
+  short-values : (p : List ℕ) → length p ≡ bitsOf t → valuesOf s p ≡ valuesOf t p
+  short-values p whole =
+      ext-getD [] (valuesOf s p) (valuesOf t p) (values-count s p ∙ short-count t ∙ sym (values-count t p))
+      (λ i h. short-value p whole i (omega (arith, values-count s p, short-count t)))
+
+  pub short-sources : sourcesOf s ≡ sourcesOf t
+  unfolding sourcesOf
+  short-sources =
+      ap (λ (n : ℕ). valuesOf s (countUp 2 n)) (alike-bits s t short-alike) ∙ short-values (countUp 2 (bitsOf t)) (count-up 2 (bitsOf t))
+
+  pub short-pairs : pairsIn s s ≡ pairsIn t t
+  short-pairs = same-pairs s t s short-sources ∙ alike-pairs t s t short-alike

@@ -1,0 +1,88 @@
+-- `equation_pairs` meets its contract: the laws are those of proofs/EquationPairs.antt. Assumes nothing.
+use Rattle.sides.proofs.EquationPairs.{no-pairs, left-there, right-there, all-pairs}
+use Rattle.terms.specs.declared.Row.{Row}
+use Rattle.terms.specs.Table.{rowsOf, sourceOf}
+use Rattle.terms.specs.Faults.{absent}
+use Rattle.terms.specs.Calls.{overwrite}
+use denote.Ref.{now}
+use lib.ListN.{length, getD}
+use native.Mathlib.Omega.{arith}
+use Prim.Native.Nat.{ℕ, _≤_}
+use mathlib.Core.Path.{sym, _∙_, ap}
+use borrow.Author.Needs.{needs}
+use Rattle.sides.proofs.equation_pairs.Statement.{statement}
+use Rattle.sides.proofs.equation_pairs.Tie as tie
+use Rattle.sides.proofs.equation_pairs.Reads as reads
+use Rattle.sides.proofs.equation_pairs.Lts as lts
+use Rattle.sides.proofs.side_bits.Reads as side-bits-reads
+use Rattle.terms.proofs.load.Reads as load-reads
+use Rattle.terms.proofs.row_at.Reads as row-at-reads
+use Rattle.terms.proofs.wide.Reads as wide-reads
+
+row-at-requires : tie.Need-row-at-requires
+row-at-requires c κs = search needs
+
+returns : tie.Need-returns
+returns c =
+    λ ready inside room roomₗ roomᵣ.
+    no-pairs _ _ _ _ ready _ inside _ _ (λ e. c .if1 .taken (ap (λ (r : Row). r .kind) (c .before .row-at .ensures) ∙ e))
+
+wide-requires : tie.Need-wide-requires
+wide-requires c κs = search needs
+
+side-bits-requires : tie.Need-side-bits-requires
+side-bits-requires c κs = search needs
+
+wide-requires-2 : tie.Need-wide-requires-2
+wide-requires-2 c κs = search needs
+
+side-bits-requires-2 : tie.Need-side-bits-requires-2
+side-bits-requires-2 c κs = search needs
+
+load-requires : tie.Need-load-requires
+load-requires c κs = search needs
+
+wide-requires-3 : tie.Need-wide-requires-3
+wide-requires-3 c κs = search needs
+
+same-length : tie.Need-same-length
+same-length c = search needs
+
+same-length-2 : tie.Need-same-length-2
+same-length-2 c = search needs
+
+same-length-3 : tie.Need-same-length-3
+same-length-3 c = search needs
+
+returns-2 : tie.Need-returns-2
+returns-2 c =
+    λ ready inside room roomₗ roomᵣ.
+    let a = c .before .before .before .before .before .before .before .before .before .before .before .before .before .before .before .before .before .before .before .before .before .before .before .before .before .before .before .args in
+    let rows = rowsOf (now (a .table)) in
+    let e = sym (ap (λ (r : Row). r .kind) (c .before .before .before .before .before .before .before .before .before .before .before .before .before .before .before .before .before .before .before .row-at .ensures)) ∙ c .before .before .before .before .before .before .before .before .before .before .before .before .before .before .before .before .before .before .if1 .left in
+    let ea = c .before .before .before .before .before .before .before .before .before .before .before .before .before .before .before .before .before .wide .ensures .0 ∙ ap (λ (r : Row). r .a) (c .before .before .before .before .before .before .before .before .before .before .before .before .before .before .before .before .before .before .before .row-at .ensures) in
+    let eb = c .before .before .before .before .before .before .before .before .before .wide2 .ensures .0 ∙ ap (λ (r : Row). r .b) (c .before .before .before .before .before .before .before .before .before .before .before .before .before .before .before .before .before .before .before .row-at .ensures) in
+    let left = c .before .before .before .before .before .before .before .before .before .before .before .before .before .before .side-bits .ensures ready (ap (absent rows) ea ∙ left-there _ _ _ _ ready _ inside e) room roomₗ in
+    let room′ : 4096 ≤ length (c .before .before .before .before .before .before .before .before .before .before .before .before .before .before .side-bits .last .1 .1 .1 .1 .1 .0) = omega (arith, c .before .before .before .before .before .before .before .before .before .before .before .before .before .before .side-bits .kept .1 .1 .1 .1 .1 .0) in
+    let right = c .before .before .before .before .before .before .side-bits2 .ensures ready (ap (absent rows) eb ∙ right-there _ _ _ _ ready _ inside e) room′ roomᵣ in
+    all-pairs _ _ _ _ ready _ inside e _ _ _ _ _ roomₗ roomᵣ
+    (left ∙ ap (λ (x : ℕ). overwrite (sourceOf rows x) (now (a .left))) ea)
+    (right ∙ ap (λ (x : ℕ). overwrite (sourceOf rows x) (now (a .right))) eb)
+    (c .wide3 .ensures .0 ∙ c .before .load .ensures ∙ ap (λ (x : ℕ). getD (now (a .widths)) x 0) ea)
+
+pub equation-pairs-spec : {M : Type 1} → statement M
+equation-pairs-spec =
+    tie.close
+    (tie.spec
+    row-at-requires
+    returns
+    wide-requires
+    side-bits-requires
+    wide-requires-2
+    side-bits-requires-2
+    load-requires
+    wide-requires-3
+    same-length
+    same-length-2
+    same-length-3
+    returns-2)

@@ -1,0 +1,38 @@
+-- What the functions promise of an equation's sides: their bits as sources, read from normal forms.
+use mathlib.Core.Path.{_≡_}
+use mathlib.Core.List.{List, [], _∷_}
+use Prim.Native.Nat.{ℕ, zero, suc, _+_, _≤_, _<_}
+use lib.ListN.{length, getD}
+use Rattle.terms.specs.declared.Row.{Row}
+use Rattle.terms.specs.Table.{rowsOf, rowAt, byKind, bitsOf, countKind}
+use Rattle.forms.specs.Append.{Numbered}
+use Rattle.answers.specs.Pairs.{Pair, pairsOf}
+
+-- The source of each variable's low bit, where k variable bits stand before the rows.
+unfoldable pub lowSources : ℕ → List Row → List ℕ
+lowSources k [] = []
+lowSources k (r ∷ rs) =
+    byKind (r .kind) ((k + r .a + 1) ∷ lowSources (k + r .a) rs) (lowSources k rs) (lowSources k rs) (lowSources k rs) (lowSources k rs)
+
+-- An accepted table, its widths, the variables before each row, and the source of each variable's low bit.
+pub record Prepared (table widths variables lows : List ℕ) : Type 0 where
+  pub numbered : Numbered table widths variables
+  pub lows-are : (v : ℕ) → v < countKind 0 (rowsOf table) → getD lows v 0 ≡ getD (lowSources 0 (rowsOf table)) v 0
+
+-- w pairs of two lists of sources, from number k on.
+unfoldable pub pairsFrom : List ℕ → List ℕ → ℕ → ℕ → List Pair
+pairsFrom left right k zero = []
+pairsFrom left right k (suc w) = record { left = getD left k 0; right = getD right k 0 } ∷ pairsFrom left right (suc k) w
+
+-- The two lists have the w bit pairs of row r.
+pub record SidesRead (t : List Row) (r : ℕ) (left right : List ℕ) (w : ℕ) : Type 0 where
+  pub pairs : pairsFrom left right 0 w ≡ pairsOf t (rowAt t r)
+  pub few : w ≤ 1024
+  pub left-small : (i : ℕ) → i < w → getD left i 0 < bitsOf t + 2
+  pub right-small : (i : ℕ) → i < w → getD right i 0 < bitsOf t + 2
+
+-- What the reader of a row's sides promises, where the buffers have so much room.
+abbrev pub ReadsSides : List ℕ → List ℕ → List ℕ → List ℕ → ℕ → ℕ → ℕ → ℕ → List ℕ → List ℕ → ℕ → Type 0
+ReadsSides table widths variables lows r formRoom leftRoom rightRoom left right w =
+    Prepared table widths variables lows → r < length (rowsOf table) → 4096 ≤ formRoom → 1024 ≤ leftRoom → 1024 ≤ rightRoom
+    → SidesRead (rowsOf table) r left right w

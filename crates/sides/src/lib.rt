@@ -1,0 +1,190 @@
+// An equation's bit pairs, from the normal forms of its sides: the sources of each side, high end first. And a copy of a table in which
+// each cut of a cut is made one cut, so that the forms take few calls.
+ghost use mathlib.Core.Path.{_≡_};
+ghost use mathlib.Core.Bool.{cond};
+ghost use Prim.Native.Nat.{_≤_, min};
+ghost use lib.Dec.{eqb};
+ghost use lib.ListN.{length, take};
+ghost use Rattle.terms.specs.Table.{rowsOf, bitsOf};
+ghost use Rattle.terms.specs.Calls.{Behind};
+ghost use Rattle.sides.specs.Sides.{ReadsSides};
+ghost use Rattle.sides.specs.Spread.{FindsLows, stepped, sourcesIn, Spells, ReadsSide};
+ghost use Rattle.sides.specs.Shortened.{shortIn, storedRow, Shortens};
+use terms::Row;
+
+// 1 for a variable.
+fn one(kind: u16) -> usize
+    ensures { λ r. ⌜ (r ≡ cond (eqb kind 0) 1 0) × (r ≤ 1) ⌝ }
+{
+    if kind == terms::VARIABLE {
+        return 1;
+    }
+    0
+}
+
+// The source of each variable's low bit, at the variable's number. How many variable bits the first 512 rows have.
+// A row that is no variable stores at the place of the next one, which stores again.
+pub fn low_sources(table: &[u16], lows: &mut [u16]) -> usize
+    ensures bits { λ n. ⌜ n ≡ bitsOf (take 512 (rowsOf (now (table .entry)))) ⌝ }
+    ensures lows { λ _. ⌜ FindsLows (now (table .entry)) (length (now (lows .entry))) (now (lows .exit)) ⌝ }
+{
+    let mut bits = 0;
+    let mut v = 0;
+    let mut r = 0;
+    while r < terms::MAX_ROWS {
+        if table.len() / 4 <= r {
+            break;
+        }
+        let row = terms::row_at(table, r);
+        bits = bits + (terms::row_bits(row) as usize);
+        terms::store(lows, v, terms::narrow(bits + 1));
+        v = v + one(row.kind);
+        r += 1;
+    }
+    bits
+}
+
+// Writes count numbers from a place on: x, x + step, x + 2 · step and so on. The place behind them.
+fn run(out: &mut [u16], from: usize, count: usize, x: u16, step: u16) -> usize
+    ensures { λ m. ⌜ Behind (stepped x step count) from (now (out .entry)) m (now (out .exit)) ⌝ }
+{
+    let mut at = from;
+    let mut left = count;
+    let mut y = x;
+    while 0 < left {
+        if out.len() <= at {
+            return at;
+        }
+        terms::store(out, at, y);
+        y = terms::plus(y, step);
+        at += 1;
+        left -= 1;
+    }
+    at
+}
+
+// Writes the sources of a piece, read as a row, behind the n that are there. How many there are then.
+fn put_sources(lows: &[u16], p: Row, out: &mut [u16], n: usize) -> usize
+    ensures { λ m. ⌜ Behind (sourcesIn (now (lows .entry)) p) n (now (out .entry)) m (now (out .exit)) ⌝ }
+{
+    let kind = p.kind;
+    let high = terms::wide(p.b);
+    if kind < 2 {
+        return run(out, n, high + 1, kind, 0);
+    }
+    let low = terms::wide(terms::load(lows, terms::wide(p.a)));
+    let count = terms::minus(high + 1, terms::wide(p.c));
+    run(out, n, count, terms::narrow(terms::minus(low, high)), 1)
+}
+
+// Writes the sources of the first n pieces of a form.
+fn spread(lows: &[u16], form: &[u16], n: usize, out: &mut [u16])
+    ensures { λ _. ⌜ Spells (now (lows .entry)) (now (form .entry)) n (now (out .entry)) (now (out .exit)) ⌝ }
+{
+    let mut m = 0;
+    let mut i = 0;
+    while i < n {
+        m = put_sources(lows, terms::row_at(form, i), out, m);
+        i += 1;
+    }
+}
+
+// Writes the sources of a row, high end first, by its normal form.
+fn side_bits(
+    table: &[u16],
+    widths: &[u16],
+    variables: &[u16],
+    lows: &[u16],
+    row: usize,
+    form: &mut [u16],
+    out: &mut [u16],
+)
+    ensures { λ _. ⌜ ReadsSide (now (table .entry)) (now (widths .entry)) (now (variables .entry)) (now (lows .entry)) row
+        (length (now (form .entry))) (now (out .entry)) (now (out .exit)) ⌝ }
+{
+    let pieces = forms::put_form(table, widths, variables, row, form, 0);
+    spread(lows, form, pieces, out);
+}
+
+// The bit pairs of row r, as two runs of sources. How many there are: none, if it is no equation.
+pub fn equation_pairs(
+    table: &[u16],
+    widths: &[u16],
+    variables: &[u16],
+    lows: &[u16],
+    r: usize,
+    form: &mut [u16],
+    left: &mut [u16],
+    right: &mut [u16],
+) -> usize
+    ensures { λ w. ⌜ ReadsSides (now (table .entry)) (now (widths .entry)) (now (variables .entry)) (now (lows .entry)) r
+        (length (now (form .entry))) (length (now (left .entry))) (length (now (right .entry)))
+        (now (left .exit)) (now (right .exit)) w ⌝ }
+{
+    let row = terms::row_at(table, r);
+    let kind = row.kind;
+    if kind != terms::EQUATION {
+        return 0;
+    }
+    let a = terms::wide(row.a);
+    side_bits(table, widths, variables, lows, a, form, left);
+    side_bits(
+        table,
+        widths,
+        variables,
+        lows,
+        terms::wide(row.b),
+        form,
+        right,
+    );
+    terms::wide(terms::load(widths, a))
+}
+
+// A row, from the row that it names first: a cut of a cut is made one cut.
+fn short_row(row: Row, named: Row) -> Row
+    ensures { λ r. ⌜ r ≡ shortIn row named ⌝ }
+{
+    let kind = row.kind;
+    if kind != terms::EXTRACT {
+        return row;
+    }
+    let inner = named.kind;
+    if inner != terms::EXTRACT {
+        return row;
+    }
+    Row {
+        kind: terms::EXTRACT,
+        a: named.a,
+        b: terms::plus(row.b, named.c),
+        c: terms::plus(row.c, named.c),
+    }
+}
+
+// Stores row r of a table, of 512 rows.
+fn store_row(table: &mut [u16], r: usize, row: Row)
+    ensures { λ _. ⌜ now (table .exit) ≡ storedRow (now (table .entry)) (min r 512) row ⌝ }
+{
+    let at = terms::lesser(r, terms::MAX_ROWS) * 4;
+    terms::store(table, at, row.kind);
+    terms::store(table, at + 1, row.a);
+    terms::store(table, at + 2, row.b);
+    terms::store(table, at + 3, row.c);
+}
+
+// Copies the first 512 rows of a table, each cut of a cut made one cut. How many numbers they are.
+pub fn shorten(table: &[u16], short: &mut [u16]) -> usize
+    ensures few { λ n. ⌜ n ≤ 2048 ⌝ }
+    ensures rows { λ n. ⌜ Shortens (now (table .entry)) (length (now (short .entry))) (now (short .exit)) n ⌝ }
+{
+    let mut r: usize = 0;
+    while r < terms::MAX_ROWS {
+        if table.len() / 4 <= r {
+            break;
+        }
+        let row = terms::row_at(table, r);
+        let named = terms::row_at(short, terms::wide(row.a));
+        store_row(short, r, short_row(row, named));
+        r += 1;
+    }
+    r * 4
+}

@@ -1,0 +1,146 @@
+/*
+  print_cases.c -- what the program of the crate cases has to print
+
+      print_cases DIRECTORY <NAMES
+
+  For each name on a line of standard input, the sheet of that name in the
+  directory is read, solved by an enumeration of all patterns, and printed as
+  crates/cases/src/main.rt says. Nothing of it is the library's: the readers and
+  the makers are those of reference.h, enumerate.h and plain_pattern.h.
+
+  The exit status is 1 if a sheet cannot be read, or if its table is accepted
+  and has more variable bits than can be enumerated.
+*/
+
+#include <inttypes.h>
+#include <stdbool.h>
+#include <stdio.h>
+#include <string.h>
+
+#include "enumerate.h"
+#include "plain_pattern.h"
+#include "reference.h"
+
+enum { FORM_NUMBERS = 4096, SHEET_BYTES = 16384, NEVER = 1, SOLVED = 2 };
+
+static uint8_t sheet[SHEET_BYTES + 1];
+static uint16_t table[4 * REF_ROWS];
+static ref_table facts;
+static enumeration found;
+
+static void print_values(lw_record r)
+{
+    printf("%" PRIu32 " %" PRIu32 " %" PRIu32 " %" PRIu32 " %" PRIu32 " %" PRIu32 "\n",
+           r.outcome, r.pieces, r.fresh, r.free, r.ties, r.row);
+}
+
+static void print_rows(const uint16_t *numbers, size_t rows)
+{
+    for (size_t i = 0; i < rows; i++, numbers += 4)
+        printf("%u %u %u %u\n", numbers[0], numbers[1], numbers[2], numbers[3]);
+}
+
+static void print_bits(const uint8_t *bits, size_t count)
+{
+    for (size_t i = 0; i < count; i++)
+        putchar(bits[i] == 1 ? '1' : '0');
+    putchar('\n');
+}
+
+/* The normal form of each row; an equation's is refused. */
+static void print_forms(size_t numbers)
+{
+    static uint16_t form[FORM_NUMBERS];
+
+    printf("forms\n");
+    for (size_t r = 0; r < numbers / 4; r++) {
+        lw_record record = ref_normal_form(table, numbers, r, form, FORM_NUMBERS);
+        print_values(record);
+        print_rows(form, record.pieces);
+    }
+}
+
+/* The value of each row under the pattern whose places 0, 3, 6, .. are 1. */
+static void print_row_values(size_t numbers)
+{
+    static uint8_t pattern[ENUM_BITS], value[REF_WIDTH];
+
+    for (size_t i = 0; i < facts.bits; i++)
+        pattern[i] = i % 3 == 0;
+    printf("values\n");
+    for (size_t r = 0; r < numbers / 4; r++) {
+        lw_record record = ref_value(table, numbers, r, pattern, facts.bits, value, REF_WIDTH);
+        print_values(record);
+        if (record.outcome == 0)
+            print_bits(value, record.free);
+    }
+}
+
+/* The pattern whose fresh bits 0, 2, 4, .. are 1, and that whose fresh bits 1, 3, 5, .. are. */
+static void print_patterns(void)
+{
+    static uint8_t fresh[ENUM_BITS], pattern[ENUM_BITS];
+
+    printf("patterns\n");
+    for (size_t first = 0; first < 2; first++) {
+        for (size_t i = 0; i < found.record.free; i++)
+            fresh[i] = i % 2 == first;
+        lw_record record = plain_make_pattern(found.answer, 4 * found.record.pieces, fresh, found.record.free,
+                                              pattern, facts.bits);
+        print_values(record);
+        print_bits(pattern, record.free);
+    }
+}
+
+/* All that is printed for the first bytes of the sheet; whether it could be. */
+static bool print_sheet(size_t len)
+{
+    lw_record record = ref_read_sheet(sheet, len, table, 4 * REF_ROWS);
+    size_t numbers = 4 * (size_t)record.pieces;
+
+    if (record.outcome == 0)
+        record = ref_check(table, numbers, &facts);
+    if (record.outcome == 0) {
+        if (facts.bits > ENUM_BITS)
+            return false;
+        enumerate(table, &facts, &found);
+        record = found.record;
+    }
+    printf("outcome pieces fresh free ties row\n");
+    print_values(record);
+    if (record.outcome > SOLVED)
+        return true;
+    if (record.outcome == SOLVED) {
+        printf("variable kind width fresh\n");
+        print_rows(found.answer, record.pieces);
+    }
+    print_forms(numbers);
+    if (record.outcome != NEVER)
+        print_row_values(numbers);
+    if (record.outcome == SOLVED)
+        print_patterns();
+    return true;
+}
+
+int main(int argc, char **argv)
+{
+    char name[256], path[1024];
+
+    while (argc == 2 && fgets(name, sizeof name, stdin) != NULL) {
+        name[strcspn(name, "\n")] = '\0';
+        snprintf(path, sizeof path, "%s/%s", argv[1], name);
+        FILE *file = fopen(path, "rb");
+        if (file == NULL) {
+            perror(path);
+            return 1;
+        }
+        size_t len = fread(sheet, 1, sizeof sheet, file);
+        fclose(file);
+        printf("%s\n", name);
+        if (!print_sheet(len)) {
+            fprintf(stderr, "%s: more than %d variable bits\n", path, ENUM_BITS);
+            return 1;
+        }
+    }
+    return argc == 2 && fflush(stdout) == 0 ? 0 : 1;
+}
