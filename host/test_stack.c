@@ -26,6 +26,8 @@
 typedef struct {
     uint16_t table[4 * LW_MAX_ROWS];
     size_t table_len, row;
+    lw_row rows[LW_MAX_ROWS + 1]; /* the table as records */
+    size_t row_count;
     uint8_t pattern[LW_MAX_VARIABLE_BITS];
     size_t pattern_len;
     uint8_t value[LW_MAX_WIDTH];
@@ -362,6 +364,9 @@ typedef lw_record form_function(const uint16_t *, size_t, size_t, uint16_t *, si
 typedef lw_record sheet_function(const uint8_t *, size_t, uint16_t *, size_t);
 typedef lw_record solve_function(const uint16_t *, size_t, uint16_t *, size_t, uint16_t *, size_t);
 typedef lw_part part_function(const uint16_t *, size_t, size_t, size_t);
+typedef lw_record value_rows_function(const lw_row *, size_t, size_t, const uint8_t *, size_t, uint8_t *, size_t);
+typedef lw_record form_rows_function(const lw_row *, size_t, size_t, uint16_t *, size_t);
+typedef lw_record solve_rows_function(const lw_row *, size_t, uint16_t *, size_t, uint16_t *, size_t);
 typedef lw_record pattern_function(const uint16_t *, size_t, const uint8_t *, size_t, uint8_t *, size_t);
 
 enum { STACK = 1 << 20 };
@@ -429,12 +434,41 @@ static lw_record pattern_entry(const uint16_t *answer, size_t answer_len, const 
     return (lw_record){.outcome = 1};
 }
 
+__attribute__((noinline))
+static lw_record value_rows_entry(const lw_row *rows, size_t row_count, size_t row,
+                                  const uint8_t *pattern, size_t pattern_len, uint8_t *value, size_t value_len)
+{
+    (void)rows, (void)row_count, (void)row, (void)pattern, (void)pattern_len, (void)value, (void)value_len;
+    entry = ENTRY;
+    return (lw_record){.outcome = 1};
+}
+
+__attribute__((noinline))
+static lw_record form_rows_entry(const lw_row *rows, size_t row_count, size_t row, uint16_t *form, size_t form_len)
+{
+    (void)rows, (void)row_count, (void)row, (void)form, (void)form_len;
+    entry = ENTRY;
+    return (lw_record){.outcome = 1};
+}
+
+__attribute__((noinline))
+static lw_record solve_rows_entry(const lw_row *rows, size_t row_count, uint16_t *answer, size_t answer_len,
+                                  uint16_t *work, size_t work_len)
+{
+    (void)rows, (void)row_count, (void)answer, (void)answer_len, (void)work, (void)work_len;
+    entry = ENTRY;
+    return (lw_record){.outcome = 1};
+}
+
 static value_function *volatile const value_functions[] = {value_entry, lw_value};
 static form_function *volatile const form_functions[] = {form_entry, lw_normal_form};
 static sheet_function *volatile const sheet_functions[] = {sheet_entry, lw_read_sheet};
 static solve_function *volatile const solve_functions[] = {solve_entry, lw_solve};
 static part_function *volatile const part_functions[] = {part_entry, lw_right_side};
 static pattern_function *volatile const pattern_functions[] = {pattern_entry, lw_make_pattern};
+static value_rows_function *volatile const value_rows_functions[] = {value_rows_entry, lw_value_rows};
+static form_rows_function *volatile const form_rows_functions[] = {form_rows_entry, lw_normal_form_rows};
+static solve_rows_function *volatile const solve_rows_functions[] = {solve_rows_entry, lw_solve_rows};
 
 static void count(void)
 {
@@ -501,6 +535,34 @@ static void *run_pattern(void *argument)
     return NULL;
 }
 
+static void *run_value_rows(void *argument)
+{
+    call *c = argument;
+    for (size_t i = 0; i < 2; i++)
+        c->record = value_rows_functions[i](c->rows, c->row_count, c->row, c->pattern, c->pattern_len,
+                                            c->value, c->value_len);
+    count();
+    return NULL;
+}
+
+static void *run_form_rows(void *argument)
+{
+    call *c = argument;
+    for (size_t i = 0; i < 2; i++)
+        c->record = form_rows_functions[i](c->rows, c->row_count, c->row, c->form, LW_FORM_NUMBERS);
+    count();
+    return NULL;
+}
+
+static void *run_solve_rows(void *argument)
+{
+    call *c = argument;
+    for (size_t i = 0; i < 2; i++)
+        c->record = solve_rows_functions[i](c->rows, c->row_count, c->answer, LW_SOLVER_NUMBERS, c->work, c->work_len);
+    count();
+    return NULL;
+}
+
 static void must(int error, const char *what)
 {
     if (error != 0) {
@@ -562,6 +624,8 @@ static void measure_all(const char *name, void *(*run)(void *), const test *test
             memset(&c, 0, sizeof c);
             c.work_len = LW_SOLVER_NUMBERS;
             tests[i].make(&c);
+            memcpy(c.rows, c.table, sizeof c.table);
+            c.row_count = c.table_len % 4 == 0 ? c.table_len / 4 : LW_MAX_ROWS + 1; /* not whole rows: as records, one too many */
             c.row = c.table_len / 4 - 1;
             c.value_len = sizeof c.value;
             size_t once = measure(run, &c, fillings[f]);
@@ -569,12 +633,12 @@ static void measure_all(const char *name, void *(*run)(void *), const test *test
             check(c.record.outcome == tests[i].outcome && c.record.free == tests[i].free, __FILE__, __LINE__,
                   "%s, %s: outcome %u, free %u", name, tests[i].name, c.record.outcome, c.record.free);
         }
-        printf("%-15s %-36s %zu bytes of stack\n", name, tests[i].name, use);
+        printf("%-19s %-36s %zu bytes of stack\n", name, tests[i].name, use);
         check(use > sizeof(void *) && use < STACK / 2, __FILE__, __LINE__, "%s: nothing measured", tests[i].name);
         greatest = use > greatest ? use : greatest;
     }
     check(greatest <= limit, __FILE__, __LINE__, "%s: %zu bytes of stack used, the header says %lu", name, greatest, limit);
-    printf("%-15s %-36s %zu bytes of stack, the header says %lu\n", name, "greatest", greatest, limit);
+    printf("%-19s %-36s %zu bytes of stack, the header says %lu\n", name, "greatest", greatest, limit);
 }
 
 int main(int argc, char **argv)
@@ -643,6 +707,9 @@ int main(int argc, char **argv)
     measure_all("lw_right_side", run_part, parts, sizeof parts / sizeof parts[0], stated(header, "lw_right_side"));
     measure_all("lw_make_pattern", run_pattern, patterns, sizeof patterns / sizeof patterns[0],
                 stated(header, "lw_make_pattern"));
+    measure_all("lw_value_rows", run_value_rows, tests, count, stated(header, "lw_value_rows"));
+    measure_all("lw_normal_form_rows", run_form_rows, tests, count - 1, stated(header, "lw_normal_form_rows"));
+    measure_all("lw_solve_rows", run_solve_rows, solves, sizeof solves / sizeof solves[0], stated(header, "lw_solve_rows"));
     free(memory);
     return run_done("stack");
 }

@@ -183,12 +183,15 @@
   a dynamic linker uses that binds memcpy or memset only at its first use does
   not):
 
-     lw_value        44224 bytes
-     lw_normal_form  133184 bytes
-     lw_read_sheet   4288 bytes
-     lw_solve        181888 bytes
-     lw_right_side   64 bytes
-     lw_make_pattern 16576 bytes
+     lw_value            44352 bytes
+     lw_normal_form      133248 bytes
+     lw_read_sheet       4288 bytes
+     lw_solve            181952 bytes
+     lw_right_side       64 bytes
+     lw_make_pattern     16576 bytes
+     lw_value_rows       48512 bytes
+     lw_normal_form_rows 137408 bytes
+     lw_solve_rows       186112 bytes
 */
 
 #ifndef LINKWORDS_H
@@ -568,6 +571,30 @@ lw_record lw_make_pattern(const uint16_t *answer, size_t answer_len,
 
      The answer table and the fresh bits are only read. Neither may overlap
      pattern.
+*/
+
+/* calls on row records */
+
+/* A row of a table as a record. */
+typedef struct {
+    uint16_t kind, a, b, c;
+} lw_row;
+
+lw_record lw_value_rows(const lw_row *rows, size_t row_count, size_t row,
+                        const uint8_t *pattern, size_t pattern_len,
+                        uint8_t *value, size_t value_len);
+lw_record lw_normal_form_rows(const lw_row *rows, size_t row_count, size_t row,
+                              uint16_t *form, size_t form_len);
+lw_record lw_solve_rows(const lw_row *rows, size_t row_count,
+                        uint16_t *answer, size_t answer_len, uint16_t *work, size_t work_len);
+/*
+     As lw_value, lw_normal_form and lw_solve, with the table lent as row_count
+     records. Each yields the record and the buffer contents that the call on
+     numbers yields of the 4 * row_count numbers of the records. So a table of
+     over 512 records is refused 11; numbers that are not whole rows cannot occur.
+
+     The records are only read, at most 513 of them, and may not overlap a buffer
+     that the call writes.
 */
 
 #ifdef __cplusplus

@@ -1,1 +1,3 @@
 pub mod SheetsSolved
+pub mod RowsHeld
+pub mod LocalArray

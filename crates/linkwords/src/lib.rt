@@ -4,12 +4,14 @@ ghost use mathlib.Core.Path.{_≡_};
 ghost use lib.ListN.{length};
 ghost use Rattle.values.specs.Value.{valueRecord, valueAfter};
 ghost use Rattle.forms.specs.Call.{formRecord, formAfter};
+ghost use Rattle.sheets.specs.Sheet.{rowNumbers};
 ghost use Rattle.sheets.specs.Call.{sheetRecord, tableAfter};
 ghost use Rattle.answers.specs.Solve.{solveRecord, answerAfter, workAfter};
 ghost use Rattle.answers.specs.RightSide.{rightSideStart, rightSideLength};
 ghost use Rattle.assignments.specs.Call.{patternRecord, patternAfter};
 use solver::Part;
 use terms::Record;
+use terms::Row;
 
 // A row's value under a pattern.
 #[no_mangle]
@@ -64,4 +66,47 @@ pub extern "C" fn lw_make_pattern(answer: &[u16], fresh: &[u8], pattern: &mut [u
     ensures pattern { λ _. ⌜ now (pattern .exit) ≡ patternAfter (now (answer .entry)) (now (fresh .entry)) (now (pattern .entry)) ⌝ }
 {
     assignments::make_pattern(answer, fresh, pattern)
+}
+
+// The same calls on a table that is lent as row records. The records are copied as numbers into an area of 513 rows, one more than
+// a table may have, and the call is made on those. Each says of all rows lent what the call on numbers says. These functions take
+// a slice of structs, and are proved by a walk of their code, by hand.
+
+// A row's value under a pattern.
+#[no_mangle]
+pub extern "C" fn lw_value_rows(
+    rows: &[Row],
+    row: usize,
+    pattern: &[u8],
+    value: &mut [u8],
+) -> Record
+    ensures record { λ r. ⌜ r ≡ valueRecord (rowNumbers (now (rows .entry))) row (now (pattern .entry)) (length (now (value .entry))) ⌝ }
+    ensures value { λ r. ⌜ now (value .exit) ≡ valueAfter (rowNumbers (now (rows .entry))) row (now (pattern .entry)) (now (value .entry)) ⌝ }
+{
+    let mut flat = [0u16; rows::AREA];
+    let used = rows::flatten(rows, &mut flat[..]);
+    values::value(&flat[..used], row, pattern, value)
+}
+
+// The normal form of a row, four numbers for each piece.
+#[no_mangle]
+pub extern "C" fn lw_normal_form_rows(rows: &[Row], row: usize, form: &mut [u16]) -> Record
+    ensures record { λ r. ⌜ r ≡ formRecord (rowNumbers (now (rows .entry))) row (length (now (form .entry))) ⌝ }
+    ensures form { λ r. ⌜ now (form .exit) ≡ formAfter (rowNumbers (now (rows .entry))) row (now (form .entry)) ⌝ }
+{
+    let mut flat = [0u16; rows::AREA];
+    let used = rows::flatten(rows, &mut flat[..]);
+    forms::normal_form(&flat[..used], row, form)
+}
+
+// Solves a table.
+#[no_mangle]
+pub extern "C" fn lw_solve_rows(rows: &[Row], answer: &mut [u16], work: &mut [u16]) -> Record
+    ensures record { λ r. ⌜ r ≡ solveRecord (rowNumbers (now (rows .entry))) (length (now (answer .entry))) (length (now (work .entry))) ⌝ }
+    ensures answer { λ _. ⌜ now (answer .exit) ≡ answerAfter (rowNumbers (now (rows .entry))) (now (answer .entry)) (length (now (work .entry))) ⌝ }
+    ensures work { λ _. ⌜ now (work .exit) ≡ workAfter (rowNumbers (now (rows .entry))) (length (now (answer .entry))) (now (work .entry)) ⌝ }
+{
+    let mut flat = [0u16; rows::AREA];
+    let used = rows::flatten(rows, &mut flat[..]);
+    solver::solve(&flat[..used], answer, work)
 }

@@ -1,0 +1,45 @@
+// A run of row records as the numbers of a table (document 01: the table is lent as a run of row records of four
+// 16-bit numbers). The records are copied into a buffer of numbers, four for each, and the calls work on those.
+// `flatten` takes a slice of structs and is proved by a walk of its code, by hand; what it calls is on numbers.
+ghost use mathlib.Core.Path.{_≡_};
+ghost use lib.ListN.{length};
+ghost use Rattle.terms.specs.Calls.{overwrite};
+ghost use Rattle.rows.specs.Held.{held, fitting, putWhole};
+use terms::Row;
+
+// The numbers of the area to which calls copy rows: 513 rows, one more than a table may have.
+pub const AREA: usize = 2052;
+
+// How many of n rows a buffer of so many numbers holds whole.
+fn fit(n: usize, room: usize) -> usize
+    ensures { λ r. ⌜ r ≡ fitting n room ⌝ }
+{
+    if n < room / 4 { n } else { room / 4 }
+}
+
+// Writes row k of a table, where there is room for it.
+fn put_row(table: &mut [u16], k: usize, row: Row)
+    ensures { λ _. ⌜ now (table .exit) ≡ putWhole (now (table .entry)) k row ⌝ }
+{
+    if k < table.len() / 4 {
+        let at = k * 4;
+        table[at] = row.kind;
+        table[at + 1] = row.a;
+        table[at + 2] = row.b;
+        table[at + 3] = row.c;
+    }
+}
+
+// Copies the rows that the buffer holds to its beginning, and says how many numbers they are.
+pub fn flatten(rows: &[Row], flat: &mut [u16]) -> usize
+    ensures count { λ r. ⌜ r ≡ length (held (now (rows .entry)) (length (now (flat .entry)))) ⌝ }
+    ensures numbers { λ _. ⌜ now (flat .exit) ≡ overwrite (held (now (rows .entry)) (length (now (flat .entry)))) (now (flat .entry)) ⌝ }
+{
+    let n = fit(rows.len(), flat.len());
+    let mut i = 0;
+    while i < n {
+        put_row(&mut *flat, i, rows[i]);
+        i += 1;
+    }
+    n * 4
+}

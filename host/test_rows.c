@@ -1,0 +1,189 @@
+/*
+  test_rows.c -- tests of lw_value_rows, lw_normal_form_rows and lw_solve_rows
+
+      test_rows [TABLES]
+
+  TABLES random tables (20000 if not given), sound and with one fault or two,
+  and runs of up to 70000 rows. Each call is made twice on guarded buffers of
+  the same content: on rows, and on the numbers of these rows by the call on
+  numbers. The two records and every byte of the buffers must be the same, and
+  the rows unchanged. And each refusal of a table by itself, with the number and
+  the row that the specification gives.
+*/
+
+#include "guard.h"
+#include "linkwords.h"
+#include "random_table.h"
+#include "refused_tables.h"
+
+static unsigned long outcomes[64];
+
+/* The records of a run of numbers; count of them. */
+static guarded records(const uint16_t *numbers, size_t count)
+{
+    guarded g = guard(NULL, count * sizeof(lw_row));
+    lw_row *rows = guarded_buffer(&g);
+    for (size_t i = 0; i < count; i++)
+        rows[i] = (lw_row){numbers[4 * i], numbers[4 * i + 1], numbers[4 * i + 2], numbers[4 * i + 3]};
+    memcpy(g.kept, g.block, g.size);
+    return g;
+}
+
+/* The buffer of one call ought to hold what that of the other holds. */
+static void same(guarded *got, guarded *want, const char *name)
+{
+    memcpy(got->kept, want->block, got->size);
+    guard_check(got, __FILE__, __LINE__, name);
+    free(want->block);
+    free(want->kept);
+}
+
+static void value(const uint16_t *numbers, size_t count, size_t row, const uint8_t *pattern, size_t pattern_len,
+                  size_t room)
+{
+    guarded r = records(numbers, count), got = guard(NULL, room), want = guard(NULL, room);
+    lw_record wanted = lw_value(numbers, 4 * count, row, pattern, pattern_len, guarded_buffer(&want), room);
+    lw_record found = lw_value_rows(guarded_buffer(&r), count, row, pattern, pattern_len, guarded_buffer(&got), room);
+    check_record(__LINE__, "lw_value_rows", found, wanted);
+    same(&got, &want, "value");
+    guard_check(&r, __FILE__, __LINE__, "rows of a value");
+    outcomes[wanted.outcome]++;
+}
+
+static void form(const uint16_t *numbers, size_t count, size_t row, size_t room)
+{
+    guarded r = records(numbers, count), got = guard(NULL, 2 * room), want = guard(NULL, 2 * room);
+    lw_record wanted = lw_normal_form(numbers, 4 * count, row, guarded_buffer(&want), room);
+    lw_record found = lw_normal_form_rows(guarded_buffer(&r), count, row, guarded_buffer(&got), room);
+    check_record(__LINE__, "lw_normal_form_rows", found, wanted);
+    same(&got, &want, "form");
+    guard_check(&r, __FILE__, __LINE__, "rows of a normal form");
+    outcomes[wanted.outcome]++;
+}
+
+static void solve(const uint16_t *numbers, size_t count, size_t answer_len, size_t work_len)
+{
+    guarded r = records(numbers, count);
+    guarded answer = guard(NULL, 2 * answer_len), want_answer = guard(NULL, 2 * answer_len);
+    guarded work = guard(NULL, 2 * work_len), want_work = guard(NULL, 2 * work_len);
+    lw_record wanted = lw_solve(numbers, 4 * count, guarded_buffer(&want_answer), answer_len,
+                                guarded_buffer(&want_work), work_len);
+    lw_record found = lw_solve_rows(guarded_buffer(&r), count, guarded_buffer(&answer), answer_len,
+                                    guarded_buffer(&work), work_len);
+    check_record(__LINE__, "lw_solve_rows", found, wanted);
+    same(&answer, &want_answer, "answer");
+    same(&work, &want_work, "work");
+    guard_check(&r, __FILE__, __LINE__, "rows of a solve");
+    outcomes[wanted.outcome]++;
+}
+
+static void all_three(const uint16_t *numbers, size_t count, size_t bits)
+{
+    static uint8_t pattern[4096 + 8];
+    size_t row = count == 0 ? 0 : below(count + 1), len = one_in(8) ? below(sizeof pattern) : bits;
+    for (size_t i = 0; i < len && i < sizeof pattern; i++)
+        pattern[i] = one_in(20000) ? 2 : (uint8_t)below(2);
+    value(numbers, count, row, pattern, len < sizeof pattern ? len : sizeof pattern, one_in(3) ? below(1024) : 1024);
+    form(numbers, count, row, one_in(8) ? below(4096) : 4096 + below(3));
+    solve(numbers, count, one_in(8) ? below(16384) : 16384 + below(3), one_in(8) ? below(16384) : 16384 + below(3));
+}
+
+static void test_random(size_t tables)
+{
+    static draft d;
+    for (size_t i = 0; i < tables; i++) {
+        make_table(&d);
+        if (one_in(2))
+            damage(&d, (unsigned)(12 + below(8)));
+        if (one_in(4))
+            damage(&d, (unsigned)(12 + below(8)));
+        all_three(d.t.numbers, d.rows, d.bits);
+    }
+    group_done("random tables");
+}
+
+/* Every length near 512 rows, and long runs, whose first 512 rows alone are a table. */
+static void test_long(void)
+{
+    enum { LONGEST = 70000 };
+    static uint16_t numbers[4 * LONGEST];
+    static const size_t counts[] = {0, 1, 2, 510, 511, 512, 513, 514, 515, 516, 1000, 1024, 1025, 2000, 16384, 16385,
+                                    65535, 65536, 65537, 65536 + 512, LONGEST};
+    for (size_t i = 0; i < LONGEST; i++) {
+        const uint16_t variable[] = {VARIABLE(1)}, fill[] = {FILL(1, 3)}, cut[] = {CUT(0, 0, 0)};
+        memcpy(numbers + 4 * i, i == 0 ? variable : i % 2 ? fill : cut, 4 * sizeof *numbers);
+    }
+    for (size_t c = 0; c < sizeof counts / sizeof *counts; c++) {
+        static const uint8_t one[] = {1};
+        size_t bits = counts[c] == 0 ? 0 : 1;
+        value(numbers, counts[c], 0, one, bits, 3);
+        value(numbers, counts[c], counts[c] / 2, one, bits, 3);
+        value(numbers, counts[c], 512, one, bits, 3);
+        form(numbers, counts[c], 0, 4096);
+        form(numbers, counts[c], 512, 4096);
+        solve(numbers, counts[c], 16384, 16384);
+        solve(numbers, counts[c], 16384, 16383);
+    }
+    group_done("long runs");
+}
+
+/* A table that each of the calls refuses; one that is not whole rows cannot be lent so. */
+static void refuse(int line, const uint16_t *numbers, size_t len, uint32_t number, uint32_t row)
+{
+    if (len % 4 != 0)
+        return;
+    lw_record want = {.outcome = number, .row = row};
+    guarded r = records(numbers, len / 4), value = guard(NULL, 1024), form = guard(NULL, 2 * 4096);
+    guarded answer = guard(NULL, 2 * 16384), work = guard(NULL, 2 * 16384);
+    const lw_row *rows = guarded_buffer(&r);
+
+    check_record(line, "value", lw_value_rows(rows, len / 4, 0, NULL, 0, guarded_buffer(&value), 1024), want);
+    check_record(line, "form", lw_normal_form_rows(rows, len / 4, 0, guarded_buffer(&form), 4096), want);
+    check_record(line, "solve",
+                 lw_solve_rows(rows, len / 4, guarded_buffer(&answer), 16384, guarded_buffer(&work), 16384), want);
+    guard_check(&value, __FILE__, line, "value of a refusal");
+    guard_check(&form, __FILE__, line, "form of a refusal");
+    guard_check(&answer, __FILE__, line, "answer of a refusal");
+    guard_check(&work, __FILE__, line, "work of a refusal");
+    guard_check(&r, __FILE__, line, "rows of a refusal");
+}
+
+static void test_refusals(void)
+{
+    refuse_one_by_one(refuse);
+    refuse_two_at_once(refuse);
+    refuse_beyond_maximum(refuse);
+    refuse_too_long(refuse);
+    group_done("refusals 11 to 18");
+}
+
+/* NULL with 0. */
+static void test_null(void)
+{
+    static uint16_t answer[16384], work[16384], out[4096];
+    lw_record row = {.outcome = LW_REFUSED_ROW}, memory = {.outcome = LW_REFUSED_MEMORY};
+    lw_record always = {.outcome = LW_ALWAYS};
+    check_record(__LINE__, "value", lw_value_rows(NULL, 0, 0, NULL, 0, NULL, 0), row);
+    check_record(__LINE__, "form", lw_normal_form_rows(NULL, 0, 0, NULL, 0), row);
+    check_record(__LINE__, "form", lw_normal_form_rows(NULL, 0, SIZE_MAX, out, 4096), row);
+    check_record(__LINE__, "solve", lw_solve_rows(NULL, 0, NULL, 0, NULL, 0), memory);
+    check_record(__LINE__, "solve", lw_solve_rows(NULL, 0, answer, 16384, work, 16384), always);
+    group_done("no records");
+}
+
+int main(int argc, char **argv)
+{
+    test_null();
+    test_refusals();
+    test_long();
+    test_random(argc > 1 ? (size_t)strtoul(argv[1], NULL, 10) : 20000);
+    printf("outcomes:");
+    for (unsigned i = 0; i < 64; i++)
+        if (outcomes[i] != 0)
+            printf(" %u %lux", i, outcomes[i]);
+    printf("\n");
+    static const unsigned seen[] = {0, 1, 2, 10, 11, 12, 13, 14, 15, 16, 17, 18, 30, 31, 32};
+    for (size_t i = 0; i < sizeof seen / sizeof *seen; i++)
+        check(outcomes[seen[i]] != 0, __FILE__, __LINE__, "outcome %u did not occur", seen[i]);
+    return run_done("rows");
+}
