@@ -1,24 +1,23 @@
 -- The answer's rows have the slots of the places: what stands in them, how wide the fresh pieces are, and which there are.
 use mathlib.Core.Path.{_≡_, refl, sym, ap, ap₂, _∙_, subst}
-use mathlib.Core.Logic.{_⊎_, inl, inr, _≢_}
-use mathlib.Core.Bool.{Bool, true, false, not, _&&_, _||_, cond, and-true, and-false}
-use mathlib.Core.List.{List, [], _∷_, _++_, map, append-assoc, append-nil}
-use Prim.Native.Nat.{ℕ, zero, suc, _+_, _-_, _≤_, _<_, pred}
+use mathlib.Core.Logic.{_⊎_, inl, inr}
+use mathlib.Core.Bool.{Bool, true, false, not, _&&_, _||_, cond}
+use mathlib.Core.List.{List, [], _∷_, _++_, append-assoc}
+use Prim.Native.Nat.{ℕ, zero, suc, _+_, _-_, _≤_, _<_}
 use native.Mathlib.Omega.{arith}
-use lib.Dec.{eqb, ltb, leb}
-use lib.ListN.{length, getD, replicate}
-use borrow.Author.Tests.{eqb-true, eqb-false, eq-eqb, ne-eqb, ltb-true, ltb-false, leb-true, leb-false, le-leb, lt-leb, not-true}
+use lib.Dec.{eqb, ltb}
+use lib.ListN.{replicate}
+use borrow.Author.Tests.{eqb-true, eq-eqb, ne-eqb, le-leb, not-true}
 use Rattle.answers.specs.Pairs.{Pair}
 use Rattle.answers.specs.Classes.{rep, inClass}
-use Rattle.answers.specs.Answer.{tally, begins, variableAt, fixedTo, unfixed, goesOn, lowest, appears, AnswerRow, placeRow, widened, placed, rowsTo, member, isFresh, freshNumbers}
-use Rattle.answers.proofs.Booleans.{and-first, and-second, and-both, same-test}
-use Rattle.answers.proofs.Relabelling.{dec-eq}
+use Rattle.answers.specs.Answer.{tally, begins, unfixed, goesOn, lowest, appears, AnswerRow, placeRow, widened, placed, rowsTo, member, isFresh, freshNumbers}
+use Rattle.answers.proofs.Booleans.{and-second}
 use Rattle.answers.proofs.Agreement.{Represents, dec-lt}
-use Rattle.answers.proofs.Tallies.{tally-mono, tally-le}
-use Rattle.answers.proofs.Slots.{Slot, fill, part, loose, glued, heads}
-use Rattle.answers.proofs.Gluing.{Glue, glued-e, place, front, reach}
+use Rattle.answers.proofs.Tallies.{tally-mono}
+use Rattle.answers.proofs.Slots.{Slot, fill, part, glued}
+use Rattle.answers.proofs.Gluing.{glued-e, place, front, reach}
 use Rattle.answers.proofs.OurPieces.{mark-place, mark, home, number, slot, wide, slot-loose, slot-fixed, slot-next, wide-is, home-le, front-le, home-mark}
-use Rattle.answers.proofs.Relation.{fixed-is, unfixed-is, goes-open, goes-loose, goes-fixed, lowest-is, appears-is}
+use Rattle.answers.proofs.Relation.{fixed-is, unfixed-is, goes-loose, goes-fixed, lowest-is, appears-is}
 
 -- the slots of a row
 unfoldable pub partsFrom : ℕ → ℕ → ℕ → List Slot

@@ -1,6 +1,6 @@
 -- Two tests together.
 use mathlib.Core.Path.{_≡_, refl, sym}
-use mathlib.Core.Bool.{Bool, true, false, not, _&&_, _||_}
+use mathlib.Core.Bool.{Bool, true, false, _&&_}
 
 pub and-first : (a b : Bool) → a && b ≡ true → a ≡ true
 and-first true b t = refl

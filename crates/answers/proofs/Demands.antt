@@ -1,10 +1,10 @@
 -- Demands 2 and 3, for every accepted table. They speak of the definitions in specs/ alone; the solver's contract is an equation with
 -- the same definitions. Assumes nothing.
 use mathlib.Core.Path.{_≡_, refl, sym, _∙_, ap, ap₂, subst}
-use mathlib.Core.Logic.{_⊎_, inl, inr, _≢_}
+use mathlib.Core.Logic.{_≢_}
 use mathlib.Core.Bool.{Bool, true, false, not, cond}
-use mathlib.Core.List.{List, [], _∷_, reverse}
-use Prim.Native.Nat.{ℕ, zero, suc, _+_, _^_, _≤_, _<_}
+use mathlib.Core.List.{List, [], reverse}
+use Prim.Native.Nat.{ℕ, suc, _+_, _^_, _≤_}
 use native.Mathlib.Omega.{arith}
 use lib.ListN.{length, drop}
 use borrow.Author.Tests.{not-true}
@@ -18,7 +18,7 @@ use Rattle.terms.proofs.Assignments.{every-at, every-of, count-none-of, count-n
 use Rattle.answers.specs.Pairs.{Pair, pairsIn, satisfiesPairs}
 use Rattle.answers.specs.Classes.{rep, inClass, roots}
 use Rattle.answers.specs.Answer.{AnswerRow, equalUnder, variableWidths, begins, tally, appears, answerRows, freshPieces, freeBits, instantiate}
-use Rattle.answers.specs.Systems.{Part, SolvedSystem, freshCount, systemBits, Filling, Gives}
+use Rattle.answers.specs.Systems.{Part, SolvedSystem, freshCount, systemBits, Gives}
 use Rattle.answers.specs.Solve.{valid, unsatisfiable, unsatRow, pairsTogether, tiesTo, solvedRows, alwaysRecord, neverRecord, solvedRecord, answerRecord}
 use Rattle.answers.proofs.Agreement.{Represents, satisfies-reverse}
 use Rattle.answers.proofs.Slots.{fresh}
@@ -28,7 +28,7 @@ use Rattle.answers.proofs.AnswerRows.{tally-same}
 use Rattle.answers.proofs.GeneralSystems.{widthSum, minimal-system}
 use Rattle.answers.proofs.Instantiating.{fresh-pieces, free-bits, filling-satisfies, fillingOf, filling-bits, filling-gives, filling-unique}
 use Rattle.answers.proofs.Variables.{widths-sum, begins-first, begins-behind, system-bits}
-use Rattle.answers.proofs.Tables.{tableClasses, represent, satisfies-is, apart-one, rows-by-classes, table-count, roots-ties, valid-to, valid-of, every-same, equal-same, not-valid}
+use Rattle.answers.proofs.Tables.{tableClasses, represent, satisfies-is, apart-one, rows-by-classes, table-count, roots-ties, every-same, equal-same, not-valid}
 
 -- The one filling of the rows that gives an assignment.
 pub record TheFilling (rows : List AnswerRow) (p : List ℕ) : Type 0 where

@@ -2,14 +2,14 @@
 use mathlib.Core.Path.{_≡_, refl, sym, _∙_, ap, ap₂}
 use mathlib.Core.Bool.{Bool, true, false, _&&_}
 use mathlib.Core.List.{List, [], _∷_, map, reverseAux}
-use Prim.Native.Nat.{ℕ, zero, suc, _<_, _≤_}
+use Prim.Native.Nat.{ℕ, suc, _<_}
 use native.Mathlib.Omega.{arith}
 use lib.Dec.{eqb}
 use lib.ListN.{length, getD}
 use Rattle.terms.specs.declared.Row.{Row}
-use Rattle.terms.specs.Table.{rowAt, bitsOf, byKind, bitOf, valuesOf, valueOf, sourceOf, sameWord, sidesAgree, allRows, satisfies}
+use Rattle.terms.specs.Table.{rowAt, bitsOf, byKind, bitOf, valuesOf, sourceOf, sameWord, sidesAgree, allRows, satisfies}
 use Rattle.terms.proofs.Cases.{KindOf, is-variable, is-constant, is-concat, is-extract, is-equation, kind-of, else-kind}
-use Rattle.terms.proofs.Faults.{Kept, kept, kept-names, kept-sides, equation-names}
+use Rattle.terms.proofs.Faults.{kept, kept-names, kept-sides, equation-names}
 use Rattle.terms.proofs.Values.{Sound}
 use Rattle.terms.proofs.Sources.{value-sources, source-length}
 use Rattle.answers.specs.Pairs.{Pair, paired, pairsOf, pairsIn, satisfiesPairs, satisfiesAll, allPairs}

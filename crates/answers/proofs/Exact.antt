@@ -16,7 +16,7 @@ use Rattle.answers.specs.Pairs.{Pair, equals, least, representative, sat
 use Rattle.answers.specs.Classes.{classesOf, links, merge, relabel, rep, roots, run}
 use Rattle.answers.proofs.Relabelling.{relabel-hit, relabel-miss, dec-eq, hi, lo, hi-root}
 use Rattle.answers.proofs.Agreement.{map-read, Represents, relabel-zero, step, dec-lt, base, run-represents}
-use Rattle.answers.proofs.Counting.{tail-length, two, tail-at}
+use Rattle.answers.proofs.Counting.{tail-length, tail-at}
 
 -- the assignment that has 1 in the class r, and in the class of 1
 unfoldable pub onesIn : ℕ → ℕ → ℕ

@@ -1,23 +1,16 @@
 -- Neighbours in one piece, over the class C of each place: tied places stand at the same distance from the heads of their pieces, and
 -- their pieces go on equally far.
-use mathlib.Core.Path.{_≡_, refl, sym, ap, ap₂, _∙_, subst}
+use mathlib.Core.Path.{_≡_, refl, sym, ap, _∙_}
 use mathlib.Core.Logic.{_⊎_, inl, inr, _≢_}
-use mathlib.Core.Bool.{Bool, true, false, not, _&&_, _||_, cond, and-true, and-false}
-use mathlib.Core.List.{List, [], _∷_, _++_, map, reverse, reverseAux}
-use Prim.Native.Nat.{ℕ, zero, suc, _+_, _-_, _^_, _≤_, _<_, pred}
+use mathlib.Core.Bool.{Bool, true, false, not, _&&_, _||_, cond}
+use mathlib.Core.List.{[]}
+use Prim.Native.Nat.{ℕ, zero, suc, _+_, _-_, _≤_, _<_, pred}
 use native.Mathlib.Omega.{arith}
-use lib.Dec.{eqb, ltb, leb}
-use lib.ListN.{length, getD, drop, List·getD-eq-default}
-use borrow.Author.Tests.{eqb-true, eqb-false, eq-eqb, ne-eqb, ltb-true, ltb-false, leb-true, leb-false, le-leb, lt-leb, not-true}
-use Rattle.terms.specs.Assignments.{Assignment}
-use Rattle.terms.specs.Table.{bitOf}
-use Rattle.terms.proofs.Assignments.{every-of, assignment-of}
-use Rattle.answers.specs.Pairs.{Pair, satisfiesPairs, equals}
-use Rattle.answers.specs.Classes.{rep}
-use Rattle.answers.specs.Answer.{below, tally, member, distinct}
+use lib.Dec.{eqb}
+use borrow.Author.Tests.{eqb-true, eq-eqb, leb-true, le-leb}
+use Rattle.answers.specs.Answer.{below}
 use Rattle.answers.proofs.Booleans.{and-first, and-second, and-both, same-test}
 use Rattle.answers.proofs.Relabelling.{dec-eq}
-use Rattle.answers.proofs.Agreement.{Represents, dec-lt, bit-past}
 use Rattle.answers.proofs.Tallies.{below-of, below-at, implied}
 use Rattle.answers.proofs.Slots.{loose, glued, heads}
 

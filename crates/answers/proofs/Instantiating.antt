@@ -2,14 +2,14 @@
 -- one filling.
 use mathlib.Core.Path.{_≡_, refl, sym, ap, ap₂, _∙_, subst}
 use mathlib.Core.Logic.{_⊎_, inl, inr, _≢_}
-use mathlib.Core.Bool.{Bool, true, false, not, _&&_, _||_, cond}
-use mathlib.Core.List.{List, [], _∷_, _++_, map, reverse, reverseAux, append-assoc, append-nil, map-append}
+use mathlib.Core.Bool.{Bool, true, false, _&&_, _||_, cond}
+use mathlib.Core.List.{List, [], _∷_, _++_, map, reverseAux, append-assoc, append-nil, map-append}
 use Prim.Native.Nat.{ℕ, zero, suc, _+_, _-_, _≤_, _<_}
 use native.Mathlib.Omega.{arith}
-use lib.Dec.{eqb, ltb}
+use lib.Dec.{eqb}
 use lib.ListN.{length, getD, take, drop, replicate, length-append, List·getD-append}
 use lib.Seq.{ext-getD, getD-append-add}
-use borrow.Author.Tests.{eqb-true, eqb-false, eq-eqb, ne-eqb, not-true}
+use borrow.Author.Tests.{eqb-true, eq-eqb, ne-eqb}
 use Rattle.terms.specs.Assignments.{Assignment}
 use Rattle.terms.proofs.Assignments.{assignment-length, assignment-bit, assignment-of}
 use Rattle.answers.specs.Pairs.{Pair, satisfiesPairs}
@@ -17,7 +17,6 @@ use Rattle.answers.specs.Classes.{rep, inClass}
 use Rattle.answers.specs.Answer.{tally, begins, AnswerRow, rowsTo, answerRows, member, distinct, isFresh, freshNumbers, freshPieces, freshWidth, freshStart, freeBits, rowBits, bitsOfRows, instantiate}
 use Rattle.answers.proofs.Relabelling.{dec-eq}
 use Rattle.answers.proofs.Agreement.{Represents, dec-lt}
-use Rattle.answers.proofs.Booleans.{and-first, and-second}
 use Rattle.answers.proofs.Tallies.{pigeon, tally-none, select}
 use Rattle.answers.proofs.Slots.{tab-assignment, Slot, fill, part, value, tab, tab-at, tab-length, glued}
 use Rattle.answers.proofs.Gluing.{glued-e}

@@ -1,24 +1,20 @@
 -- The call on lent buffers: with room, an accepted table is never refused and its record is the table's; for outcome 2 the rows stand
 -- at the beginning of the answer table. So demands 2 and 3 are about the call. Assumes nothing.
 use mathlib.Core.Path.{_≡_, refl, sym, _∙_, ap}
-use mathlib.Core.Bool.{Bool, true, false, not, _||_, cond}
-use mathlib.Core.List.{List, [], _∷_, _++_}
-use Prim.Native.Nat.{ℕ, zero, suc, _+_, _*_, _≤_, _<_}
+use mathlib.Core.List.{List, [], _∷_}
+use Prim.Native.Nat.{ℕ, _*_, _≤_}
 use native.Mathlib.Omega.{arith}
-use lib.Dec.{eqb, ltb}
 use lib.ListN.{length, take, drop, replicate}
 use lib.Seq.{take-at, take-length}
 use borrow.Author.Tests.{le-ltb, lt-ltb}
-use Rattle.terms.specs.declared.Record.{Record}
-use Rattle.terms.specs.declared.Row.{Row}
 use Rattle.terms.specs.declared.Fault.the-variants.{Accepted}
-use Rattle.terms.specs.Calls.{stopAt, overwrite}
-use Rattle.terms.specs.Faults.{firstFault, isAccepted}
+use Rattle.terms.specs.Calls.{stopAt}
+use Rattle.terms.specs.Faults.{firstFault}
 use Rattle.terms.specs.Table.{rowsOf, bitsOf, satisfies}
 use Rattle.terms.proofs.AcceptedTable.{accepted-table}
 use Rattle.terms.proofs.Buffers.{overwrite-fits}
 use Rattle.terms.proofs.Faults.{totals-small}
-use Rattle.answers.specs.Answer.{AnswerRow, equalUnder, variableWidths, answerRows, answerNumbers}
+use Rattle.answers.specs.Answer.{AnswerRow, equalUnder, variableWidths, answerNumbers}
 use Rattle.answers.specs.Solve.{solvedRows, answerRecord, solveRecord, answerAfter, workAfter}
 use Rattle.answers.proofs.Tables.{rows-few}
 use Rattle.answers.proofs.Demands.{demand-3}

@@ -1,25 +1,24 @@
 -- The solver's answer, place by place, is a solved system.
-use mathlib.Core.Path.{_≡_, refl, sym, ap, ap₂, _∙_, subst}
+use mathlib.Core.Path.{_≡_, refl, sym, ap, ap₂, _∙_}
 use mathlib.Core.Logic.{_⊎_, inl, inr, _≢_}
-use mathlib.Core.Bool.{Bool, true, false, not, _&&_, _||_, cond, and-true, and-false}
-use mathlib.Core.List.{List, [], _∷_, _++_, map, reverse, reverseAux}
-use Prim.Native.Nat.{ℕ, zero, suc, _+_, _-_, _^_, _≤_, _<_, pred}
+use mathlib.Core.Bool.{Bool, true, false, not, _&&_, cond}
+use mathlib.Core.List.{List, []}
+use Prim.Native.Nat.{ℕ, zero, suc, _+_, _-_, _≤_, _<_}
 use native.Mathlib.Omega.{arith}
-use lib.Dec.{eqb, ltb, leb}
-use lib.ListN.{length, getD, drop, List·getD-eq-default}
-use borrow.Author.Tests.{eqb-true, eqb-false, eq-eqb, ne-eqb, ltb-true, ltb-false, leb-true, leb-false, le-leb, lt-leb, not-true}
+use lib.Dec.{eqb}
+use lib.ListN.{getD, List·getD-eq-default}
+use borrow.Author.Tests.{eqb-true, eq-eqb, le-leb, lt-leb, not-true}
 use Rattle.terms.specs.Assignments.{Assignment}
 use Rattle.terms.specs.Table.{bitOf}
-use Rattle.terms.proofs.Assignments.{every-of, assignment-of}
-use Rattle.answers.specs.Pairs.{Pair, satisfiesPairs, equals}
+use Rattle.answers.specs.Pairs.{Pair, satisfiesPairs}
 use Rattle.answers.specs.Classes.{rep}
-use Rattle.answers.specs.Answer.{below, tally, member, distinct}
-use Rattle.answers.proofs.Booleans.{and-first, and-second, and-both, same-test}
+use Rattle.answers.specs.Answer.{tally}
+use Rattle.answers.proofs.Booleans.{and-first, and-second, and-both}
 use Rattle.answers.proofs.Relabelling.{dec-eq}
 use Rattle.answers.proofs.Agreement.{Represents, dec-lt, bit-past}
-use Rattle.answers.proofs.Tallies.{below-of, below-at, tally-mono, select, select-rank, select-mark}
-use Rattle.answers.proofs.Slots.{tab, tab-at, tab-assignment, tab-length, Slot, fill, part, value, System, loose, glued, heads, fresh}
-use Rattle.answers.proofs.Gluing.{Glue, glued-e, glued-i, glue-over, glue-class, glue-under, glue-both, place, front, reach, front-place, differ, glue-in, place-class, reach-class, reach-pos, reach-step, reach-front, reach-two, front-head, front-loose, heads-class}
+use Rattle.answers.proofs.Tallies.{tally-mono, select, select-rank, select-mark}
+use Rattle.answers.proofs.Slots.{tab, tab-at, tab-assignment, Slot, fill, part, value, loose, glued, heads}
+use Rattle.answers.proofs.Gluing.{glued-e, place, front, reach, front-place, differ, place-class, reach-class, reach-pos, reach-front, reach-two, front-head, front-loose, heads-class}
 
 module _ (n : ℕ) (c : List ℕ) (seen : List Pair) (inv : Represents n c seen) (one : rep c 1 ≡ 1) (start : ℕ → Bool) (begin : start 0 ≡ true) (last : start n ≡ true) where
   abbrev C : ℕ → ℕ

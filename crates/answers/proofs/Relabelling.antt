@@ -7,7 +7,7 @@ use Prim.Native.Nat.{ℕ, _≤_, min, max}
 use native.Mathlib.Omega.{arith}
 use lib.Dec.{eqb}
 use borrow.Author.Tests.{eqb-true, eqb-false, eq-eqb, ne-eqb}
-use Rattle.answers.specs.Classes.{merge, relabel}
+use Rattle.answers.specs.Classes.{relabel}
 
 pub relabel-hit : (hi lo v : ℕ) → v ≡ hi → relabel hi lo v ≡ lo
 unfolding relabel

@@ -1,20 +1,20 @@
 -- The answer's definitions where equal bits are those of one class: they come to the classes' numbers.
 use mathlib.Core.Path.{_≡_, refl, sym, ap, ap₂, _∙_}
 use mathlib.Core.Logic.{_⊎_, inl, inr, _≢_}
-use mathlib.Core.Bool.{Bool, true, false, not, _&&_, _||_, cond, and-true, and-false}
-use mathlib.Core.List.{List, [], _∷_}
+use mathlib.Core.Bool.{Bool, true, false, not, _&&_, _||_, and-false}
+use mathlib.Core.List.{List, []}
 use Prim.Native.Nat.{ℕ, zero, suc, _+_, _-_, _≤_, _<_, pred}
 use native.Mathlib.Omega.{arith}
-use lib.Dec.{eqb, ltb, leb}
-use borrow.Author.Tests.{eqb-true, eqb-false, eq-eqb, ne-eqb, leb-true, leb-false, le-leb, lt-leb, not-true}
+use lib.Dec.{eqb, leb}
+use borrow.Author.Tests.{eqb-true, eq-eqb, ne-eqb, le-leb, lt-leb, not-true}
 use Rattle.answers.specs.Pairs.{Pair, least}
 use Rattle.answers.specs.Classes.{rep, inClass}
-use Rattle.answers.specs.Answer.{below, tally, begins, tied, fixedTo, unfixed, contiguous, fixedAlike, goesOn, lowest, appears}
-use Rattle.answers.proofs.Booleans.{and-first, and-second, and-both, same-test}
+use Rattle.answers.specs.Answer.{below, begins, fixedTo, unfixed, contiguous, fixedAlike, goesOn, lowest, appears}
+use Rattle.answers.proofs.Booleans.{and-first, same-test}
 use Rattle.answers.proofs.Relabelling.{dec-eq}
 use Rattle.answers.proofs.Agreement.{Represents, dec-lt}
 use Rattle.answers.proofs.Slots.{loose, glued, heads}
-use Rattle.answers.proofs.Gluing.{Glue, glued-e}
+use Rattle.answers.proofs.Gluing.{glued-e}
 
 module _ (n : ℕ) (c : List ℕ) (seen : List Pair) (inv : Represents n c seen) (one : rep c 1 ≡ 1) (ws : List ℕ) where
   abbrev C : ℕ → ℕ

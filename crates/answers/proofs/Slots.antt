@@ -1,23 +1,18 @@
 -- Solved systems bit by bit: each place has a fixed bit, or a place in a fresh piece.
-use mathlib.Core.Path.{_≡_, refl, sym, ap, ap₂, _∙_, subst}
-use mathlib.Core.Logic.{_⊎_, inl, inr, _≢_}
-use mathlib.Core.Bool.{Bool, true, false, not, _&&_, _||_, cond, and-true, and-false}
-use mathlib.Core.List.{List, [], _∷_, _++_, map, reverse, reverseAux}
-use Prim.Native.Nat.{ℕ, zero, suc, _+_, _-_, _^_, _≤_, _<_, pred}
+use mathlib.Core.Path.{_≡_, refl, ap}
+use mathlib.Core.Logic.{_≢_}
+use mathlib.Core.Bool.{Bool, true, false, not, _&&_, _||_}
+use mathlib.Core.List.{List, [], _∷_}
+use Prim.Native.Nat.{ℕ, zero, suc, _-_, _≤_, _<_, pred}
 use native.Mathlib.Omega.{arith}
-use lib.Dec.{eqb, ltb, leb}
-use lib.ListN.{length, getD, drop, List·getD-eq-default}
-use borrow.Author.Tests.{eqb-true, eqb-false, eq-eqb, ne-eqb, ltb-true, ltb-false, leb-true, leb-false, le-leb, lt-leb, not-true}
+use lib.Dec.{eqb, leb}
+use lib.ListN.{length, getD}
+use borrow.Author.Tests.{eq-eqb}
 use Rattle.terms.specs.Assignments.{Assignment}
 use Rattle.terms.specs.Table.{bitOf}
 use Rattle.terms.proofs.Assignments.{every-of, assignment-of}
 use Rattle.answers.specs.Pairs.{Pair, satisfiesPairs, equals}
-use Rattle.answers.specs.Classes.{rep}
-use Rattle.answers.specs.Answer.{below, tally, member, distinct}
-use Rattle.answers.proofs.Booleans.{and-first, and-second, and-both, same-test}
-use Rattle.answers.proofs.Relabelling.{dec-eq}
-use Rattle.answers.proofs.Agreement.{Represents, dec-lt, bit-past}
-use Rattle.answers.proofs.Tallies.{below-of}
+use Rattle.answers.specs.Answer.{below, tally, member}
 
 -- what holds in every pattern, as a statement
 pub equals-from : (n : ℕ) (seen : List Pair) (s t : ℕ) → ((p : List ℕ) → Assignment n p → satisfiesPairs p seen ≡ true → bitOf p s ≡ bitOf p t) → equals n seen s t ≡ true

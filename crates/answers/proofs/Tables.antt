@@ -1,34 +1,32 @@
 -- The answer of an accepted table, through its classes: the three outcomes, each with its record.
-use mathlib.Core.Path.{_≡_, refl, sym, _∙_, ap, ap₂, fun-ext, subst}
+use mathlib.Core.Path.{_≡_, refl, sym, _∙_, ap, ap₂, fun-ext}
 use mathlib.Core.Logic.{_⊎_, inl, inr, _≢_}
-use mathlib.Core.Bool.{Bool, true, false, not, _&&_, _||_, cond, and-true}
-use mathlib.Core.List.{List, [], _∷_, _++_, reverse, reverseAux}
+use mathlib.Core.Bool.{Bool, true, false, not, _||_, and-true}
+use mathlib.Core.List.{List, [], _∷_, reverse, reverseAux}
 use Prim.Native.Nat.{ℕ, zero, suc, _+_, _-_, _^_, _≤_, _<_}
 use native.Mathlib.Omega.{arith}
-use lib.Dec.{eqb, ltb}
-use lib.ListN.{length, getD, take, drop}
+use lib.Dec.{eqb}
+use lib.ListN.{length, take, drop}
 use lib.Seq.{take-all}
-use borrow.Author.Tests.{eq-eqb, ne-eqb, eqb-true, eqb-false, not-true}
+use borrow.Author.Tests.{not-true}
 use Rattle.terms.specs.declared.Row.{Row}
-use Rattle.terms.specs.declared.Record.{Record}
 use Rattle.terms.specs.declared.Fault.the-variants.{Accepted}
 use Rattle.terms.specs.Assignments.{Assignment, every, count}
 use Rattle.terms.specs.Faults.{firstFault}
-use Rattle.terms.specs.Table.{rowsOf, rowAt, byKind, bitsIn, bitsOf, bitOf, countUp, satisfies, valuesOf, sidesAgree, allRows}
+use Rattle.terms.specs.Table.{rowsOf, rowAt, bitsOf, bitOf, countUp, satisfies}
 use Rattle.terms.proofs.AcceptedTable.{accepted-table}
-use Rattle.terms.proofs.Assignments.{assignment-length, every-at, every-of, count-ext, count-none-of, count-none-at, count-all-of, count-all-at}
+use Rattle.terms.proofs.Assignments.{assignment-length, every-at, every-of, count-ext, count-none-of, count-all-of, count-all-at}
 use Rattle.terms.proofs.Values.{Sound}
 use Rattle.answers.specs.Pairs.{Pair, pairsOf, pairsIn, satisfiesPairs, satisfiesAll, allPairs, equals, least, ties, noneSatisfies, unsatAt, tiesBefore}
 use Rattle.answers.specs.Classes.{rep, inClass, classesOf, runAll, roots, conflictAt, linksBefore}
-use Rattle.answers.specs.Answer.{placed, placeRow, goesOn, rowsTo, AnswerRow, equalUnder, variableWidths, begins, answerRows, freshPieces, freeBits, tally, appears}
+use Rattle.answers.specs.Answer.{placed, placeRow, goesOn, rowsTo, AnswerRow, equalUnder, variableWidths, answerRows}
 use Rattle.answers.specs.Solve.{valid, unsatisfiable, satisfiesTo, unsatRow, pairsTogether, tiesTo, solvedRows, alwaysRecord, neverRecord, solvedRecord, answerRecord}
-use Rattle.answers.proofs.Agreement.{Represents, classes-represent, satisfies-reverse, base}
+use Rattle.answers.proofs.Agreement.{Represents, classes-represent, satisfies-reverse}
 use Rattle.answers.proofs.Booleans.{same-test}
-use Rattle.answers.proofs.Relabelling.{dec-eq}
 use Rattle.answers.proofs.Agreement.{dec-lt}
 use Rattle.answers.proofs.Exact.{equals-is}
 use Rattle.answers.proofs.Equations.{table-pairs, rows-pairs, row-pairs, all-pairs}
-use Rattle.answers.proofs.Theorems.{Satisfiable, conflict-exactly, apart, satisfying-count, free-and-ties, conflict-place, links-before}
+use Rattle.answers.proofs.Theorems.{Satisfiable, apart, satisfying-count, free-and-ties, conflict-place, links-before}
 use Rattle.answers.proofs.Together.{run-together, satisfies-together, ties-together, unsat-least, unsat-most, none-below, some-left}
 
 -- a test that agrees at every assignment

@@ -1,22 +1,15 @@
 -- Counting below a bound: tests that hold at every number, at how many they do, and the k-th at which they do.
-use mathlib.Core.Path.{_≡_, refl, sym, ap, ap₂, _∙_, subst}
+use mathlib.Core.Path.{_≡_, refl, sym, ap, _∙_}
 use mathlib.Core.Logic.{_⊎_, inl, inr, _≢_}
-use mathlib.Core.Bool.{Bool, true, false, not, _&&_, _||_, cond, and-true, and-false}
-use mathlib.Core.List.{List, [], _∷_, _++_, map, reverse, reverseAux}
-use Prim.Native.Nat.{ℕ, zero, suc, _+_, _-_, _^_, _≤_, _<_, pred}
+use mathlib.Core.Bool.{Bool, true, false, not, _&&_, _||_, cond, and-false}
+use mathlib.Core.List.{List, [], _∷_}
+use Prim.Native.Nat.{ℕ, zero, suc, _+_, _-_, _≤_, _<_}
 use native.Mathlib.Omega.{arith}
-use lib.Dec.{eqb, ltb, leb}
-use lib.ListN.{length, getD, drop, List·getD-eq-default}
-use borrow.Author.Tests.{eqb-true, eqb-false, eq-eqb, ne-eqb, ltb-true, ltb-false, leb-true, leb-false, le-leb, lt-leb, not-true}
-use Rattle.terms.specs.Assignments.{Assignment}
-use Rattle.terms.specs.Table.{bitOf}
-use Rattle.terms.proofs.Assignments.{every-of, assignment-of}
-use Rattle.answers.specs.Pairs.{Pair, satisfiesPairs, equals}
-use Rattle.answers.specs.Classes.{rep}
+use lib.Dec.{eqb}
+use borrow.Author.Tests.{eqb-true, eq-eqb, ne-eqb, not-true}
 use Rattle.answers.specs.Answer.{below, tally, member, distinct}
-use Rattle.answers.proofs.Booleans.{and-first, and-second, and-both, same-test}
+use Rattle.answers.proofs.Booleans.{and-first, and-second, and-both}
 use Rattle.answers.proofs.Relabelling.{dec-eq}
-use Rattle.answers.proofs.Agreement.{Represents, dec-lt, bit-past}
 
 pub below-of : (n : ℕ) (f : ℕ → Bool) → ((i : ℕ) → i < n → f i ≡ true) → below n f ≡ true
 unfolding below

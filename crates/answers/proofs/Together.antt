@@ -1,24 +1,17 @@
 -- The equations of a table one after the other, and their pairs in one list: where no assignment is left, and the ties before it.
-use mathlib.Core.Path.{_≡_, refl, sym, _∙_, ap, ap₂}
-use mathlib.Core.Logic.{_⊎_, inl, inr, _≢_}
-use mathlib.Core.Bool.{Bool, true, false, not, _&&_, _||_, cond, and-true}
+use mathlib.Core.Path.{_≡_, refl, sym, _∙_, ap}
+use mathlib.Core.Bool.{Bool, true, false, not, _&&_, cond}
 use mathlib.Core.List.{List, [], _∷_, _++_, reverseAux}
-use Prim.Native.Nat.{ℕ, zero, suc, _+_, _≤_, _<_}
+use Prim.Native.Nat.{ℕ, suc, _+_, _≤_, _<_}
 use native.Mathlib.Omega.{arith}
-use lib.Dec.{eqb, ltb}
 use lib.ListN.{length, take}
-use borrow.Author.Tests.{eq-eqb, ne-eqb, eqb-true, eqb-false, not-true}
-use Rattle.terms.specs.Assignments.{Assignment, every}
-use Rattle.terms.specs.Table.{bitOf}
+use borrow.Author.Tests.{not-true}
 use Rattle.terms.proofs.Assignments.{every-at, every-of}
-use Rattle.answers.specs.Pairs.{Pair, satisfiesPairs, satisfiesAll, allPairs, equals, least, ties, noneSatisfies, unsatAt, tiesBefore}
-use Rattle.answers.specs.Classes.{rep, run, runAll, conflictAt}
+use Rattle.answers.specs.Pairs.{Pair, satisfiesPairs, satisfiesAll, allPairs, least, ties, noneSatisfies, unsatAt, tiesBefore}
+use Rattle.answers.specs.Classes.{run, runAll}
 use Rattle.answers.specs.Solve.{pairsTogether}
 use Rattle.answers.proofs.Booleans.{and-second}
-use Rattle.answers.proofs.Relabelling.{dec-eq}
-use Rattle.answers.proofs.Agreement.{Represents, run-represents}
 use Rattle.answers.proofs.Equations.{all-pairs}
-use Rattle.answers.proofs.Conflicts.{none-satisfies-is}
 use Rattle.answers.proofs.Order.{satisfies-append}
 
 -- classes

@@ -1,13 +1,12 @@
 -- The widths of the variables of a table: they add up to its variable bits, and a variable begins at place 0 and behind the last place.
-use mathlib.Core.Path.{_≡_, refl, sym, _∙_, ap, ap₂}
-use mathlib.Core.Logic.{_⊎_, inl, inr, _≢_}
+use mathlib.Core.Path.{_≡_, refl, sym, _∙_, ap}
 use mathlib.Core.Bool.{Bool, true, false, cond}
 use mathlib.Core.List.{List, [], _∷_, _++_, map}
-use Prim.Native.Nat.{ℕ, zero, suc, _+_, _-_, _≤_, _<_}
+use Prim.Native.Nat.{ℕ, zero, suc, _+_, _-_, _≤_}
 use native.Mathlib.Omega.{arith}
 use lib.Dec.{eqb, ltb}
-use lib.ListN.{length, replicate}
-use borrow.Author.Tests.{eq-eqb, ltb-true, ltb-false}
+use lib.ListN.{replicate}
+use borrow.Author.Tests.{ltb-true}
 use Rattle.terms.specs.declared.Row.{Row}
 use Rattle.terms.specs.Assignments.{Assignment, done, off, on}
 use Rattle.terms.specs.Table.{byKind, bitsIn, bitsOf}

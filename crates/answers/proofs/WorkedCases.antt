@@ -1,24 +1,21 @@
 -- Document 01's worked cases 1 to 6, of the definitions: records, answer tables and numbers of patterns, through the classes. Assumes
 -- nothing.
-use mathlib.Core.Path.{_≡_, refl, sym, _∙_, ap, ap₂}
-use mathlib.Core.Logic.{_≢_}
-use mathlib.Core.Bool.{Bool, true, false, not, _&&_, _||_, cond}
-use mathlib.Core.List.{List, [], _∷_, _++_}
-use Prim.Native.Nat.{ℕ, zero, suc, _+_, _^_, _≤_}
+use mathlib.Core.Path.{_≡_, refl, _∙_, ap, ap₂}
+use mathlib.Core.Bool.{true}
+use mathlib.Core.List.{List, [], _∷_}
+use Prim.Native.Nat.{ℕ, zero, suc, _^_, _≤_}
 use native.Mathlib.Omega.{arith}
-use lib.Dec.{eqb}
 use lib.ListN.{length, take, drop}
 use borrow.Author.Tests.{eq-eqb}
 use Rattle.terms.specs.declared.Record.{Record}
-use Rattle.terms.specs.declared.Row.{Row}
 use Rattle.terms.specs.declared.Fault.the-variants.{Accepted}
 use Rattle.terms.specs.Assignments.{every, count}
 use Rattle.terms.proofs.Assignments.{every-of}
 use Rattle.terms.specs.Faults.{firstFault, breaks11, lowestFault, faultAt, firstRule, breaks12, breaks13, breaks14, breaks15, breaks16, breaks17, breaks18, unusedColumn, misnamed, notTerm, wrongWidth, outside, wrongBounds, tooMany, unequalSides}
 use Rattle.terms.specs.Table.{rowsOf, byKind, byRows, widthIn, widthsOf, bitsIn, bitsOf, countKind, countUp, extract, valueIn, valuesOf, sourcesOf, sameWord, sidesAgree, allRows, satisfies}
-use Rattle.answers.specs.Pairs.{Pair, paired, pairsOf, pairsIn, least, ties}
-use Rattle.answers.specs.Classes.{rep, inClass, relabel, merge, run, runAll, classesOf, links, conflictAt, linksBefore}
-use Rattle.answers.specs.Answer.{AnswerRow, variableWidths, begins, variableAt, below, tally, contiguous, fixedAlike, goesOn, lowest, appears, placeRow, placed, rowsTo, answerRows, answerNumbers, member, distinct, freshNumbers, freshPieces, freshWidth, freshStart, freeBits}
+use Rattle.answers.specs.Pairs.{paired, pairsOf, pairsIn, least, ties}
+use Rattle.answers.specs.Classes.{inClass, relabel, merge, run, classesOf, links, conflictAt, linksBefore}
+use Rattle.answers.specs.Answer.{variableWidths, begins, variableAt, below, tally, contiguous, fixedAlike, goesOn, lowest, appears, placeRow, placed, rowsTo, answerRows, answerNumbers, member, distinct, freshNumbers, freshPieces, freshWidth, freshStart, freeBits}
 use Rattle.answers.specs.Solve.{valid, unsatisfiable, unsatRow, satisfiesTo, tiesTo, pairsTogether, solvedRows, alwaysRecord, neverRecord, solvedRecord, answerRecord}
 use Rattle.answers.proofs.Tables.{tableClasses, is-left, solved-rows, never-record, always-record, solved-record}
 use Rattle.answers.proofs.Booleans.{and-both}

@@ -2,18 +2,17 @@
 -- before do not imply it. Assumes nothing.
 use mathlib.Core.Path.{_≡_, refl, sym, ap, _∙_}
 use mathlib.Core.Logic.{_⊎_, inl, inr, _≢_}
-use mathlib.Core.Bool.{Bool, true, false, cond}
+use mathlib.Core.Bool.{Bool, true, cond}
 use mathlib.Core.List.{List, [], _∷_, _++_, reverse}
-use Prim.Native.Nat.{ℕ, suc, _+_, _≤_, _<_, min, max}
+use Prim.Native.Nat.{ℕ, suc, _+_, min, max}
 use native.Mathlib.Omega.{arith}
 use lib.Dec.{eqb}
-use lib.ListN.{length, getD}
-use borrow.Author.Tests.{eq-eqb, ne-eqb, eqb-true}
+use borrow.Author.Tests.{eq-eqb, ne-eqb}
 use Rattle.terms.specs.Table.{countUp}
 use Rattle.answers.specs.Pairs.{Pair, equals, noneSatisfies}
-use Rattle.answers.specs.Classes.{rep, relabel, merge, run, classesOf}
+use Rattle.answers.specs.Classes.{rep, merge, run, classesOf}
 use Rattle.answers.proofs.Relabelling.{relabel-miss}
-use Rattle.answers.proofs.Agreement.{Represents, relabel-zero, classes-represent, satisfies-reverse}
+use Rattle.answers.proofs.Agreement.{classes-represent, satisfies-reverse}
 use Rattle.answers.proofs.Exact.{equals-is}
 use Rattle.answers.proofs.Order.{equals-same}
 use Rattle.answers.proofs.Theorems.{Satisfiable, conflict-exactly, apart}

@@ -1,24 +1,23 @@
 -- What was appended to a buffer's form: sources one after the other, and the sources of one piece.
 use mathlib.Core.Path.{_≡_, refl, sym, _∙_, ap, ap₂}
-use mathlib.Core.Bool.{Bool, true, false, _&&_, cond}
-use mathlib.Core.List.{List, [], _∷_, _++_, map, append-assoc, append-nil}
-use Prim.Native.Nat.{ℕ, zero, suc, _+_, _-_, _*_, _/_, _%_, _<_, _≤_}
+use mathlib.Core.Bool.{Bool, true, false}
+use mathlib.Core.List.{List, [], _∷_, _++_, map, append-assoc}
+use Prim.Native.Nat.{ℕ, _+_, _-_, _*_, _/_, _%_, _≤_}
 use native.Mathlib.Omega.{arith}
 use lib.Dec.{ltb}
-use lib.ListN.{length, getD, take, length-append}
-use lib.Seq.{take-suc, take-length, length-take-le}
-use borrow.Author.Tests.{lt-ltb, ltb-true}
+use lib.ListN.{length, length-append}
+use borrow.Author.Tests.{lt-ltb}
 use Rattle.terms.specs.declared.Row.{Row}
 use Rattle.terms.specs.Calls.{overwrite}
 use Rattle.terms.proofs.Buffers.{overwrite-length}
 use Rattle.terms.proofs.Lists.{map-append}
 use Rattle.forms.specs.declared.Piece.{Piece}
-use Rattle.forms.specs.Form.{fill, meets, merged, add, addAll, group, pieceOf, formFrom, numbersOf, pieceWidth, formWidth}
+use Rattle.forms.specs.Form.{meets, merged, add, group, pieceOf, formFrom, numbersOf, pieceWidth, formWidth}
 use Rattle.forms.specs.Append.{Has, Appended, pieceAt, putPiece, mergedIn, meetsLast, pushedCount, pushedNumbers}
-use Rattle.forms.proofs.Grouping.{Meeting, meeting, add-meets, add-apart}
+use Rattle.forms.proofs.Grouping.{Meeting, meeting}
 use Rattle.forms.proofs.Maximal.{pushed, pushed-last, group-push}
 use Rattle.forms.proofs.PieceWidths.{Proper, AllProper, some, last-width, last-proper}
-use Rattle.forms.proofs.Buffer.{last-read, last-put, next-put, numbers-length}
+use Rattle.forms.proofs.Buffer.{last-read, last-put, next-put}
 use Rattle.forms.proofs.Units.{form-proper, form-width, form-count}
 
 -- nothing, and one after the other

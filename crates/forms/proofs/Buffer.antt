@@ -1,17 +1,17 @@
 -- A buffer that begins with a form's numbers: one piece read, written anew, or appended.
 use mathlib.Core.Path.{_≡_, refl, sym, _∙_, ap, ap₂}
-use mathlib.Core.Bool.{true, cond}
+use mathlib.Core.Bool.{true}
 use mathlib.Core.List.{List, [], _∷_, _++_, append-assoc}
-use Prim.Native.Nat.{ℕ, zero, suc, _+_, _-_, _*_, _/_, _<_, _≤_}
+use Prim.Native.Nat.{ℕ, suc, _+_, _-_, _*_, _/_, _≤_}
 use native.Mathlib.Omega.{arith}
 use lib.Dec.{ltb}
-use lib.ListN.{length, getD, drop, set, length-append, length-drop}
+use lib.ListN.{length, getD, drop, set, length-append}
 use lib.Seq.{drop-cons, getD-append-add}
 use borrow.Author.Tests.{lt-ltb}
 use Rattle.terms.specs.Calls.{overwrite}
-use Rattle.terms.proofs.Buffers.{overwrite-length, overwrite-fits}
+use Rattle.terms.proofs.Buffers.{overwrite-fits}
 use Rattle.forms.specs.declared.Piece.{Piece}
-use Rattle.forms.specs.Form.{fill, numbersOf}
+use Rattle.forms.specs.Form.{numbersOf}
 use Rattle.forms.specs.Append.{pieceAt, putPiece}
 
 pub numbers-append : (f g : List Piece) → numbersOf (f ++ g) ≡ numbersOf f ++ numbersOf g

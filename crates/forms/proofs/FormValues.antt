@@ -6,12 +6,12 @@ use mathlib.Core.List.{List, [], _∷_, _++_, map, append-assoc}
 use Prim.Native.Nat.{ℕ, zero, suc, _+_, _-_, _<_, _≤_}
 use native.Mathlib.Omega.{arith}
 use lib.Dec.{eqb, ltb}
-use lib.ListN.{length, getD, take, drop, replicate, length-take, length-drop, length-append, replicate-append-replicate, List·getD-eq-default, List·getD-append}
-use lib.Seq.{getD-take, getD-drop, getD-append-add, take-suc, length-take-le, drop-cons}
+use lib.ListN.{length, getD, take, drop, length-drop, replicate-append-replicate, List·getD-eq-default, List·getD-append}
+use lib.Seq.{getD-take, getD-drop, getD-append-add, length-take-le, drop-cons}
 use mathlib.Core.Logic.{_⊎_, inl, inr, ⊎-elim}
 use borrow.Author.Tests.{eqb-true, eqb-false, ne-eqb}
 use Rattle.terms.specs.declared.Row.{Row}
-use Rattle.terms.specs.Table.{byKind, bitsIn, bitsOf, bitOf, countUp, extract, sourcesOf, sourceOf, valueOf}
+use Rattle.terms.specs.Table.{byKind, bitsIn, bitsOf, bitOf, extract, sourceOf, valueOf}
 use Rattle.terms.proofs.Cases.{KindOf, is-variable, is-constant, is-concat, is-extract, is-equation, kind-of, else-kind, not-both, lt-or-le}
 use Rattle.terms.proofs.Sources.{value-sources}
 use Rattle.terms.proofs.Values.{Sound}
@@ -19,7 +19,6 @@ use Rattle.terms.proofs.Words.{extract-join}
 use Rattle.forms.specs.declared.Piece.{Piece}
 use Rattle.forms.specs.Form.{fill, part, bitsUp, placePieces, pieceOf, meets, merged, add, addAll, group, formFrom, formOf, variableBits, pieceValue, piecesValue, formValue}
 use Rattle.forms.proofs.Grouping.{Meeting, meeting}
-use Rattle.forms.proofs.PieceWidths.{Proper}
 use Rattle.forms.proofs.Places.{places-count, bits-count}
 
 -- a piece that lies within its variable

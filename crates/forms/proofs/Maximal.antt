@@ -1,14 +1,13 @@
 -- A form is maximally connected (document 001, section 3): no two neighbours meet. So a piece that is appended can only
 -- meet the last one.
-use mathlib.Core.Path.{_≡_, refl, sym, _∙_, ap}
-use mathlib.Core.Bool.{Bool, true, false, cond}
+use mathlib.Core.Path.{_≡_, refl, _∙_, ap}
+use mathlib.Core.Bool.{Bool, true, false}
 use mathlib.Core.List.{List, [], _∷_, _++_}
-use Prim.Native.Nat.{ℕ, zero, suc, _+_, _≤_}
+use Prim.Native.Nat.{_+_}
 use native.Mathlib.Omega.{arith}
-use lib.ListN.{length, length-append}
 use Rattle.forms.specs.declared.Piece.{Piece}
 use Rattle.forms.specs.Form.{meets, merged, add, addAll, group}
-use Rattle.forms.proofs.Grouping.{meets-right, meets-left, add-meets, add-apart, group-append}
+use Rattle.forms.proofs.Grouping.{meets-right, meets-left, group-append}
 
 pub data Maximal : List Piece → Type 0 where
   none : Maximal []

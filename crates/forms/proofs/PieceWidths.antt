@@ -1,15 +1,15 @@
 -- The widths of a form's pieces: each is at least 1, and they add up to the number of bits that were grouped.
-use mathlib.Core.Path.{_≡_, refl, sym, _∙_, ap, ap₂}
-use mathlib.Core.Bool.{Bool, true, false, cond}
+use mathlib.Core.Path.{_≡_, refl, _∙_, ap}
+use mathlib.Core.Bool.{Bool, true, false}
 use mathlib.Core.List.{List, [], _∷_, _++_}
-use Prim.Native.Nat.{ℕ, zero, suc, _+_, _-_, _<_, _≤_}
+use Prim.Native.Nat.{ℕ, suc, _+_, _-_, _≤_}
 use native.Mathlib.Omega.{arith}
-use lib.Dec.{eqb, ltb}
+use lib.Dec.{ltb}
 use lib.ListN.{length}
 use Rattle.terms.proofs.Cases.{not-both}
 use Rattle.forms.specs.declared.Piece.{Piece}
 use Rattle.forms.specs.Form.{meets, merged, add, addAll, group, pieceWidth, formWidth}
-use Rattle.forms.proofs.Grouping.{Meeting, meeting, add-meets, add-apart}
+use Rattle.forms.proofs.Grouping.{Meeting, meeting}
 
 -- a piece that can stand in a form: a fill ends at 0, and high is not below low
 pub record Proper (p : Piece) : Type 0 where

@@ -1,21 +1,20 @@
 -- A row's sources as pieces of one bit: a variable's are its bits, a constant's are fills; grouped, each is one piece.
 use mathlib.Core.Path.{_≡_, refl, sym, _∙_, ap, ap₂}
-use mathlib.Core.Bool.{Bool, true, false, cond}
+use mathlib.Core.Bool.{cond}
 use mathlib.Core.List.{List, [], _∷_, _++_, map, append-assoc}
 use Prim.Native.Nat.{ℕ, zero, suc, _+_, _-_, _<_, _≤_}
 use native.Mathlib.Omega.{arith}
-use lib.Dec.{eqb, ltb}
-use lib.ListN.{length, getD, take, drop, replicate, length-append, length-replicate, length-map, length-take}
+use lib.Dec.{eqb}
+use lib.ListN.{length, take, drop, replicate, length-append}
 use lib.Seq.{split-at, take-at, drop-at}
 use borrow.Author.Tests.{eq-eqb, lt-ltb}
 use Rattle.terms.specs.declared.Row.{Row}
-use Rattle.terms.specs.Table.{rowAt, noRow, byKind, bitsIn, bitsOf, countKind, countUp, sourcesOf, sourceOf, valueOf, extract}
+use Rattle.terms.specs.Table.{rowAt, noRow, byKind, bitsIn, bitsOf, countKind, countUp, sourcesOf, sourceOf}
 use Rattle.terms.proofs.Cases.{KindOf, is-variable, is-constant, is-concat, is-extract, is-equation, kind-of, else-kind}
-use Rattle.terms.proofs.Lists.{map-append, map-take, map-drop, map-replicate, read-places}
+use Rattle.terms.proofs.Lists.{map-take, map-drop, map-replicate, read-places}
 use Rattle.terms.proofs.Values.{value-variable, value-constant}
 use Rattle.forms.specs.declared.Piece.{Piece}
-use Rattle.forms.specs.Form.{fill, part, bitsUp, placePieces, pieceOf, meets, merged, add, addAll, group, pieceWidth, formWidth}
-use Rattle.forms.proofs.PieceWidths.{Proper, AllProper, none, some}
+use Rattle.forms.specs.Form.{fill, part, bitsUp, placePieces, pieceOf, meets, merged, add, addAll, group}
 
 pub bits-count : (v low n : ℕ) → length (bitsUp v low n) ≡ n
 unfolding bitsUp

@@ -2,12 +2,12 @@
 -- piece that a variable, a constant or a part of one is.
 use mathlib.Core.Path.{_≡_, refl, sym, _∙_, ap, ap₂}
 use mathlib.Core.Bool.{false}
-use mathlib.Core.List.{List, [], _∷_, _++_, map}
+use mathlib.Core.List.{List, [], _∷_, _++_}
 use Prim.Native.Nat.{ℕ, zero, suc, _+_, _-_, _%_, _<_, _≤_}
 use native.Mathlib.Omega.{arith}
-use lib.ListN.{length, getD, take, drop, replicate, length-map, length-replicate}
+use lib.ListN.{length, getD, take, drop, replicate}
 use Rattle.terms.specs.declared.Row.{Row}
-use Rattle.terms.specs.Table.{rowsOf, rowAt, widthOf, bitsOf, countKind, countUp, extract, sourcesOf, sourceOf, valueOf}
+use Rattle.terms.specs.Table.{rowsOf, rowAt, widthOf, bitsOf, countKind, countUp, extract, sourcesOf, sourceOf}
 use Rattle.terms.specs.Faults.{absent, misnamed}
 use Rattle.terms.proofs.AcceptedTable.{Table, accepted-table, term-there, term-present}
 use Rattle.terms.proofs.Cases.{KindOf, is-variable, is-constant, is-concat, is-extract, is-equation, kind-of}
@@ -15,7 +15,7 @@ use Rattle.terms.proofs.Faults.{Term, Kept, kept, kept-names, kept-kind, kept-b
 use Rattle.terms.proofs.Lists.{map-take, map-drop}
 use Rattle.terms.proofs.Sources.{source-length}
 use Rattle.terms.proofs.Values.{value-concat, value-extract, width-variable, width-constant, width-concat, width-extract}
-use Rattle.terms.proofs.Words.{extract-length, extract-replicate, extract-right, extract-left, extract-across, extract-whole, extract-extract}
+use Rattle.terms.proofs.Words.{extract-right, extract-left, extract-across, extract-whole, extract-extract}
 use Rattle.forms.specs.declared.Piece.{Piece}
 use Rattle.forms.specs.Form.{fill, part, bitsUp, pieceOf, group, formFrom}
 use Rattle.forms.specs.Append.{Numbered}

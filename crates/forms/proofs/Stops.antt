@@ -1,7 +1,7 @@
 -- The normal form call's record and output, for each way in which the call ends.
-use mathlib.Core.Path.{_≡_, refl, sym, _∙_, ap}
+use mathlib.Core.Path.{_≡_, refl, _∙_}
 use mathlib.Core.Bool.{true, false}
-use mathlib.Core.List.{List, [], _∷_}
+use mathlib.Core.List.{List, []}
 use Prim.Native.Nat.{ℕ, _<_, _≤_}
 use native.Mathlib.Omega.{arith}
 use lib.Dec.{eqb}
@@ -14,7 +14,7 @@ use Rattle.terms.specs.Faults.{absent, isAccepted, firstFault}
 use Rattle.terms.specs.Calls.{refusal, completed, faultRecord, stopAt, overwrite}
 use Rattle.terms.proofs.AcceptedTable.{fault-numbered}
 use Rattle.forms.specs.Form.{group, addAll, formFrom, formOf, numbersOf}
-use Rattle.forms.specs.Append.{Has, Appended}
+use Rattle.forms.specs.Append.{Appended}
 use Rattle.forms.specs.Call.{formRecord, formAfter}
 use Rattle.forms.proofs.Units.{form-count}
 

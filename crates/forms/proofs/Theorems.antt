@@ -2,15 +2,15 @@
 -- the rows of an accepted table.
 use mathlib.Core.Path.{_≡_, refl, sym, _∙_, ap, ap₂}
 use mathlib.Core.List.{List, [], _∷_, _++_, map}
-use Prim.Native.Nat.{ℕ, _+_, _-_, _*_, _<_, _≤_}
+use Prim.Native.Nat.{ℕ, _+_, _-_, _<_, _≤_}
 use native.Mathlib.Omega.{arith}
-use lib.ListN.{length, getD, take}
+use lib.ListN.{length, take}
 use Rattle.terms.specs.declared.Row.{Row}
 use Rattle.terms.specs.declared.Fault.the-variants.{Accepted}
 use Rattle.terms.specs.Table.{rowsOf, rowAt, byKind, byRows, widthIn, widthsOf, widthOf, bitsIn, bitsOf, countKind, countUp, extract, sourcesOf, sourceOf, valueIn, valuesOf, valueOf}
-use Rattle.terms.specs.Faults.{absent, firstFault, breaks11, lowestFault, faultAt, firstRule, breaks12, breaks13, breaks14, breaks15, breaks16, breaks17, breaks18, unusedColumn, misnamed, notTerm, wrongWidth, outside, wrongBounds, tooMany, unequalSides}
+use Rattle.terms.specs.Faults.{firstFault, breaks11, lowestFault, faultAt, firstRule, breaks12, breaks13, breaks14, breaks15, breaks16, breaks17, breaks18, unusedColumn, misnamed, notTerm, wrongWidth, outside, wrongBounds, tooMany, unequalSides}
 use Rattle.terms.specs.Assignments.{Assignment}
-use Rattle.terms.proofs.AcceptedTable.{Table, accepted-table, term-there, term-present}
+use Rattle.terms.proofs.AcceptedTable.{accepted-table, term-present}
 use Rattle.terms.proofs.Assignments.{assignment-length}
 use Rattle.terms.proofs.Equations.{IsConcat, IsExtract, equation-1, equation-2, equation-3, equation-4, equation-7}
 use Rattle.terms.proofs.Faults.{kept, kept-bounds, widths-small}
@@ -19,8 +19,7 @@ use Rattle.terms.proofs.Separation.{same-sources}
 use Rattle.terms.proofs.Sources.{count-up, source-length}
 use Rattle.terms.proofs.Values.{Sound, value-concat, value-extract, width-variable}
 use Rattle.terms.proofs.Words.{extract-join, extract-whole}
-use Rattle.forms.specs.declared.Piece.{Piece}
-use Rattle.forms.specs.Form.{fill, part, bitsUp, placePieces, pieceOf, meets, merged, add, addAll, group, formFrom, formOf, numbersOf, pieceWidth, formWidth, formValue}
+use Rattle.forms.specs.Form.{fill, part, bitsUp, placePieces, pieceOf, meets, merged, add, addAll, group, formFrom, formOf, numbersOf, formWidth, formValue}
 use Rattle.forms.specs.Append.{Numbered, variablesIn}
 use Rattle.forms.proofs.Buffer.{numbers-length}
 use Rattle.forms.proofs.FormValues.{form-value}

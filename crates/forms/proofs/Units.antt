@@ -1,16 +1,16 @@
 -- A source as a piece is proper and one bit wide. So a form of sources is as wide as there are sources.
-use mathlib.Core.Path.{_≡_, refl, sym, _∙_, ap}
-use mathlib.Core.Bool.{true, false, cond}
+use mathlib.Core.Path.{_≡_, refl, _∙_}
+use mathlib.Core.Bool.{cond}
 use mathlib.Core.List.{List, [], _∷_, _++_, map}
 use Prim.Native.Nat.{ℕ, zero, suc, _+_, _-_, _≤_}
 use native.Mathlib.Omega.{arith}
-use lib.Dec.{eqb, ltb}
+use lib.Dec.{eqb}
 use lib.ListN.{length, getD, length-map}
 use Rattle.terms.specs.declared.Row.{Row}
 use Rattle.terms.specs.Table.{byKind}
 use Rattle.terms.proofs.Cases.{KindOf, is-variable, is-constant, is-concat, is-extract, is-equation, kind-of, else-kind, not-both}
 use Rattle.forms.specs.declared.Piece.{Piece}
-use Rattle.forms.specs.Form.{fill, part, bitsUp, placePieces, pieceOf, group, formFrom, pieceWidth, formWidth}
+use Rattle.forms.specs.Form.{fill, part, bitsUp, placePieces, pieceOf, formFrom, pieceWidth, formWidth}
 use Rattle.forms.proofs.PieceWidths.{Proper, AllProper, none, some, group-proper, group-width, group-count}
 
 pub record Unit-bit (p : Piece) : Type 0 where

@@ -1,16 +1,12 @@
 -- What a number comes to, one byte at a time.
-use mathlib.Core.Path.{_≡_, refl, sym, _∙_, ap}
-use Prim.Native.Nat.{ℕ, suc, _+_, _*_, _<_, _≤_}
-use mathlib.Core.Bool.{Bool, true, false}
+use mathlib.Core.Path.{_≡_, sym, _∙_, ap}
+use Prim.Native.Nat.{ℕ, _+_, _*_, _<_, _≤_}
 use mathlib.Core.List.{List, [], _∷_}
 use native.Mathlib.Omega.{arith}
 use native.Mathlib.Numerals.{add-one}
-use lib.Dec.{ltb, eqb}
 use lib.ListN.{length, getD, drop, drop-of-length-le}
 use lib.Seq.{drop-cons}
-use borrow.Author.Tests.{lt-ltb, le-ltb, eq-eqb, ne-eqb}
-use Rattle.sheets.specs.declared.Cursor.{Cursor}
-use Rattle.sheets.specs.declared.Number.{Number}
+use borrow.Author.Tests.{lt-ltb, le-ltb, ne-eqb}
 use Rattle.sheets.specs.declared.Number.the-variants.{Value, NoNumber}
 use Rattle.sheets.specs.Text.{place, digitOf, moreDigits, afterZero, numberHere, numberAt}
 

@@ -1,12 +1,10 @@
 -- The lines read so far: their rows stand at the beginning of the table, and what is found from here on is what is found
 -- of all lines.
-use mathlib.Core.Path.{_≡_, refl, sym, _∙_, ap, ap₂}
-use mathlib.Core.Bool.{true, false}
+use mathlib.Core.Path.{_≡_, refl, sym, _∙_, ap}
 use mathlib.Core.List.{List, [], _∷_, _++_, append-assoc, append-nil}
 use Prim.Native.Nat.{ℕ, zero, suc, _+_, _-_, _*_, _<_, _≤_}
 use native.Mathlib.Omega.{arith}
-use native.Mathlib.Numerals.{add-one}
-use lib.ListN.{length, set, length-append}
+use lib.ListN.{length, length-append}
 use borrow.Author.Tests.{lt-ltb, le-ltb}
 use Rattle.terms.specs.declared.Row.{Row}
 use Rattle.terms.specs.Calls.{overwrite}
@@ -14,7 +12,6 @@ use Rattle.terms.proofs.Buffers.{overwrite-length, overwrite-more}
 use Rattle.sheets.specs.declared.Cursor.{Cursor}
 use Rattle.sheets.specs.declared.Order.{Order}
 use Rattle.sheets.specs.declared.Line.the-variants.{Values, NoLine}
-use Rattle.sheets.specs.declared.Sheet.{Sheet}
 use Rattle.sheets.specs.declared.Sheet.the-variants.{TooMany, WrongLine, Rows}
 use Rattle.sheets.specs.Text.{lineAt}
 use Rattle.sheets.specs.Sheet.{rowNumbers, putRow, foundFrom, rowsFrom}

@@ -9,7 +9,7 @@ use lib.Dec.{eqb, ltb}
 use lib.ListN.{length}
 use borrow.Author.Tests.{le-ltb}
 use Rattle.terms.specs.declared.Row.{Row}
-use Rattle.terms.specs.Calls.{refusal, completed, stopAt, overwrite}
+use Rattle.terms.specs.Calls.{refusal, completed, overwrite}
 use Rattle.sheets.specs.declared.Sheet.{Sheet}
 use Rattle.sheets.specs.declared.Sheet.the-variants.{TooLong, WrongNames, TooMany, WrongLine, Rows}
 use Rattle.sheets.specs.Sheet.{rowNumbers, sheetFound, sheetRows}

@@ -1,11 +1,11 @@
 -- What is made of the equations taken: the record of each outcome, and the answer table.
 use mathlib.Core.Path.{_≡_, refl, sym, ap, ap₂, _∙_, subst}
-use mathlib.Core.Logic.{_⊎_, inl, inr, _≢_}
-use mathlib.Core.Bool.{Bool, true, false, cond}
-use mathlib.Core.List.{List, [], _∷_, reverse}
-use Prim.Native.Nat.{ℕ, zero, suc, _+_, _-_, _%_, _≤_, _<_}
+use mathlib.Core.Logic.{_≢_}
+use mathlib.Core.Bool.{false}
+use mathlib.Core.List.{List, []}
+use Prim.Native.Nat.{ℕ, suc, _-_, _%_, _≤_, _<_}
 use native.Mathlib.Omega.{arith}
-use lib.ListN.{length, getD, drop}
+use lib.ListN.{length}
 use lib.Seq.{take-all}
 use Rattle.terms.specs.declared.Record.{Record}
 use Rattle.terms.specs.declared.Row.{Row}
@@ -17,10 +17,9 @@ use Rattle.terms.proofs.AcceptedTable.{accepted-table}
 use Rattle.terms.proofs.Faults.{totals-small}
 use Rattle.answers.proofs.Instantiating.{tally-most}
 use Rattle.answers.specs.Pairs.{Pair, pairsIn}
-use Rattle.answers.specs.Classes.{rep, inClass, runAll, conflictAt, linksBefore}
-use Rattle.answers.specs.Answer.{AnswerRow, tally, appears, variableWidths, answerRows, answerNumbers, freshPieces, freeBits}
-use Rattle.answers.specs.Solve.{unsatisfiable, solvedRows, tiesTo, pairsTogether, alwaysRecord, neverRecord, solvedRecord, answerRecord}
-use Rattle.answers.proofs.Agreement.{Represents}
+use Rattle.answers.specs.Classes.{inClass}
+use Rattle.answers.specs.Answer.{AnswerRow, appears, variableWidths, answerRows, answerNumbers, freshPieces, freeBits}
+use Rattle.answers.specs.Solve.{unsatisfiable, solvedRows, tiesTo, alwaysRecord, neverRecord, solvedRecord, answerRecord}
 use Rattle.answers.proofs.Tables.{tableClasses, classes-run, represent, conflict-most, apart-one, solved-rows, is-left, never-record, always-record, solved-record, all-ties, rows-few}
 use Rattle.answers.proofs.Theorems.{links-before}
 use Rattle.answers.proofs.Demands.{solved-sum, solved-appear}

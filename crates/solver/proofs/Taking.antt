@@ -1,8 +1,8 @@
 -- The equations of a table taken one after the other, pair by pair: what is done plus what the rest will give is what all give.
 use mathlib.Core.Path.{_≡_, refl, sym, ap, _∙_, subst}
 use mathlib.Core.Logic.{_⊎_, inl, inr, _≢_}
-use mathlib.Core.Bool.{Bool, true, false, cond}
-use mathlib.Core.List.{List, [], _∷_, _++_}
+use mathlib.Core.Bool.{true, false, cond}
+use mathlib.Core.List.{List, [], _∷_}
 use Prim.Native.Nat.{ℕ, zero, suc, _+_, _-_, _≤_, _<_, min, max}
 use native.Mathlib.Omega.{arith}
 use native.Mathlib.Numerals.{add-one}
@@ -10,7 +10,7 @@ use lib.Dec.{eqb}
 use lib.ListN.{length, getD, drop}
 use borrow.Author.Tests.{eq-eqb, ne-eqb}
 use Rattle.terms.specs.declared.Row.{Row}
-use Rattle.terms.specs.Table.{rowsOf, rowAt, bitsOf, countUp}
+use Rattle.terms.specs.Table.{rowAt, bitsOf, countUp}
 use Rattle.answers.specs.Pairs.{Pair, pairsOf, pairsIn}
 use Rattle.answers.specs.Classes.{rep, relabel, merge, run, runAll, links, conflictAt, linksBefore}
 use Rattle.answers.proofs.Relabelling.{dec-eq}

@@ -1,8 +1,8 @@
 -- What an accepted table is: at most 512 whole rows, none of which breaks a rule.
-use mathlib.Core.Path.{_≡_, refl, sym, _∙_, ap}
+use mathlib.Core.Path.{_≡_, refl, _∙_, ap}
 use mathlib.Core.Bool.{Bool, true, false, cond}
 use mathlib.Core.List.{List}
-use Prim.Native.Nat.{ℕ, _+_, _*_, _/_, _%_, _<_, _≤_}
+use Prim.Native.Nat.{ℕ, _%_, _<_, _≤_}
 use native.Mathlib.Omega.{arith}
 use lib.Dec.{eqb, ltb}
 use lib.ListN.{length, getD, take}
@@ -15,7 +15,7 @@ use Rattle.terms.specs.Table.{rowsOf, rowAt, widthsOf, widthOf}
 use Rattle.terms.specs.Calls.{faultNumber, overwrite}
 use Rattle.terms.specs.Faults.{nonzero, breaks11, isAccepted, lowestFault, firstFault, faultIn, rowsBefore, rowsPassed, notTerm, absent}
 use Rattle.terms.proofs.Cases.{not-both, or-first, or-second}
-use Rattle.terms.proofs.Faults.{Kept, kept, passed-from, term, Term}
+use Rattle.terms.proofs.Faults.{passed-from, term, Term}
 use Rattle.terms.proofs.Values.{Sound}
 use Rattle.terms.proofs.Buffers.{overwrite-read}
 use Rattle.terms.proofs.Widths.{widths-count}

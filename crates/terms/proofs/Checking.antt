@@ -2,20 +2,19 @@
 -- them breaks a rule, and the lowest fault of the rows left is that of the table.
 use mathlib.Core.Path.{_≡_, refl, sym, _∙_, ap, ap₂}
 use mathlib.Core.Bool.{Bool, true, false, not, _||_, cond}
-use mathlib.Core.List.{List, [], _∷_, _++_}
-use mathlib.Core.Logic.{⊎-elim}
-use Prim.Native.Nat.{ℕ, zero, suc, _+_, _-_, _*_, _/_, _%_, _<_, _≤_}
+use mathlib.Core.List.{List, []}
+use Prim.Native.Nat.{ℕ, suc, _+_, _-_, _%_, _<_, _≤_}
 use native.Mathlib.Omega.{arith}
 use native.Mathlib.Numerals.{add-one}
 use borrow.Author.Tests.{lt-ltb, le-ltb, ne-eqb, eqb-true, eqb-false}
 use borrow.Author.Count.{below-more}
 use lib.Dec.{eqb, ltb}
 use lib.ListN.{length, getD, take, set}
-use lib.Seq.{take-all, length-take-le}
+use lib.Seq.{length-take-le}
 use Rattle.terms.specs.declared.Row.{Row}
 use Rattle.terms.specs.declared.Fault.{Fault}
 use Rattle.terms.specs.declared.Fault.the-variants.{Accepted, Shape}
-use Rattle.terms.specs.Table.{rowsOf, rowAt, byKind, widthIn, widthsOf, widthOf, bitsIn, bitsOf, countKind}
+use Rattle.terms.specs.Table.{rowsOf, rowAt, widthIn, widthsOf, widthOf, bitsIn, bitsOf, countKind}
 use Rattle.terms.specs.Faults.{breaks11, breaks12, breaks13, breaks14, breaks15, breaks16, breaks17, breaks18, unusedColumn, misnamed, wrongWidth, wrongBounds, tooMany, unequalSides, firstRule, faultAt, isAccepted, lowestFault, firstFault, faultIn, rowsBefore, rowsPassed}
 use Rattle.terms.specs.Calls.{overwrite}
 use Rattle.terms.proofs.Cases.{kind-same, or-true}

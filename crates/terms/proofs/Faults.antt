@@ -1,17 +1,17 @@
 -- What holds of a row that breaks no rule, and of a table in which no row breaks one.
 use mathlib.Core.Path.{_≡_, refl, sym, _∙_, ap}
-use mathlib.Core.Bool.{Bool, true, false, not, _||_, cond}
+use mathlib.Core.Bool.{Bool, true, false, not, _||_}
 use mathlib.Core.List.{List}
 use mathlib.Core.Logic.{_⊎_, inl, inr, ⊎-elim}
 use Prim.Native.Nat.{ℕ, zero, suc, _+_, _-_, _<_, _≤_}
 use native.Mathlib.Omega.{arith}
 use lib.Dec.{eqb, ltb}
-use lib.ListN.{length, getD, take}
-use borrow.Author.Tests.{ltb-true, ltb-false, eqb-true, eqb-false, not-true, not-false}
+use lib.ListN.{length, take}
+use borrow.Author.Tests.{ltb-true, ltb-false, eqb-true, eqb-false, not-false}
 use Rattle.terms.specs.declared.Row.{Row}
 use Rattle.terms.specs.declared.Fault.{Fault}
-use Rattle.terms.specs.declared.Fault.the-variants.{Accepted, Shape, Kind, Unused, Named, Width, Bounds, Count, Sides}
-use Rattle.terms.specs.Table.{rowAt, byKind, widthIn, widthsOf, widthOf, bitsOf, countKind}
+use Rattle.terms.specs.declared.Fault.the-variants.{Accepted}
+use Rattle.terms.specs.Table.{rowAt, byKind, widthIn, widthOf, bitsOf, countKind}
 use Rattle.terms.specs.Faults.{breaks12, breaks13, breaks14, breaks15, breaks16, breaks17, breaks18, notTerm, misnamed, outside, wrongWidth, wrongBounds, tooMany, unequalSides, firstRule, faultAt, isAccepted, lowestFault, rowsBefore}
 use Rattle.terms.proofs.Cases.{else-kind, KindOf, is-variable, is-constant, is-concat, is-extract, is-equation, kind-of, not-both, or-first, or-second, lt-or-le}
 use Rattle.terms.proofs.Widths.{width-row}

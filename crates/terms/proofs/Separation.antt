@@ -5,16 +5,16 @@ use mathlib.Core.List.{List, [], _∷_, _++_, map}
 use mathlib.Core.Logic.{_⊎_, inl, inr, ⊎-elim}
 use Prim.Native.Nat.{ℕ, zero, suc, _+_, _-_, _<_, _≤_}
 use native.Mathlib.Omega.{arith}
-use lib.ListN.{length, getD, take, drop, replicate, set, length-replicate, length-set, getD-replicate, length-map, List·getD-eq-default}
+use lib.ListN.{length, getD, take, drop, replicate, set, length-replicate, length-set, getD-replicate}
 use lib.Seq.{getD-set-same, getD-set-other}
 use Rattle.terms.specs.declared.Row.{Row}
-use Rattle.terms.specs.Table.{rowAt, bitsOf, bitOf, countUp, extract, sourcesOf, sourceOf, valueOf, valuesOf}
+use Rattle.terms.specs.Table.{rowAt, bitsOf, bitOf, countUp, extract, sourcesOf, sourceOf, valueOf}
 use Rattle.terms.specs.Assignments.{Assignment}
 use Rattle.terms.proofs.Assignments.{assignment-of, assignment-length}
 use Rattle.terms.proofs.Cases.{KindOf, is-variable, is-constant, is-concat, is-extract, is-equation, kind-of, by-strong, lt-or-le}
 use Rattle.terms.proofs.Faults.{Kept, kept, kept-names, kept-bit, concat-names, extract-names}
-use Rattle.terms.proofs.Sources.{value-sources, source-length, count-up}
-use Rattle.terms.proofs.Values.{Sound, value-length, value-variable, value-constant, value-concat, value-extract, value-equation}
+use Rattle.terms.proofs.Sources.{value-sources}
+use Rattle.terms.proofs.Values.{Sound, value-variable, value-constant, value-concat, value-extract, value-equation}
 
 -- every number of a list is below a bound
 data AllBelow (n : ℕ) : List ℕ → Type 0 where

@@ -1,11 +1,11 @@
 -- A row's value under an assignment is the bits of its sources.
 use mathlib.Core.Path.{_≡_, refl, sym, _∙_, ap, ap₂}
-use mathlib.Core.List.{List, [], _∷_, _++_, map}
+use mathlib.Core.List.{List, [], _++_, map}
 use Prim.Native.Nat.{ℕ, zero, suc, _+_, _-_, _<_, _≤_}
 use native.Mathlib.Omega.{arith}
 use lib.ListN.{length, getD, take, drop, replicate}
 use Rattle.terms.specs.declared.Row.{Row}
-use Rattle.terms.specs.Table.{rowAt, bitsOf, extract, valuesOf, valueOf, bitOf, countUp, sourcesOf, sourceOf, widthOf}
+use Rattle.terms.specs.Table.{rowAt, bitsOf, extract, valueOf, bitOf, countUp, sourcesOf, sourceOf, widthOf}
 use Rattle.terms.proofs.Cases.{KindOf, is-variable, is-constant, is-concat, is-extract, is-equation, kind-of, by-strong}
 use Rattle.terms.proofs.Faults.{Kept, kept, kept-names, kept-bit, concat-names, extract-names}
 use Rattle.terms.proofs.Values.{Sound, value-length, value-variable, value-constant, value-concat, value-extract, value-equation}

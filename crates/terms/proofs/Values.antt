@@ -1,18 +1,18 @@
 -- The values of the rows of a table under an assignment: each kind's value from the values of the rows that it names,
 -- their lengths, and their bits as sources.
-use mathlib.Core.Path.{_≡_, refl, sym, _∙_, ap, ap₂}
-use mathlib.Core.List.{List, [], _∷_, _++_, map}
-use Prim.Native.Nat.{ℕ, zero, suc, _+_, _-_, _<_, _≤_, min}
+use mathlib.Core.Path.{_≡_, sym, _∙_, ap, ap₂}
+use mathlib.Core.List.{List, [], _∷_, _++_}
+use Prim.Native.Nat.{ℕ, zero, suc, _+_, _-_, _<_, _≤_}
 use native.Mathlib.Omega.{arith}
-use lib.ListN.{length, getD, take, drop, replicate, length-append, length-take, length-drop, length-replicate, length-map}
-use lib.Seq.{take-all, length-take-le}
+use lib.ListN.{length, getD, take, drop, replicate, length-append, length-drop, length-replicate}
+use lib.Seq.{length-take-le}
 use Rattle.terms.specs.declared.Row.{Row}
-use Rattle.terms.specs.Table.{rowAt, byKind, byRows, widthIn, widthsOf, widthOf, bitsIn, bitsOf, extract, valueIn, valuesOf, valueOf, bitOf, countUp, sourcesOf}
+use Rattle.terms.specs.Table.{rowAt, byKind, widthIn, widthOf, bitsIn, bitsOf, extract, valueIn, valuesOf, valueOf}
 use Rattle.terms.proofs.Cases.{else-kind, KindOf, is-variable, is-constant, is-concat, is-extract, is-equation, kind-of, by-strong}
 use Rattle.terms.proofs.ByRows.{rows-count, rows-early, rows-at}
 use Rattle.terms.proofs.Widths.{width-row, width-early, bits-more}
-use Rattle.terms.proofs.Faults.{Term, Kept, kept, Passed, kept-names, kept-bit, kept-bounds, concat-names, extract-names}
-use Rattle.terms.proofs.Words.{extract-length, extract-map}
+use Rattle.terms.proofs.Faults.{Kept, kept, Passed, kept-names, kept-bounds, concat-names, extract-names}
+use Rattle.terms.proofs.Words.{extract-length}
 
 pub values-count : (t : List Row) (p : List ℕ) → length (valuesOf t p) ≡ length t
 unfolding valuesOf

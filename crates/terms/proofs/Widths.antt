@@ -1,14 +1,14 @@
 -- Widths, totals and starts, row by row.
-use mathlib.Core.Path.{_≡_, refl, sym, _∙_, ap, ap₂}
+use mathlib.Core.Path.{_≡_, refl, _∙_, ap}
 use mathlib.Core.Bool.{cond}
 use mathlib.Core.List.{List, [], _∷_, _++_}
-use Prim.Native.Nat.{ℕ, zero, suc, _+_, _<_, _≤_}
+use Prim.Native.Nat.{ℕ, suc, _+_, _<_, _≤_}
 use native.Mathlib.Omega.{arith}
 use lib.Dec.{eqb}
 use lib.ListN.{length, getD, take}
 use lib.Seq.{take-suc}
 use Rattle.terms.specs.declared.Row.{Row}
-use Rattle.terms.specs.Table.{rowAt, noRow, byRows, widthIn, widthsOf, widthOf, bitsIn, bitsOf, startsOf, countKind}
+use Rattle.terms.specs.Table.{rowAt, noRow, widthIn, widthsOf, widthOf, bitsIn, bitsOf, startsOf, countKind}
 use Rattle.terms.proofs.Cases.{kind-same}
 use Rattle.terms.proofs.ByRows.{rows-count, rows-early, rows-more, rows-at}
 

@@ -1,6 +1,6 @@
 -- The laws of extraction on words, at every width: equations 1 to 5 and 7 of definition 3.2 of document 001, and what
 -- extraction does to a length, to a bit, to a `map` and to a constant. Equation 6 is `append-assoc` of the library.
-use mathlib.Core.Path.{_≡_, refl, sym, _∙_, ap}
+use mathlib.Core.Path.{_≡_, sym, _∙_}
 use mathlib.Core.List.{List, [], _∷_, _++_, map}
 use Prim.Native.Nat.{ℕ, zero, suc, _+_, _-_, _<_, _≤_}
 use native.Mathlib.Omega.{arith}

@@ -1,13 +1,13 @@
 -- One bit of a row's value, kind by kind: where it stands in the pattern, or which bit of an earlier row it is.
-use mathlib.Core.Path.{_≡_, refl, sym, _∙_, ap}
+use mathlib.Core.Path.{_≡_, sym, _∙_, ap}
 use mathlib.Core.Bool.{false}
-use mathlib.Core.List.{List, [], _∷_, _++_}
-use Prim.Native.Nat.{ℕ, zero, suc, _+_, _-_, _<_, _≤_}
+use mathlib.Core.List.{List, [], _++_}
+use Prim.Native.Nat.{ℕ, _+_, _-_, _<_, _≤_}
 use native.Mathlib.Omega.{arith}
-use lib.ListN.{length, getD, take, drop, replicate, getD-replicate, List·getD-append}
+use lib.ListN.{length, getD, take, drop, getD-replicate, List·getD-append}
 use lib.Seq.{getD-take, getD-drop, getD-append-add}
 use Rattle.terms.specs.declared.Row.{Row}
-use Rattle.terms.specs.Table.{rowsOf, rowAt, widthOf, bitsOf, extract, valueOf}
+use Rattle.terms.specs.Table.{rowsOf, rowAt, widthOf, bitsOf, valueOf}
 use Rattle.terms.proofs.AcceptedTable.{Table, accepted-table}
 use Rattle.terms.proofs.Faults.{Term, Kept, kept, kept-names, kept-kind, kept-bit, kept-bounds, concat-names, extract-names, equation-names}
 use Rattle.terms.proofs.Cases.{KindOf, is-variable, is-constant, is-concat, is-extract, is-equation, kind-of}

@@ -1,28 +1,25 @@
 -- The value call's record and output, for each way in which the call ends.
-use mathlib.Core.Path.{_≡_, refl, sym, _∙_, ap}
-use mathlib.Core.Bool.{Bool, true, false, not, _||_, cond}
-use mathlib.Core.List.{List, [], _∷_}
+use mathlib.Core.Path.{_≡_, sym, _∙_, ap}
+use mathlib.Core.Bool.{true, false}
+use mathlib.Core.List.{List, []}
 use Prim.Native.Nat.{ℕ, _<_, _≤_}
 use native.Mathlib.Omega.{arith}
-use lib.Dec.{eqb, ltb}
+use lib.Dec.{eqb}
 use lib.ListN.{length, getD, take}
 use lib.Seq.{take-all}
 use borrow.Author.Tests.{lt-ltb, le-ltb, eq-eqb, ne-eqb}
 use Rattle.terms.specs.declared.Record.{Record}
 use Rattle.terms.specs.declared.Row.{Row}
-use Rattle.terms.specs.declared.Fault.{Fault}
-use Rattle.terms.specs.declared.Fault.the-variants.{Accepted, Shape, Kind, Unused, Named, Width, Bounds, Count, Sides}
-use Rattle.terms.specs.Table.{rowsOf, rowAt, widthsOf, widthOf, bitsOf, startsOf, valueOf}
+use Rattle.terms.specs.declared.Fault.the-variants.{Accepted}
+use Rattle.terms.specs.Table.{rowsOf, widthOf, bitsOf, startsOf, valueOf}
 use Rattle.terms.specs.Faults.{absent, isAccepted, firstFault}
-use Rattle.terms.specs.Calls.{refusal, completed, faultRecord, faultNumber, stopAt, overwrite}
-use Rattle.terms.proofs.AcceptedTable.{Table, accepted-table, fault-numbered, term-there}
-use Rattle.terms.proofs.Buffers.{overwrite-read, overwrite-length}
-use Rattle.terms.proofs.Cases.{not-both, or-true}
-use Rattle.terms.proofs.Faults.{Term, term}
-use Rattle.terms.proofs.Rows.{rows-length}
-use Rattle.terms.proofs.Widths.{widths-count, starts-count, start-row}
+use Rattle.terms.specs.Calls.{refusal, completed, faultRecord, stopAt, overwrite}
+use Rattle.terms.proofs.AcceptedTable.{accepted-table, fault-numbered, term-there}
+use Rattle.terms.proofs.Buffers.{overwrite-read}
+use Rattle.terms.proofs.Cases.{or-true}
+use Rattle.terms.proofs.Widths.{starts-count, start-row}
 use Rattle.values.specs.Value.{allBits, wrongPattern, valueRecord, valueAfter}
-use Rattle.values.specs.Ready.{Ready, IsTerm}
+use Rattle.values.specs.Ready.{IsTerm}
 
 module _ (table : List ℕ) (row : ℕ) (p old : List ℕ) where
   abbrev rows : List Row

@@ -3,12 +3,6 @@ use Rattle.assignments.specs.Making.{advanced}
 use borrow.Author.Needs.{needs}
 use Rattle.assignments.proofs.advance.Statement.{statement}
 use Rattle.assignments.proofs.advance.Tie as tie
-use Rattle.assignments.proofs.advance.Reads as reads
-use Rattle.assignments.proofs.advance.Lts as lts
-use Rattle.assignments.proofs.new_bits.Reads as new-bits-reads
-use Rattle.assignments.proofs.new_pieces.Reads as new-pieces-reads
-use Rattle.terms.proofs.plus.Reads as plus-reads
-use Rattle.assignments.proofs.width_before.Reads as width-before-reads
 
 plus-requires : tie.Need-plus-requires
 plus-requires c κs = search needs

@@ -8,8 +8,6 @@ use Rattle.assignments.specs.Making.{byteIn}
 use borrow.Author.Needs.{needs}
 use Rattle.assignments.proofs.byte_of.Statement.{statement}
 use Rattle.assignments.proofs.byte_of.Tie as tie
-use Rattle.assignments.proofs.byte_of.Reads as reads
-use Rattle.assignments.proofs.byte_of.Lts as lts
 
 returns : tie.Need-returns
 unfolding byteIn

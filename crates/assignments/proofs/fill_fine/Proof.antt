@@ -3,8 +3,6 @@ use borrow.Author.Tests.{eq-eqb, ne-eqb}
 use Rattle.assignments.specs.Making.{fillIn}
 use Rattle.assignments.proofs.fill_fine.Statement.{statement}
 use Rattle.assignments.proofs.fill_fine.Tie as tie
-use Rattle.assignments.proofs.fill_fine.Reads as reads
-use Rattle.assignments.proofs.fill_fine.Lts as lts
 
 returns : tie.Need-returns
 unfolding fillIn

@@ -4,8 +4,6 @@ use borrow.Author.Tests.{lt-ltb, le-ltb, eq-eqb, ne-eqb}
 use Rattle.assignments.specs.Making.{freshIn}
 use Rattle.assignments.proofs.fresh_fine.Statement.{statement}
 use Rattle.assignments.proofs.fresh_fine.Tie as tie
-use Rattle.assignments.proofs.fresh_fine.Reads as reads
-use Rattle.assignments.proofs.fresh_fine.Lts as lts
 
 returns : tie.Need-returns
 unfolding freshIn

@@ -3,8 +3,6 @@ use borrow.Author.Tests.{lt-ltb, le-ltb, eq-eqb, ne-eqb}
 use Rattle.assignments.specs.Making.{isNew}
 use Rattle.assignments.proofs.is_new.Statement.{statement}
 use Rattle.assignments.proofs.is_new.Tie as tie
-use Rattle.assignments.proofs.is_new.Reads as reads
-use Rattle.assignments.proofs.is_new.Lts as lts
 
 returns : tie.Need-returns
 unfolding isNew

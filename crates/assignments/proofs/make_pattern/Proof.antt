@@ -10,14 +10,6 @@ use Rattle.assignments.proofs.Stops.{stop-form, stop-count, stop-byte, 
 use borrow.Author.Needs.{needs}
 use Rattle.assignments.proofs.make_pattern.Statement.{statement}
 use Rattle.assignments.proofs.make_pattern.Tie as tie
-use Rattle.assignments.proofs.make_pattern.Reads as reads
-use Rattle.assignments.proofs.make_pattern.Lts as lts
-use Rattle.assignments.proofs.put_rows.Reads as put-rows-reads
-use Rattle.assignments.proofs.read_form.Reads as read-form-reads
-use Rattle.terms.proofs.complete.Reads as complete-reads
-use Rattle.terms.proofs.refuse.Reads as refuse-reads
-use Rattle.terms.proofs.wide.Reads as wide-reads
-use Rattle.values.proofs.all_bits.Reads as all-bits-reads
 
 -- what the test of the form found
 form : (d : tie.After-read-form) → FormRead (now (d .before .before .before .before .before .before .args .answer)) (d .read-form .last .1 .1 .0) (d .read-form .result)

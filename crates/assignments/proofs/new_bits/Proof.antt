@@ -3,9 +3,6 @@ use mathlib.Core.Path.{sym, _∙_}
 use borrow.Author.Needs.{needs}
 use Rattle.assignments.proofs.new_bits.Statement.{statement}
 use Rattle.assignments.proofs.new_bits.Tie as tie
-use Rattle.assignments.proofs.new_bits.Reads as reads
-use Rattle.assignments.proofs.new_bits.Lts as lts
-use Rattle.assignments.proofs.is_new.Reads as is-new-reads
 
 is-new-requires : tie.Need-is-new-requires
 is-new-requires c κs = search needs

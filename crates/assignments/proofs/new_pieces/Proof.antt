@@ -3,9 +3,6 @@ use mathlib.Core.Path.{sym, _∙_}
 use borrow.Author.Needs.{needs}
 use Rattle.assignments.proofs.new_pieces.Statement.{statement}
 use Rattle.assignments.proofs.new_pieces.Tie as tie
-use Rattle.assignments.proofs.new_pieces.Reads as reads
-use Rattle.assignments.proofs.new_pieces.Lts as lts
-use Rattle.assignments.proofs.is_new.Reads as is-new-reads
 
 is-new-requires : tie.Need-is-new-requires
 is-new-requires c κs = search needs

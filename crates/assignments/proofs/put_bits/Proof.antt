@@ -4,10 +4,6 @@ use Prim.Native.Nat.{_-_}
 use Rattle.assignments.proofs.Filling.{Putting, putting-first, putting-more, putting-done, putting-full}
 use Rattle.assignments.proofs.put_bits.Statement.{statement}
 use Rattle.assignments.proofs.put_bits.Tie as tie
-use Rattle.assignments.proofs.put_bits.Reads as reads
-use Rattle.assignments.proofs.put_bits.Lts as lts
-use Rattle.assignments.proofs.byte_of.Reads as byte-of-reads
-use Rattle.terms.proofs.wide.Reads as wide-reads
 
 abbrev Inv-loop : tie.InvT-loop
 Inv-loop fresh start kind width out₀ from at₀ j₀ out at j = Putting fresh start kind width out₀ from out at j

@@ -5,12 +5,6 @@ use lib.ListN.{length}
 use Rattle.assignments.proofs.Filling.{Filling, filling-first, filling-more, filling-done}
 use Rattle.assignments.proofs.put_rows.Statement.{statement}
 use Rattle.assignments.proofs.put_rows.Tie as tie
-use Rattle.assignments.proofs.put_rows.Reads as reads
-use Rattle.assignments.proofs.put_rows.Lts as lts
-use Rattle.assignments.proofs.put_bits.Reads as put-bits-reads
-use Rattle.terms.proofs.load.Reads as load-reads
-use Rattle.terms.proofs.row_at.Reads as row-at-reads
-use Rattle.terms.proofs.wide.Reads as wide-reads
 
 abbrev Inv-loop : tie.InvT-loop
 Inv-loop answer fresh starts out₀ at₀ i₀ out at i = Filling answer fresh starts out₀ out at i

@@ -7,14 +7,6 @@ use lib.ListN.{length}
 use Rattle.assignments.proofs.Reading.{Reading, reading-first, reading-more, reading-bad, reading-done}
 use Rattle.assignments.proofs.read_form.Statement.{statement}
 use Rattle.assignments.proofs.read_form.Tie as tie
-use Rattle.assignments.proofs.read_form.Reads as reads
-use Rattle.assignments.proofs.read_form.Lts as lts
-use Rattle.assignments.proofs.advance.Reads as advance-reads
-use Rattle.assignments.proofs.row_fine.Reads as row-fine-reads
-use Rattle.terms.proofs.load.Reads as load-reads
-use Rattle.terms.proofs.row_at.Reads as row-at-reads
-use Rattle.terms.proofs.store.Reads as store-reads
-use Rattle.terms.proofs.wide.Reads as wide-reads
 
 abbrev Inv-loop : tie.InvT-loop
 Inv-loop answer widths₀ starts₀ p₀ i₀ widths starts p i = Reading answer widths₀ starts₀ widths starts p i

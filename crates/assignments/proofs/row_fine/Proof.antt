@@ -5,12 +5,6 @@ use Rattle.assignments.specs.Making.{fineIn}
 use borrow.Author.Needs.{needs}
 use Rattle.assignments.proofs.row_fine.Statement.{statement}
 use Rattle.assignments.proofs.row_fine.Tie as tie
-use Rattle.assignments.proofs.row_fine.Reads as reads
-use Rattle.assignments.proofs.row_fine.Lts as lts
-use Rattle.assignments.proofs.fill_fine.Reads as fill-fine-reads
-use Rattle.assignments.proofs.fresh_fine.Reads as fresh-fine-reads
-use Rattle.assignments.proofs.variable_fine.Reads as variable-fine-reads
-use Rattle.assignments.proofs.widths_fine.Reads as widths-fine-reads
 
 variable-fine-requires : tie.Need-variable-fine-requires
 variable-fine-requires c κs = search needs

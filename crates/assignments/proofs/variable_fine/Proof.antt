@@ -5,9 +5,6 @@ use Rattle.assignments.specs.Making.{variableIn}
 use borrow.Author.Needs.{needs}
 use Rattle.assignments.proofs.variable_fine.Statement.{statement}
 use Rattle.assignments.proofs.variable_fine.Tie as tie
-use Rattle.assignments.proofs.variable_fine.Reads as reads
-use Rattle.assignments.proofs.variable_fine.Lts as lts
-use Rattle.terms.proofs.wide.Reads as wide-reads
 
 wide-requires : tie.Need-wide-requires
 wide-requires c κs = search needs

@@ -3,8 +3,6 @@ use borrow.Author.Tests.{eq-eqb, ne-eqb}
 use Rattle.assignments.specs.Making.{widthBefore}
 use Rattle.assignments.proofs.width_before.Statement.{statement}
 use Rattle.assignments.proofs.width_before.Tie as tie
-use Rattle.assignments.proofs.width_before.Reads as reads
-use Rattle.assignments.proofs.width_before.Lts as lts
 
 returns : tie.Need-returns
 unfolding widthBefore

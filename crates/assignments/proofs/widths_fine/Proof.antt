@@ -6,10 +6,6 @@ use Rattle.assignments.specs.Making.{widthBefore, widthsIn}
 use borrow.Author.Needs.{needs}
 use Rattle.assignments.proofs.widths_fine.Statement.{statement}
 use Rattle.assignments.proofs.widths_fine.Tie as tie
-use Rattle.assignments.proofs.widths_fine.Reads as reads
-use Rattle.assignments.proofs.widths_fine.Lts as lts
-use Rattle.assignments.proofs.width_before.Reads as width-before-reads
-use Rattle.terms.proofs.wide.Reads as wide-reads
 
 wide-requires : tie.Need-wide-requires
 wide-requires c κs = search needs

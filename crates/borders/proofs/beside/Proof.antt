@@ -3,10 +3,6 @@ use Rattle.borders.proofs.Steps.{beside-open, beside-shut}
 use borrow.Author.Needs.{needs}
 use Rattle.borders.proofs.beside.Statement.{statement}
 use Rattle.borders.proofs.beside.Tie as tie
-use Rattle.borders.proofs.beside.Reads as reads
-use Rattle.borders.proofs.beside.Lts as lts
-use Rattle.terms.proofs.load.Reads as load-reads
-use Rattle.terms.proofs.wide.Reads as wide-reads
 
 wide-requires : tie.Need-wide-requires
 wide-requires c κs = search needs

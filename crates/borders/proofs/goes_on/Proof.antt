@@ -3,10 +3,6 @@ use Rattle.borders.proofs.Steps.{goes-begin, goes-alike, goes-unlike, g
 use borrow.Author.Needs.{needs}
 use Rattle.borders.proofs.goes_on.Statement.{statement}
 use Rattle.borders.proofs.goes_on.Tie as tie
-use Rattle.borders.proofs.goes_on.Reads as reads
-use Rattle.borders.proofs.goes_on.Lts as lts
-use Rattle.terms.proofs.load.Reads as load-reads
-use Rattle.terms.proofs.wide.Reads as wide-reads
 
 wide-requires : tie.Need-wide-requires
 wide-requires c κs = search needs

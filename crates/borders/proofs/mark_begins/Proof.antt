@@ -10,12 +10,6 @@ use Rattle.terms.proofs.Rows.{rows-length}
 use Rattle.borders.proofs.Marking.{Marking, marking-first, marking-more, marking-done}
 use Rattle.borders.proofs.mark_begins.Statement.{statement}
 use Rattle.borders.proofs.mark_begins.Tie as tie
-use Rattle.borders.proofs.mark_begins.Reads as reads
-use Rattle.borders.proofs.mark_begins.Lts as lts
-use Rattle.terms.proofs.narrow.Reads as narrow-reads
-use Rattle.terms.proofs.row_bits.Reads as row-bits-reads
-use Rattle.terms.proofs.row_at.Reads as row-at-reads
-use Rattle.terms.proofs.store.Reads as store-reads
 
 abbrev Inv-loop : tie.InvT-loop
 Inv-loop table marks₀ bits₀ r₀ marks bits r = (r ≤ 512) × Marking table marks₀ marks bits r

@@ -3,14 +3,6 @@ use Rattle.borders.proofs.Steps.{place-marked}
 use borrow.Author.Needs.{needs}
 use Rattle.borders.proofs.mark_place.Statement.{statement}
 use Rattle.borders.proofs.mark_place.Tie as tie
-use Rattle.borders.proofs.mark_place.Reads as reads
-use Rattle.borders.proofs.mark_place.Lts as lts
-use Rattle.borders.proofs.beside.Reads as beside-reads
-use Rattle.borders.proofs.marked.Reads as marked-reads
-use Rattle.terms.proofs.difference.Reads as difference-reads
-use Rattle.terms.proofs.load.Reads as load-reads
-use Rattle.terms.proofs.store.Reads as store-reads
-use Rattle.terms.proofs.wide.Reads as wide-reads
 
 wide-requires : tie.Need-wide-requires
 wide-requires c κs = search needs

@@ -4,9 +4,6 @@ use Prim.Native.Nat.{_-_, _≤_}
 use Rattle.borders.proofs.Sweeping.{Swept, swept-first, swept-more, swept-done}
 use Rattle.borders.proofs.mark_uneven.Statement.{statement}
 use Rattle.borders.proofs.mark_uneven.Tie as tie
-use Rattle.borders.proofs.mark_uneven.Reads as reads
-use Rattle.borders.proofs.mark_uneven.Lts as lts
-use Rattle.borders.proofs.mark_place.Reads as mark-place-reads
 
 abbrev Inv-loop : tie.InvT-loop
 Inv-loop marks links side n uneven₀ k₀ uneven k = (k ≤ n) × Swept marks links side k uneven₀ uneven

@@ -2,8 +2,6 @@
 use borrow.Author.Tests.{eq-eqb, ne-eqb}
 use Rattle.borders.proofs.marked.Statement.{statement}
 use Rattle.borders.proofs.marked.Tie as tie
-use Rattle.borders.proofs.marked.Reads as reads
-use Rattle.borders.proofs.marked.Lts as lts
 
 returns : tie.Need-returns
 returns c = rw (eq-eqb _ _ (c .if1 .taken))

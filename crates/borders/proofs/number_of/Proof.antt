@@ -8,11 +8,6 @@ use Rattle.borders.specs.Borders.{numberIn}
 use borrow.Author.Needs.{needs}
 use Rattle.borders.proofs.number_of.Statement.{statement}
 use Rattle.borders.proofs.number_of.Tie as tie
-use Rattle.borders.proofs.number_of.Reads as reads
-use Rattle.borders.proofs.number_of.Lts as lts
-use Rattle.terms.proofs.difference.Reads as difference-reads
-use Rattle.terms.proofs.load.Reads as load-reads
-use Rattle.terms.proofs.wide.Reads as wide-reads
 
 returns : tie.Need-returns
 unfolding numberIn

@@ -5,9 +5,6 @@ use borrow.Author.Tests.{eq-eqb, ne-eqb}
 use borrow.Author.Needs.{needs}
 use Rattle.borders.proofs.own.Statement.{statement}
 use Rattle.borders.proofs.own.Tie as tie
-use Rattle.borders.proofs.own.Reads as reads
-use Rattle.borders.proofs.own.Lts as lts
-use Rattle.terms.proofs.wide.Reads as wide-reads
 
 wide-requires : tie.Need-wide-requires
 wide-requires c κs = search needs

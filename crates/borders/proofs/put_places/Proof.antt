@@ -4,12 +4,6 @@ use Prim.Native.Nat.{_-_}
 use Rattle.borders.proofs.Placing.{Putting, putting-first, putting-more, putting-done}
 use Rattle.borders.proofs.put_places.Statement.{statement}
 use Rattle.borders.proofs.put_places.Tie as tie
-use Rattle.borders.proofs.put_places.Reads as reads
-use Rattle.borders.proofs.put_places.Lts as lts
-use Rattle.borders.proofs.put_row.Reads as put-row-reads
-use Rattle.borders.proofs.step.Reads as step-reads
-use Rattle.terms.proofs.store.Reads as store-reads
-use Rattle.terms.proofs.wide.Reads as wide-reads
 
 abbrev Inv-loop : tie.InvT-loop
 Inv-loop marks links after before n numbers₀ answer₀ p₀ i₀ numbers answer p i = Putting n marks links after before numbers₀ answer₀ numbers answer p i

@@ -3,11 +3,6 @@ use Rattle.borders.proofs.Steps.{row-put}
 use borrow.Author.Needs.{needs}
 use Rattle.borders.proofs.put_row.Statement.{statement}
 use Rattle.borders.proofs.put_row.Tie as tie
-use Rattle.borders.proofs.put_row.Reads as reads
-use Rattle.borders.proofs.put_row.Lts as lts
-use Rattle.terms.proofs.difference.Reads as difference-reads
-use Rattle.terms.proofs.store.Reads as store-reads
-use Rattle.terms.proofs.wide.Reads as wide-reads
 
 difference-requires : tie.Need-difference-requires
 difference-requires c κs = search needs

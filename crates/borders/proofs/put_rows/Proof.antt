@@ -7,11 +7,6 @@ use Rattle.borders.proofs.Answering.{rows-put}
 use borrow.Author.Needs.{needs}
 use Rattle.borders.proofs.put_rows.Statement.{statement}
 use Rattle.borders.proofs.put_rows.Tie as tie
-use Rattle.borders.proofs.put_rows.Reads as reads
-use Rattle.borders.proofs.put_rows.Lts as lts
-use Rattle.borders.proofs.mark_begins.Reads as mark-begins-reads
-use Rattle.borders.proofs.mark_uneven.Reads as mark-uneven-reads
-use Rattle.borders.proofs.put_places.Reads as put-places-reads
 
 slice-aggregate-mark-begins : tie.Need-slice-aggregate-mark-begins
 slice-aggregate-mark-begins c = search needs

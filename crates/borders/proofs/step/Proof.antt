@@ -4,16 +4,6 @@ use Rattle.borders.proofs.Steps.{step-on, step-new}
 use borrow.Author.Needs.{needs}
 use Rattle.borders.proofs.step.Statement.{statement}
 use Rattle.borders.proofs.step.Tie as tie
-use Rattle.borders.proofs.step.Reads as reads
-use Rattle.borders.proofs.step.Lts as lts
-use Rattle.borders.proofs.goes_on.Reads as goes-on-reads
-use Rattle.borders.proofs.kind_of.Reads as kind-of-reads
-use Rattle.terms.proofs.difference.Reads as difference-reads
-use Rattle.borders.proofs.number_of.Reads as number-of-reads
-use Rattle.borders.proofs.own.Reads as own-reads
-use Rattle.terms.proofs.plus.Reads as plus-reads
-use Rattle.terms.proofs.load.Reads as load-reads
-use Rattle.terms.proofs.wide.Reads as wide-reads
 
 wide-requires : tie.Need-wide-requires
 wide-requires c κs = search needs

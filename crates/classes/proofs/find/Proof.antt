@@ -1,5 +1,5 @@
 -- `find` meets its contract: x is a source of the class of s, its link is p, and the links stand for the same classes. Assumes nothing.
-use mathlib.Core.Path.{_≡_, refl, sym, ap, _∙_}
+use mathlib.Core.Path.{_≡_, refl, ap, _∙_}
 use Prim.Native.Nat.{ℕ, _<_, _≤_}
 use native.Mathlib.Omega.{arith}
 use lib.ListN.{length, getD}
@@ -8,10 +8,6 @@ use Rattle.classes.proofs.Links.{Finding, finding-first, finding-more, 
 use Rattle.classes.specs.Links.{Low}
 use Rattle.classes.proofs.find.Statement.{statement}
 use Rattle.classes.proofs.find.Tie as tie
-use Rattle.classes.proofs.find.Reads as reads
-use Rattle.classes.proofs.find.Lts as lts
-use Rattle.terms.proofs.store.Reads as store-reads
-use Rattle.terms.proofs.wide.Reads as wide-reads
 
 abbrev Inv-loop : tie.InvT-loop
 Inv-loop links₀ s x₀ p₀ links x p = (length links ≡ length links₀) × (x < length links) × (x ≤ 65535) × (p ≡ getD links x 0) × (Low links₀ → s < length links₀ → Finding links₀ links s x p)

@@ -2,8 +2,6 @@
 use native.Mathlib.Omega.{arith}
 use Rattle.classes.proofs.higher.Statement.{statement}
 use Rattle.classes.proofs.higher.Tie as tie
-use Rattle.classes.proofs.higher.Reads as reads
-use Rattle.classes.proofs.higher.Lts as lts
 
 returns : tie.Need-returns
 returns c = omega (arith, c .if1 .taken)

@@ -2,8 +2,6 @@
 use native.Mathlib.Omega.{arith}
 use Rattle.classes.proofs.lower.Statement.{statement}
 use Rattle.classes.proofs.lower.Tie as tie
-use Rattle.classes.proofs.lower.Reads as reads
-use Rattle.classes.proofs.lower.Lts as lts
 
 returns : tie.Need-returns
 returns c = omega (arith, c .if1 .taken)

@@ -1,6 +1,6 @@
 -- `settle` meets its contract: below i each link is its root, from i on nothing has changed. Assumes nothing.
-use mathlib.Core.Path.{_≡_, refl, sym, ap, _∙_}
-use Prim.Native.Nat.{ℕ, _<_, _≤_, _-_}
+use mathlib.Core.Path.{_≡_, refl, _∙_}
+use Prim.Native.Nat.{_≤_, _-_}
 use native.Mathlib.Omega.{arith}
 use lib.ListN.{length}
 use Rattle.classes.proofs.Roots.{stands-roots}
@@ -8,10 +8,6 @@ use Rattle.classes.proofs.Links.{Swept, swept-none, swept-more, swept-a
 use Rattle.classes.specs.Links.{Low}
 use Rattle.classes.proofs.settle.Statement.{statement}
 use Rattle.classes.proofs.settle.Tie as tie
-use Rattle.classes.proofs.settle.Reads as reads
-use Rattle.classes.proofs.settle.Lts as lts
-use Rattle.terms.proofs.store.Reads as store-reads
-use Rattle.terms.proofs.wide.Reads as wide-reads
 
 abbrev Inv-loop : tie.InvT-loop
 Inv-loop links₀ i₀ links i = (i ≤ length links) × (length links ≡ length links₀) × (Low links₀ → Swept links₀ links i)

@@ -1,18 +1,11 @@
 -- `take_pair` meets its contract, for each of the three that a pair can be. Assumes nothing.
-use mathlib.Core.Path.{_≡_, refl, sym, ap, _∙_}
+use mathlib.Core.Path.{sym, _∙_}
 use native.Mathlib.Omega.{arith}
 use Rattle.classes.proofs.Roots.{found-rel, taken-is, taken-tie}
 use Rattle.classes.proofs.Links.{link-same, link-conflict}
 use borrow.Author.Needs.{needs}
 use Rattle.classes.proofs.take_pair.Statement.{statement}
 use Rattle.classes.proofs.take_pair.Tie as tie
-use Rattle.classes.proofs.take_pair.Reads as reads
-use Rattle.classes.proofs.take_pair.Lts as lts
-use Rattle.classes.proofs.find.Reads as find-reads
-use Rattle.classes.proofs.higher.Reads as higher-reads
-use Rattle.classes.proofs.lower.Reads as lower-reads
-use Rattle.terms.proofs.store.Reads as store-reads
-use Rattle.terms.proofs.wide.Reads as wide-reads
 
 -- src/lib.rt:68:9
 find-requires : tie.Need-find-requires

@@ -1,8 +1,8 @@
 -- `put_form` and `put_cut` meet their contracts: the row number falls at each call, and the sources that a call appends
 -- are those of proofs/RowForms.antt. Assumes nothing.
-use mathlib.Core.Path.{_≡_, refl, sym, _∙_, ap, ap₂}
+use mathlib.Core.Path.{_≡_, sym, _∙_, ap, ap₂}
 use mathlib.Core.Bool.{false}
-use mathlib.Core.List.{List, [], _∷_, _++_}
+use mathlib.Core.List.{[], _∷_, _++_}
 use mathlib.Core.Logic.{⊎-elim}
 use Prim.Native.Nat.{_+_, _-_, _%_, _≤_}
 use native.Mathlib.Omega.{arith}
@@ -11,7 +11,6 @@ use denote.Ref.{now}
 use Rattle.terms.specs.declared.Row.{Row}
 use Rattle.terms.specs.Table.{rowsOf, rowAt, widthOf, sourceOf, extract}
 use Rattle.terms.specs.Faults.{absent}
-use Rattle.forms.specs.declared.Piece.{Piece}
 use Rattle.forms.specs.Form.{part, fill}
 use Rattle.forms.specs.Append.{Numbered, Appended}
 use Rattle.forms.proofs.Appending.{appended-push, appended-same, appended-both}

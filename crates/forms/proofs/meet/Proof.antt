@@ -3,13 +3,10 @@ use Rattle.forms.specs.Form.{meets}
 use borrow.Author.Tests.{lt-ltb, le-ltb, eq-eqb, ne-eqb}
 use native.Mathlib.Omega.{arith}
 use Prim.Native.Nat.{_+_}
-use mathlib.Core.Path.{_≡_, sym, _∙_}
+use mathlib.Core.Path.{_≡_}
 use borrow.Author.Needs.{needs}
 use Rattle.forms.proofs.meet.Statement.{statement}
 use Rattle.forms.proofs.meet.Tie as tie
-use Rattle.forms.proofs.meet.Reads as reads
-use Rattle.forms.proofs.meet.Lts as lts
-use Rattle.terms.proofs.wide.Reads as wide-reads
 
 returns : tie.Need-returns
 unfolding meets

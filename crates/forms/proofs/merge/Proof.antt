@@ -1,14 +1,9 @@
 -- `merge` meets its contract. Assumes nothing.
 use Rattle.forms.specs.Append.{mergedIn}
 use borrow.Author.Tests.{lt-ltb, le-ltb}
-use Prim.Native.Nat.{ℕ, _+_, _%_}
-use mathlib.Core.Path.{_≡_, sym, _∙_, ap}
 use borrow.Author.Needs.{needs}
 use Rattle.forms.proofs.merge.Statement.{statement}
 use Rattle.forms.proofs.merge.Tie as tie
-use Rattle.forms.proofs.merge.Reads as reads
-use Rattle.forms.proofs.merge.Lts as lts
-use Rattle.terms.proofs.plus.Reads as plus-reads
 
 plus-requires : tie.Need-plus-requires
 plus-requires c κs = search needs

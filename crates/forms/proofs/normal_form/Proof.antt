@@ -21,16 +21,6 @@ use Rattle.forms.proofs.Stops.{stop-fault, stop-absent, stop-room, writ
 use borrow.Author.Needs.{needs}
 use Rattle.forms.proofs.normal_form.Statement.{statement}
 use Rattle.forms.proofs.normal_form.Tie as tie
-use Rattle.forms.proofs.normal_form.Reads as reads
-use Rattle.forms.proofs.normal_form.Lts as lts
-use Rattle.forms.proofs.number.Reads as number-reads
-use Rattle.forms.proofs.put_form.Reads as put-form-reads
-use Rattle.terms.proofs.accepted.Reads as accepted-reads
-use Rattle.terms.proofs.check.Reads as check-reads
-use Rattle.terms.proofs.complete.Reads as complete-reads
-use Rattle.terms.proofs.fault_record.Reads as fault-record-reads
-use Rattle.terms.proofs.not_term.Reads as not-term-reads
-use Rattle.terms.proofs.refuse.Reads as refuse-reads
 
 -- the fault that the check found is the table's
 found : (d : tie.After-check) → d .check .result ≡ firstFault (now (d .before .before .before .before .args .table))

@@ -7,14 +7,8 @@ use lib.ListN.{length}
 use native.Mathlib.Omega.{arith}
 use Prim.Native.Nat.{_-_, _<_, _≤_}
 use mathlib.Core.Logic.{inl, inr}
-use mathlib.Core.Path.{_≡_}
 use Rattle.forms.proofs.number.Statement.{statement}
 use Rattle.forms.proofs.number.Tie as tie
-use Rattle.forms.proofs.number.Reads as reads
-use Rattle.forms.proofs.number.Lts as lts
-use Rattle.forms.proofs.one.Reads as one-reads
-use Rattle.terms.proofs.store.Reads as store-reads
-use Rattle.terms.proofs.row_at.Reads as row-load-reads
 
 abbrev Inv-loop : tie.InvT-loop
 Inv-loop table variables₀ count₀ r₀ variables count r = (r ≤ 512) × Numbering table variables₀ variables count r

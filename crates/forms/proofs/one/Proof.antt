@@ -3,8 +3,6 @@ use borrow.Author.Tests.{eq-eqb, ne-eqb}
 use native.Mathlib.Omega.{arith}
 use Rattle.forms.proofs.one.Statement.{statement}
 use Rattle.forms.proofs.one.Tie as tie
-use Rattle.forms.proofs.one.Reads as reads
-use Rattle.forms.proofs.one.Lts as lts
 
 returns : tie.Need-returns
 returns c = (rw (eq-eqb _ _ (c .if1 .taken)), omega arith)

@@ -4,8 +4,6 @@ use borrow.Author.Tests.{lt-ltb, le-ltb}
 use borrow.Author.Needs.{needs}
 use Rattle.forms.proofs.piece_at.Statement.{statement}
 use Rattle.forms.proofs.piece_at.Tie as tie
-use Rattle.forms.proofs.piece_at.Reads as reads
-use Rattle.forms.proofs.piece_at.Lts as lts
 
 returns : tie.Need-returns
 unfolding pieceAt

@@ -5,19 +5,12 @@ use Rattle.forms.specs.declared.Piece.{Piece}
 use borrow.Author.Tests.{lt-ltb, le-ltb}
 use denote.Ref.{now}
 use native.Mathlib.Omega.{arith}
-use Prim.Native.Nat.{ℕ, _-_}
-use mathlib.Core.List.{List}
+use Prim.Native.Nat.{_-_}
 use mathlib.Core.Bool.{true, false}
-use mathlib.Core.Path.{_≡_, refl, sym, _∙_, ap, ap₂}
+use mathlib.Core.Path.{_≡_, sym, _∙_, ap}
 use borrow.Author.Needs.{needs}
 use Rattle.forms.proofs.push.Statement.{statement}
 use Rattle.forms.proofs.push.Tie as tie
-use Rattle.forms.proofs.push.Reads as reads
-use Rattle.forms.proofs.push.Lts as lts
-use Rattle.forms.proofs.meet.Reads as meet-reads
-use Rattle.forms.proofs.merge.Reads as merge-reads
-use Rattle.forms.proofs.piece_at.Reads as piece-load-reads
-use Rattle.forms.proofs.put_piece.Reads as put-piece-reads
 
 returns : tie.Need-returns
 unfolding pushedCount pushedNumbers

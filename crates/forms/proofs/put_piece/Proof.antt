@@ -6,8 +6,6 @@ use native.Mathlib.Omega.{arith}
 use borrow.Author.Needs.{needs}
 use Rattle.forms.proofs.put_piece.Statement.{statement}
 use Rattle.forms.proofs.put_piece.Tie as tie
-use Rattle.forms.proofs.put_piece.Reads as reads
-use Rattle.forms.proofs.put_piece.Lts as lts
 
 returns : tie.Need-returns
 unfolding putPiece

@@ -3,8 +3,6 @@ use borrow.Author.Tests.{lt-ltb, le-ltb}
 use Rattle.rows.specs.Held.{fitting}
 use Rattle.rows.proofs.fit.Statement.{statement}
 use Rattle.rows.proofs.fit.Tie as tie
-use Rattle.rows.proofs.fit.Reads as reads
-use Rattle.rows.proofs.fit.Lts as lts
 
 returns : tie.Need-returns
 unfolding fitting

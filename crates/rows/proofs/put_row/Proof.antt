@@ -7,8 +7,6 @@ use Rattle.rows.specs.Held.{putWhole}
 use borrow.Author.Needs.{needs}
 use Rattle.rows.proofs.put_row.Statement.{statement}
 use Rattle.rows.proofs.put_row.Tie as tie
-use Rattle.rows.proofs.put_row.Reads as reads
-use Rattle.rows.proofs.put_row.Lts as lts
 
 mul-at : tie.Need-mul-at
 mul-at c = search needs

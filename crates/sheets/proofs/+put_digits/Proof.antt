@@ -1,5 +1,5 @@
 -- `put_digits` meets its contract: the rest's digits first, then the last digit. Assumes nothing.
-use mathlib.Core.Path.{_≡_, refl, sym, _∙_, ap}
+use mathlib.Core.Path.{_∙_}
 use native.Mathlib.Omega.{arith}
 use Rattle.sheets.proofs.Printing.{push-digits-none, push-digits-one, push-digits-more}
 use Prim.Native.Nat.{ℕ, _<_}

@@ -3,8 +3,6 @@ use Rattle.sheets.specs.Text.{allDifferent}
 use borrow.Author.Tests.{eq-eqb, ne-eqb}
 use Rattle.sheets.proofs.all_different.Statement.{statement}
 use Rattle.sheets.proofs.all_different.Tie as tie
-use Rattle.sheets.proofs.all_different.Reads as reads
-use Rattle.sheets.proofs.all_different.Lts as lts
 
 returns : tie.Need-returns
 unfolding allDifferent

@@ -4,10 +4,6 @@ use Rattle.sheets.proofs.Printing.{whole-line}
 use borrow.Author.Needs.{needs}
 use Rattle.sheets.proofs.answer_names.Statement.{statement}
 use Rattle.sheets.proofs.answer_names.Tie as tie
-use Rattle.sheets.proofs.answer_names.Reads as reads
-use Rattle.sheets.proofs.answer_names.Lts as lts
-use Rattle.sheets.proofs.empty.Reads as empty-reads
-use Rattle.sheets.proofs.put_bytes.Reads as put-bytes-reads
 
 -- src/lib.rt:510:15
 empty-requires : tie.Need-empty-requires

@@ -2,16 +2,13 @@
 use Rattle.sheets.proofs.Copying.{copy-more, copy-short}
 use Rattle.terms.specs.Calls.{overwrite}
 use denote.Ref.{now}
-use lib.ListN.{length, take, length-set}
+use lib.ListN.{length, take}
 use native.Mathlib.Omega.{arith}
 use Prim.Native.Nat.{ℕ, _-_, _≤_}
 use mathlib.Core.List.{List}
-use mathlib.Core.Path.{_≡_, refl, sym, _∙_, ap}
+use mathlib.Core.Path.{_≡_, refl, _∙_, ap}
 use Rattle.sheets.proofs.copy.Statement.{statement}
 use Rattle.sheets.proofs.copy.Tie as tie
-use Rattle.sheets.proofs.copy.Reads as reads
-use Rattle.sheets.proofs.copy.Lts as lts
-use Rattle.terms.proofs.store.Reads as store-reads
 
 abbrev Inv-loop : tie.InvT-loop
 Inv-loop from n table₀ i₀ table i = (i ≤ n) × (i ≤ length from) × (length table ≡ length table₀) × (table ≡ overwrite (take i from) table₀)

@@ -4,8 +4,6 @@ use Rattle.sheets.specs.Text.{digitOf}
 use borrow.Author.Needs.{needs}
 use Rattle.sheets.proofs.digit.Statement.{statement}
 use Rattle.sheets.proofs.digit.Tie as tie
-use Rattle.sheets.proofs.digit.Reads as reads
-use Rattle.sheets.proofs.digit.Lts as lts
 
 -- src/lib.rt:19:9
 returns : tie.Need-returns

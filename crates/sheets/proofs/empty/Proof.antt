@@ -4,8 +4,6 @@ use Rattle.terms.specs.Calls.{overwrite}
 use Rattle.sheets.specs.Print.{lineOf}
 use Rattle.sheets.proofs.empty.Statement.{statement}
 use Rattle.sheets.proofs.empty.Tie as tie
-use Rattle.sheets.proofs.empty.Reads as reads
-use Rattle.sheets.proofs.empty.Lts as lts
 
 -- src/lib.rt:478:1
 returns : tie.Need-returns

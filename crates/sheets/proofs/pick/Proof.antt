@@ -3,8 +3,6 @@ use Rattle.sheets.specs.Text.{valueFor}
 use borrow.Author.Tests.{eq-eqb, ne-eqb}
 use Rattle.sheets.proofs.pick.Statement.{statement}
 use Rattle.sheets.proofs.pick.Tie as tie
-use Rattle.sheets.proofs.pick.Reads as reads
-use Rattle.sheets.proofs.pick.Lts as lts
 
 returns : tie.Need-returns
 unfolding valueFor

@@ -3,9 +3,6 @@ use Rattle.sheets.specs.Text.{placed}
 use borrow.Author.Needs.{needs}
 use Rattle.sheets.proofs.place_values.Statement.{statement}
 use Rattle.sheets.proofs.place_values.Tie as tie
-use Rattle.sheets.proofs.place_values.Reads as reads
-use Rattle.sheets.proofs.place_values.Lts as lts
-use Rattle.sheets.proofs.pick.Reads as pick-reads
 
 pick-requires : tie.Need-pick-requires
 pick-requires c κs = search needs

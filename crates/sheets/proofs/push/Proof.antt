@@ -1,13 +1,11 @@
 -- `push` meets its contract. Assumes nothing.
-use mathlib.Core.Path.{_≡_, refl}
+use mathlib.Core.Path.{refl}
 use native.Mathlib.Omega.{arith}
 use borrow.Author.Tests.{lt-ltb, le-ltb}
 use Rattle.sheets.specs.Print.{pushed}
 use borrow.Author.Needs.{needs}
 use Rattle.sheets.proofs.push.Statement.{statement}
 use Rattle.sheets.proofs.push.Tie as tie
-use Rattle.sheets.proofs.push.Reads as reads
-use Rattle.sheets.proofs.push.Lts as lts
 
 -- src/lib.rt:437:9
 returns : tie.Need-returns

@@ -1,16 +1,12 @@
 -- `put_bytes` meets its contract: i bytes are pushed. Assumes nothing.
-use mathlib.Core.Path.{_≡_, refl, sym, _∙_, ap}
-use Prim.Native.Nat.{ℕ, _-_, _≤_}
+use mathlib.Core.Path.{_≡_, refl, _∙_}
+use Prim.Native.Nat.{_-_, _≤_}
 use native.Mathlib.Omega.{arith}
 use lib.ListN.{length, drop}
-use denote.Ref.{now}
 use Rattle.sheets.proofs.Printing.{push-next, push-none}
 use Rattle.sheets.specs.Print.{pushAll}
 use Rattle.sheets.proofs.put_bytes.Statement.{statement}
 use Rattle.sheets.proofs.put_bytes.Tie as tie
-use Rattle.sheets.proofs.put_bytes.Reads as reads
-use Rattle.sheets.proofs.put_bytes.Lts as lts
-use Rattle.sheets.proofs.push.Reads as push-reads
 
 abbrev Inv-loop : tie.InvT-loop
 Inv-loop bytes line₀ i₀ line i = (i ≤ length bytes) × (pushAll line (drop i bytes) ≡ pushAll line₀ bytes)

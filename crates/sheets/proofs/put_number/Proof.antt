@@ -3,10 +3,6 @@ use Rattle.sheets.proofs.Printing.{push-field}
 use borrow.Author.Needs.{needs}
 use Rattle.sheets.proofs.put_number.Statement.{statement}
 use Rattle.sheets.proofs.put_number.Tie as tie
-use Rattle.sheets.proofs.put_number.Reads as reads
-use Rattle.sheets.proofs.put_number.Lts as lts
-use Rattle.sheets.proofs.push.Reads as push-reads
-use Rattle.sheets.proofs.put_digits.Reads as put-digits-reads
 
 -- src/lib.rt:463:10
 put-digits-requires : tie.Need-put-digits-requires

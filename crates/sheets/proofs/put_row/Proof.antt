@@ -3,14 +3,10 @@ use Rattle.sheets.specs.Sheet.{putRow}
 use lib.ListN.{set}
 use Prim.Native.Nat.{ℕ, _+_, _*_}
 use mathlib.Core.List.{List}
-use mathlib.Core.Path.{_≡_, sym, _∙_, ap}
+use mathlib.Core.Path.{_∙_, ap}
 use borrow.Author.Needs.{needs}
 use Rattle.sheets.proofs.put_row.Statement.{statement}
 use Rattle.sheets.proofs.put_row.Tie as tie
-use Rattle.sheets.proofs.put_row.Reads as reads
-use Rattle.sheets.proofs.put_row.Lts as lts
-use Rattle.terms.proofs.store.Reads as store-reads
-use Rattle.terms.proofs.wide.Reads as wide-reads
 
 wide-requires : tie.Need-wide-requires
 wide-requires c κs = search needs

@@ -3,13 +3,9 @@ use Rattle.sheets.proofs.Reading.{Reading, reading-first, reading-lengt
 use borrow.Author.Needs.{needs}
 use native.Mathlib.Omega.{arith}
 use Prim.Native.Nat.{_-_}
-use mathlib.Core.Path.{_≡_, sym, _∙_}
+use mathlib.Core.Path.{sym, _∙_}
 use Rattle.sheets.proofs.read_lines.Statement.{statement}
 use Rattle.sheets.proofs.read_lines.Tie as tie
-use Rattle.sheets.proofs.read_lines.Reads as reads
-use Rattle.sheets.proofs.read_lines.Lts as lts
-use Rattle.sheets.proofs.Cursor.line.Reads as line-reads
-use Rattle.sheets.proofs.put_row.Reads as put-row-reads
 
 abbrev Inv-loop : tie.InvT-loop
 Inv-loop text order from table₀ at₀ k₀ table at k = Reading text order from table₀ table at k

@@ -2,14 +2,10 @@
 use Rattle.sheets.specs.Sheet.{rowNumbers, sheetFound, sheetRows}
 use Rattle.terms.specs.Calls.{overwrite}
 use borrow.Author.Tests.{lt-ltb, le-ltb}
-use mathlib.Core.Path.{_≡_, refl, sym, _∙_}
+use mathlib.Core.Path.{sym, _∙_}
 use borrow.Author.Needs.{needs}
 use Rattle.sheets.proofs.read_rows.Statement.{statement}
 use Rattle.sheets.proofs.read_rows.Tie as tie
-use Rattle.sheets.proofs.read_rows.Reads as reads
-use Rattle.sheets.proofs.read_rows.Lts as lts
-use Rattle.sheets.proofs.Cursor.names.Reads as names-reads
-use Rattle.sheets.proofs.read_lines.Reads as read-lines-reads
 
 returns : tie.Need-returns
 unfolding sheetFound sheetRows overwrite rowNumbers

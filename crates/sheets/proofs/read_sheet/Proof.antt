@@ -1,28 +1,16 @@
 -- `read_sheet` meets its contract: each way in which it ends has its law in proofs/Copying.antt. Assumes nothing.
 use Rattle.sheets.proofs.Copying.{stop-sheet, stop-room, sheet-read}
 use Rattle.sheets.specs.Call.{sheetNumber, sheetRow, rowCount}
-use Rattle.sheets.specs.Sheet.{sheetFound}
-use Rattle.sheets.specs.declared.Sheet.{Sheet}
 use Rattle.terms.specs.Calls.{refusal, completed, overwrite}
 use denote.Ref.{now}
 use lib.ListN.{take, replicate}
 use native.Mathlib.Omega.{arith}
 use Prim.Native.Nat.{ℕ, _*_}
 use mathlib.Core.List.{List}
-use mathlib.Core.Path.{_≡_, refl, sym, _∙_, ap, ap₂}
+use mathlib.Core.Path.{refl, sym, _∙_, ap, ap₂}
 use borrow.Author.Needs.{needs}
 use Rattle.sheets.proofs.read_sheet.Statement.{statement}
 use Rattle.sheets.proofs.read_sheet.Tie as tie
-use Rattle.sheets.proofs.read_sheet.Reads as reads
-use Rattle.sheets.proofs.read_sheet.Lts as lts
-use Rattle.sheets.proofs.copy.Reads as copy-reads
-use Rattle.sheets.proofs.read_rows.Reads as read-rows-reads
-use Rattle.sheets.proofs.row_count.Reads as row-count-reads
-use Rattle.sheets.proofs.sheet_number.Reads as sheet-number-reads
-use Rattle.sheets.proofs.sheet_row.Reads as sheet-row-reads
-use Rattle.terms.proofs.complete.Reads as complete-reads
-use Rattle.terms.proofs.refuse.Reads as refuse-reads
-use Rattle.terms.proofs.wide.Reads as wide-reads
 
 slice-aggregate-read-rows : tie.Need-slice-aggregate-read-rows
 slice-aggregate-read-rows c = search needs

@@ -4,10 +4,6 @@ use Rattle.sheets.proofs.Printing.{whole-line, push-both, record-values
 use borrow.Author.Needs.{needs}
 use Rattle.sheets.proofs.record_values.Statement.{statement}
 use Rattle.sheets.proofs.record_values.Tie as tie
-use Rattle.sheets.proofs.record_values.Reads as reads
-use Rattle.sheets.proofs.record_values.Lts as lts
-use Rattle.sheets.proofs.empty.Reads as empty-reads
-use Rattle.sheets.proofs.put_number.Reads as put-number-reads
 
 -- src/lib.rt:498:25
 empty-requires : tie.Need-empty-requires

@@ -4,8 +4,6 @@ use borrow.Author.Tests.{lt-ltb, le-ltb, eq-eqb, ne-eqb}
 use borrow.Author.Needs.{needs}
 use Rattle.sheets.proofs.sees_byte.Statement.{statement}
 use Rattle.sheets.proofs.sees_byte.Tie as tie
-use Rattle.sheets.proofs.sees_byte.Reads as reads
-use Rattle.sheets.proofs.sees_byte.Lts as lts
 
 shared-slice-read-if2 : tie.Need-shared-slice-read-if2
 shared-slice-read-if2 c = search needs

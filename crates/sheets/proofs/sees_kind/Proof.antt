@@ -1,16 +1,12 @@
 -- `sees_kind` meets its contract. Assumes nothing.
 use Rattle.sheets.proofs.Fields.{seen-within}
-use Rattle.sheets.specs.Text.{sees, seesKind}
+use Rattle.sheets.specs.Text.{seesKind}
 use borrow.Author.Tests.{not-true, not-false}
 use native.Mathlib.Omega.{arith}
-use mathlib.Core.Bool.{true, false}
-use mathlib.Core.Path.{_≡_, sym, _∙_}
+use mathlib.Core.Path.{sym, _∙_}
 use borrow.Author.Needs.{needs}
 use Rattle.sheets.proofs.sees_kind.Statement.{statement}
 use Rattle.sheets.proofs.sees_kind.Tie as tie
-use Rattle.sheets.proofs.sees_kind.Reads as reads
-use Rattle.sheets.proofs.sees_kind.Lts as lts
-use Rattle.sheets.proofs.sees_byte.Reads as sees-byte-reads
 
 sees-byte-requires : tie.Need-sees-byte-requires
 sees-byte-requires c κs = search needs

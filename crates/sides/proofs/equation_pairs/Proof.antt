@@ -12,12 +12,6 @@ use mathlib.Core.Path.{sym, _∙_, ap}
 use borrow.Author.Needs.{needs}
 use Rattle.sides.proofs.equation_pairs.Statement.{statement}
 use Rattle.sides.proofs.equation_pairs.Tie as tie
-use Rattle.sides.proofs.equation_pairs.Reads as reads
-use Rattle.sides.proofs.equation_pairs.Lts as lts
-use Rattle.sides.proofs.side_bits.Reads as side-bits-reads
-use Rattle.terms.proofs.load.Reads as load-reads
-use Rattle.terms.proofs.row_at.Reads as row-at-reads
-use Rattle.terms.proofs.wide.Reads as wide-reads
 
 row-at-requires : tie.Need-row-at-requires
 row-at-requires c κs = search needs

@@ -9,13 +9,6 @@ use Prim.Native.Nat.{_-_, _<_, _≤_}
 use mathlib.Core.Logic.{inl, inr}
 use Rattle.sides.proofs.low_sources.Statement.{statement}
 use Rattle.sides.proofs.low_sources.Tie as tie
-use Rattle.sides.proofs.low_sources.Reads as reads
-use Rattle.sides.proofs.low_sources.Lts as lts
-use Rattle.terms.proofs.narrow.Reads as narrow-reads
-use Rattle.sides.proofs.one.Reads as one-reads
-use Rattle.terms.proofs.row_bits.Reads as row-bits-reads
-use Rattle.terms.proofs.row_at.Reads as row-at-reads
-use Rattle.terms.proofs.store.Reads as store-reads
 
 abbrev Inv-loop : tie.InvT-loop
 Inv-loop table lows₀ bits₀ v₀ r₀ lows bits v r = (r ≤ 512) × Lowest table lows₀ lows bits v r

@@ -3,8 +3,6 @@ use borrow.Author.Tests.{eq-eqb, ne-eqb}
 use native.Mathlib.Omega.{arith}
 use Rattle.sides.proofs.one.Statement.{statement}
 use Rattle.sides.proofs.one.Tie as tie
-use Rattle.sides.proofs.one.Reads as reads
-use Rattle.sides.proofs.one.Lts as lts
 
 returns : tie.Need-returns
 returns c = (rw (eq-eqb _ _ (c .if1 .taken)), omega arith)

@@ -8,13 +8,6 @@ use mathlib.Core.Path.{_∙_, ap}
 use borrow.Author.Needs.{needs}
 use Rattle.sides.proofs.put_sources.Statement.{statement}
 use Rattle.sides.proofs.put_sources.Tie as tie
-use Rattle.sides.proofs.put_sources.Reads as reads
-use Rattle.sides.proofs.put_sources.Lts as lts
-use Rattle.terms.proofs.minus.Reads as minus-reads
-use Rattle.terms.proofs.narrow.Reads as narrow-reads
-use Rattle.sides.proofs.run.Reads as run-reads
-use Rattle.terms.proofs.load.Reads as load-reads
-use Rattle.terms.proofs.wide.Reads as wide-reads
 
 wide-requires : tie.Need-wide-requires
 wide-requires c κs = search needs

@@ -3,10 +3,6 @@ use Rattle.sides.proofs.Writing.{Running, running-first, running-more, 
 use native.Mathlib.Omega.{arith}
 use Rattle.sides.proofs.run.Statement.{statement}
 use Rattle.sides.proofs.run.Tie as tie
-use Rattle.sides.proofs.run.Reads as reads
-use Rattle.sides.proofs.run.Lts as lts
-use Rattle.terms.proofs.plus.Reads as plus-reads
-use Rattle.terms.proofs.store.Reads as store-reads
 
 abbrev Inv-loop : tie.InvT-loop
 Inv-loop out₀ from count x step at₀ left₀ y₀ out at left y = Running out₀ from count x step out at left y

@@ -3,9 +3,6 @@ use Rattle.sides.proofs.Shortening.{plain-outer, plain-inner, both-cuts
 use borrow.Author.Needs.{needs}
 use Rattle.sides.proofs.short_row.Statement.{statement}
 use Rattle.sides.proofs.short_row.Tie as tie
-use Rattle.sides.proofs.short_row.Reads as reads
-use Rattle.sides.proofs.short_row.Lts as lts
-use Rattle.terms.proofs.plus.Reads as plus-reads
 
 returns : tie.Need-returns
 returns c = plain-outer _ _ (c .if1 .taken)

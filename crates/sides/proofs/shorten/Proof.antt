@@ -9,12 +9,6 @@ use Prim.Native.Nat.{_-_, _<_, _≤_}
 use mathlib.Core.Logic.{inl, inr, ⊎-elim}
 use Rattle.sides.proofs.shorten.Statement.{statement}
 use Rattle.sides.proofs.shorten.Tie as tie
-use Rattle.sides.proofs.shorten.Reads as reads
-use Rattle.sides.proofs.shorten.Lts as lts
-use Rattle.sides.proofs.short_row.Reads as short-row-reads
-use Rattle.sides.proofs.store_row.Reads as store-row-reads
-use Rattle.terms.proofs.row_at.Reads as row-at-reads
-use Rattle.terms.proofs.wide.Reads as wide-reads
 
 abbrev Inv-loop : tie.InvT-loop
 Inv-loop table short₀ r₀ short r = (r ≤ 512) × Shortening table short₀ short r

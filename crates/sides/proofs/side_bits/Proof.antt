@@ -3,10 +3,6 @@ use Rattle.sides.proofs.FormSources.{side-written}
 use borrow.Author.Needs.{needs}
 use Rattle.sides.proofs.side_bits.Statement.{statement}
 use Rattle.sides.proofs.side_bits.Tie as tie
-use Rattle.sides.proofs.side_bits.Reads as reads
-use Rattle.sides.proofs.side_bits.Lts as lts
-use Rattle.forms.proofs.put_form.Reads as put-form-reads
-use Rattle.sides.proofs.spread.Reads as spread-reads
 
 put-form-requires : tie.Need-put-form-requires
 put-form-requires c κs = search needs

@@ -4,10 +4,6 @@ use native.Mathlib.Omega.{arith}
 use Prim.Native.Nat.{_-_, _≤_}
 use Rattle.sides.proofs.spread.Statement.{statement}
 use Rattle.sides.proofs.spread.Tie as tie
-use Rattle.sides.proofs.spread.Reads as reads
-use Rattle.sides.proofs.spread.Lts as lts
-use Rattle.sides.proofs.put_sources.Reads as put-sources-reads
-use Rattle.terms.proofs.row_at.Reads as row-at-reads
 
 abbrev Inv-loop : tie.InvT-loop
 Inv-loop lows form n out₀ m₀ i₀ out m i = (i ≤ n) × Spreading lows form out₀ out m i

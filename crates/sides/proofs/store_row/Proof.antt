@@ -3,10 +3,6 @@ use Rattle.sides.proofs.Shortening.{row-stored}
 use borrow.Author.Needs.{needs}
 use Rattle.sides.proofs.store_row.Statement.{statement}
 use Rattle.sides.proofs.store_row.Tie as tie
-use Rattle.sides.proofs.store_row.Reads as reads
-use Rattle.sides.proofs.store_row.Lts as lts
-use Rattle.terms.proofs.lesser.Reads as lesser-reads
-use Rattle.terms.proofs.store.Reads as store-reads
 
 lesser-requires : tie.Need-lesser-requires
 lesser-requires c κs = search needs

@@ -16,13 +16,6 @@ use Rattle.solver.proofs.ShortCopy.{copy-length, copy-accepted, copy-bi
 use borrow.Author.Needs.{needs}
 use Rattle.solver.proofs.answer_table.Statement.{statement}
 use Rattle.solver.proofs.answer_table.Tie as tie
-use Rattle.solver.proofs.answer_table.Reads as reads
-use Rattle.solver.proofs.answer_table.Lts as lts
-use Rattle.forms.proofs.number.Reads as number-reads
-use Rattle.solver.proofs.conclude.Reads as conclude-reads
-use Rattle.sides.proofs.shorten.Reads as shorten-reads
-use Rattle.solver.proofs.take_equations.Reads as take-equations-reads
-use Rattle.solver.proofs.unlink.Reads as unlink-reads
 
 slice-aggregate-shorten : tie.Need-slice-aggregate-shorten
 slice-aggregate-shorten c = search needs

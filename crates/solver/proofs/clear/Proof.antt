@@ -1,6 +1,6 @@
 -- `clear` meets its contract. Assumes nothing.
 use borrow.Author.Needs.{needs}
-use mathlib.Core.Path.{_≡_, refl, sym, _∙_}
+use mathlib.Core.Path.{_≡_, refl, _∙_}
 use Prim.Native.Nat.{_≤_, _-_}
 use native.Mathlib.Omega.{arith}
 use lib.ListN.{length, replicate}
@@ -9,9 +9,6 @@ use Rattle.terms.specs.Calls.{overwrite}
 use Rattle.solver.proofs.Filling.{overwrite-none, clear-more, clear-all}
 use Rattle.solver.proofs.clear.Statement.{statement}
 use Rattle.solver.proofs.clear.Tie as tie
-use Rattle.solver.proofs.clear.Reads as reads
-use Rattle.solver.proofs.clear.Lts as lts
-use Rattle.terms.proofs.store.Reads as store-reads
 
 abbrev Inv-loop : tie.InvT-loop
 Inv-loop work₀ i₀ work i = (i ≤ length work₀) × (length work ≡ length work₀) × (work ≡ overwrite (replicate i 0) work₀)

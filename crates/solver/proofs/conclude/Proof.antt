@@ -1,6 +1,6 @@
 -- `conclude` meets its contract: each outcome has its law in proofs/Concluding.antt. Assumes nothing.
 use borrow.Author.Needs.{needs}
-use mathlib.Core.Path.{_≡_, refl, sym, ap, ap₂, _∙_}
+use mathlib.Core.Path.{ap, ap₂, _∙_}
 use Prim.Native.Nat.{ℕ, _≤_, _%_}
 use native.Mathlib.Omega.{arith}
 use lib.ListN.{length}
@@ -12,13 +12,6 @@ use Rattle.answers.specs.Solve.{neverRecord}
 use Rattle.solver.proofs.Concluding.{conclude-never, conclude-always, conclude-solved, whole-row, same-record}
 use Rattle.solver.proofs.conclude.Statement.{statement}
 use Rattle.solver.proofs.conclude.Tie as tie
-use Rattle.solver.proofs.conclude.Reads as reads
-use Rattle.solver.proofs.conclude.Lts as lts
-use Rattle.classes.proofs.settle.Reads as settle-reads
-use Rattle.terms.proofs.minus.Reads as minus-reads
-use Rattle.borders.proofs.put_rows.Reads as put-rows-reads
-use Rattle.solver.proofs.short.Reads as short-reads
-use Rattle.terms.proofs.complete.Reads as complete-reads
 
 -- src/lib.rt:153:19
 short-requires : tie.Need-short-requires

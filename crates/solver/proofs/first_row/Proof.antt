@@ -8,9 +8,6 @@ use Rattle.answers.specs.RightSide.{rowVariables, rowsBefore}
 use Rattle.solver.proofs.Runs.{variables-length, before-end, first-goes, first-found}
 use Rattle.solver.proofs.first_row.Statement.{statement}
 use Rattle.solver.proofs.first_row.Tie as tie
-use Rattle.solver.proofs.first_row.Reads as reads
-use Rattle.solver.proofs.first_row.Lts as lts
-use Rattle.terms.proofs.wide.Reads as wide-reads
 
 abbrev Inv-loop : tie.InvT-loop
 Inv-loop used variable i₀ i =

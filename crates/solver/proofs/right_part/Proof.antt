@@ -10,10 +10,6 @@ use Rattle.solver.proofs.RightSide.{counts, length-is, start-empty, sta
 use borrow.Author.Needs.{needs}
 use Rattle.solver.proofs.right_part.Statement.{statement}
 use Rattle.solver.proofs.right_part.Tie as tie
-use Rattle.solver.proofs.right_part.Reads as reads
-use Rattle.solver.proofs.right_part.Lts as lts
-use Rattle.solver.proofs.first_row.Reads as first-row-reads
-use Rattle.solver.proofs.rows_on.Reads as rows-on-reads
 
 returns : tie.Need-returns
 returns c =

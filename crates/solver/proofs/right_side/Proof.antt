@@ -9,9 +9,6 @@ use Rattle.solver.proofs.RightSide.{part-lent}
 use borrow.Author.Needs.{needs}
 use Rattle.solver.proofs.right_side.Statement.{statement}
 use Rattle.solver.proofs.right_side.Tie as tie
-use Rattle.solver.proofs.right_side.Reads as reads
-use Rattle.solver.proofs.right_side.Lts as lts
-use Rattle.solver.proofs.right_part.Reads as right-part-reads
 
 right-part-requires : tie.Need-right-part-requires
 right-part-requires c κs = search needs

@@ -8,9 +8,6 @@ use Rattle.answers.specs.RightSide.{rowVariables, rowsOn}
 use Rattle.solver.proofs.Runs.{variables-length, on-end, on-goes, on-ends}
 use Rattle.solver.proofs.rows_on.Statement.{statement}
 use Rattle.solver.proofs.rows_on.Tie as tie
-use Rattle.solver.proofs.rows_on.Reads as reads
-use Rattle.solver.proofs.rows_on.Lts as lts
-use Rattle.terms.proofs.wide.Reads as wide-reads
 
 abbrev Inv-loop : tie.InvT-loop
 Inv-loop used variable first i₀ i =

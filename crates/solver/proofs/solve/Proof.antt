@@ -3,7 +3,7 @@ use borrow.Author.Needs.{needs}
 use mathlib.Core.Path.{_≡_, refl, sym, ap, _∙_}
 use mathlib.Core.Bool.{true}
 use mathlib.Core.List.{List}
-use Prim.Native.Nat.{ℕ, _<_, _≤_}
+use Prim.Native.Nat.{ℕ, _<_}
 use native.Mathlib.Omega.{arith}
 use lib.ListN.{length, getD, replicate}
 use denote.Ref.{now}
@@ -15,14 +15,6 @@ use Rattle.terms.proofs.AcceptedTable.{fault-none, fault-found, widths-left}
 use Rattle.solver.proofs.Stops.{stop-answer, stop-work, stop-fault, stop-accepted}
 use Rattle.solver.proofs.solve.Statement.{statement}
 use Rattle.solver.proofs.solve.Tie as tie
-use Rattle.solver.proofs.solve.Reads as reads
-use Rattle.solver.proofs.solve.Lts as lts
-use Rattle.solver.proofs.clear.Reads as clear-reads
-use Rattle.solver.proofs.solve_accepted.Reads as solve-accepted-reads
-use Rattle.terms.proofs.accepted.Reads as accepted-reads
-use Rattle.terms.proofs.check.Reads as check-reads
-use Rattle.terms.proofs.fault_record.Reads as fault-record-reads
-use Rattle.terms.proofs.refuse.Reads as refuse-reads
 
 -- the fault that the check found is the table's
 found : (d : tie.After-check) → d .check .result ≡ firstFault (now (d .before .before .before .before .before .before .before .args .table))

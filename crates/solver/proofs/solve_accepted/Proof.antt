@@ -1,7 +1,7 @@
 -- `solve_accepted` meets its contract. Assumes nothing.
 use borrow.Author.Needs.{needs}
-use mathlib.Core.Path.{_≡_, refl, sym, ap, _∙_}
-use Prim.Native.Nat.{ℕ, _≤_}
+use mathlib.Core.Path.{_≡_, sym, ap, _∙_}
+use Prim.Native.Nat.{_≤_}
 use native.Mathlib.Omega.{arith}
 use lib.ListN.{length}
 use lib.Seq.{take-all, take-length, length-take-le}
@@ -11,11 +11,6 @@ use Rattle.terms.proofs.AcceptedTable.{accepted-table}
 use Rattle.terms.proofs.Faults.{totals-small}
 use Rattle.solver.proofs.solve_accepted.Statement.{statement}
 use Rattle.solver.proofs.solve_accepted.Tie as tie
-use Rattle.solver.proofs.solve_accepted.Reads as reads
-use Rattle.solver.proofs.solve_accepted.Lts as lts
-use Rattle.solver.proofs.answer_table.Reads as answer-table-reads
-use Rattle.terms.proofs.lesser.Reads as lesser-reads
-use Rattle.sides.proofs.low_sources.Reads as low-sources-reads
 
 -- src/lib.rt:350:35
 slice-aggregate-low-sources : tie.Need-slice-aggregate-low-sources

@@ -3,27 +3,21 @@ use borrow.Author.Needs.{needs}
 use mathlib.Core.Logic.{⊎-elim, _≢_}
 use mathlib.Core.Path.{_≡_, refl, sym, ap, _∙_, subst}
 use mathlib.Core.List.{List}
-use Prim.Native.Nat.{ℕ, _<_, _≤_, _-_, _+_, _*_, min}
+use Prim.Native.Nat.{ℕ, _<_, _≤_, _-_, _+_, _*_}
 use native.Mathlib.Omega.{arith}
 use lib.ListN.{length, getD}
 use denote.Ref.{now}
-use Rattle.terms.specs.Table.{rowsOf, bitsOf}
+use Rattle.terms.specs.Table.{rowsOf}
 use Rattle.terms.proofs.AcceptedTable.{accepted-table}
 use Rattle.terms.proofs.Rows.{rows-length}
 use Rattle.answers.specs.Pairs.{Pair}
 use Rattle.answers.specs.Classes.{rep, run}
 use Rattle.classes.specs.Links.{numberOf, rootsOf, PairTaken}
 use Rattle.sides.specs.Sides.{Prepared, SidesRead, pairsFrom}
-use Rattle.solver.specs.Equations.{unlinked, EquationsTaken}
+use Rattle.solver.specs.Equations.{unlinked}
 use Rattle.solver.proofs.Taking.{Taking, taking-first, taking-to, taking-conflict, Between, between-first, between-more, between-conflict, between-done}
 use Rattle.solver.proofs.take_equations.Statement.{statement}
 use Rattle.solver.proofs.take_equations.Tie as tie
-use Rattle.solver.proofs.take_equations.Reads as reads
-use Rattle.solver.proofs.take_equations.Lts as lts
-use Rattle.classes.proofs.take_pair.Reads as take-pair-reads
-use Rattle.sides.proofs.equation_pairs.Reads as equation-pairs-reads
-use Rattle.terms.proofs.lesser.Reads as lesser-reads
-use Rattle.terms.proofs.load.Reads as load-reads
 
 -- what the promise asks for
 record Given (table widths variables lows form left right links : List ℕ) : Type 0 where

@@ -1,7 +1,7 @@
 -- `unlink` meets its contract. Assumes nothing.
 use borrow.Author.Needs.{needs}
-use mathlib.Core.Path.{_≡_, refl, sym, _∙_}
-use Prim.Native.Nat.{_≤_, _-_, _%_}
+use mathlib.Core.Path.{_≡_, refl, _∙_}
+use Prim.Native.Nat.{_≤_, _-_}
 use native.Mathlib.Omega.{arith}
 use lib.ListN.{length}
 use Rattle.terms.specs.Table.{countUp}
@@ -9,9 +9,6 @@ use Rattle.terms.specs.Calls.{overwrite}
 use Rattle.solver.proofs.Filling.{overwrite-none, unlink-more, unlink-all}
 use Rattle.solver.proofs.unlink.Statement.{statement}
 use Rattle.solver.proofs.unlink.Tie as tie
-use Rattle.solver.proofs.unlink.Reads as reads
-use Rattle.solver.proofs.unlink.Lts as lts
-use Rattle.terms.proofs.store.Reads as store-reads
 
 abbrev Inv-loop : tie.InvT-loop
 Inv-loop links₀ i₀ links i = (i ≤ length links₀) × (length links ≡ length links₀) × (length links₀ ≤ 65536 → links ≡ overwrite (countUp 0 i) links₀)

@@ -1,15 +1,12 @@
 -- `bad_bounds` meets its contract: rule 16, kind by kind. Assumes nothing.
 use Rattle.terms.specs.Faults.{wrongBounds}
-use Rattle.terms.proofs.Cases.{each-kind, or-true}
-use mathlib.Core.Path.{_≡_, refl, sym, _∙_, ap}
+use Rattle.terms.proofs.Cases.{each-kind}
+use mathlib.Core.Path.{refl}
 use native.Mathlib.Omega.{arith}
-use borrow.Author.Tests.{lt-ltb, le-ltb, eq-eqb, ne-eqb}
+use borrow.Author.Tests.{lt-ltb, le-ltb}
 use borrow.Author.Needs.{needs}
 use Rattle.terms.proofs.bad_bounds.Statement.{statement}
 use Rattle.terms.proofs.bad_bounds.Tie as tie
-use Rattle.terms.proofs.bad_bounds.Reads as reads
-use Rattle.terms.proofs.bad_bounds.Lts as lts
-use Rattle.terms.proofs.wide.Reads as wide-reads
 
 -- src/lib.rt:221:21
 wide-requires : tie.Need-wide-requires

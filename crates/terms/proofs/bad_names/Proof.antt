@@ -4,15 +4,10 @@ use Rattle.terms.specs.Faults.{misnamed, notTerm}
 use Rattle.terms.specs.Table.{rowsOf}
 use denote.Ref.{now}
 use native.Mathlib.Omega.{arith}
-use mathlib.Core.Bool.{true, false}
 use mathlib.Core.Path.{_≡_, refl, sym, _∙_, ap}
 use borrow.Author.Needs.{needs}
 use Rattle.terms.proofs.bad_names.Statement.{statement}
 use Rattle.terms.proofs.bad_names.Tie as tie
-use Rattle.terms.proofs.bad_names.Reads as reads
-use Rattle.terms.proofs.bad_names.Lts as lts
-use Rattle.terms.proofs.not_term.Reads as not-term-reads
-use Rattle.terms.proofs.wide.Reads as wide-reads
 
 -- what the first name says
 said : (d : tie.After-not-term) → notTerm (rowsOf (now (d .before .before .before .before .args .table))) (d .before .before .before .before .args .r) (d .before .before .before .before .args .row .a) ≡ d .not-term .result

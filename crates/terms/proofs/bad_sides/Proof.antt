@@ -1,13 +1,11 @@
 -- `bad_sides` meets its contract: rule 18, kind by kind. Assumes nothing.
 use Rattle.terms.specs.Faults.{unequalSides}
-use Rattle.terms.proofs.Cases.{each-kind, or-true}
-use mathlib.Core.Path.{_≡_, refl, sym, _∙_, ap}
+use Rattle.terms.proofs.Cases.{each-kind}
+use mathlib.Core.Path.{refl}
 use native.Mathlib.Omega.{arith}
-use borrow.Author.Tests.{lt-ltb, le-ltb, eq-eqb, ne-eqb}
+use borrow.Author.Tests.{eq-eqb, ne-eqb}
 use Rattle.terms.proofs.bad_sides.Statement.{statement}
 use Rattle.terms.proofs.bad_sides.Tie as tie
-use Rattle.terms.proofs.bad_sides.Reads as reads
-use Rattle.terms.proofs.bad_sides.Lts as lts
 
 -- src/lib.rt:253:9
 returns : tie.Need-returns

@@ -1,13 +1,11 @@
 -- `bad_width` meets its contract: rule 15, kind by kind. Assumes nothing.
 use Rattle.terms.specs.Faults.{wrongWidth, outside}
 use Rattle.terms.proofs.Cases.{each-kind, or-true}
-use mathlib.Core.Path.{_≡_, refl, sym, _∙_, ap}
+use mathlib.Core.Path.{refl}
 use native.Mathlib.Omega.{arith}
-use borrow.Author.Tests.{lt-ltb, le-ltb, eq-eqb, ne-eqb}
+use borrow.Author.Tests.{lt-ltb, le-ltb, ne-eqb}
 use Rattle.terms.proofs.bad_width.Statement.{statement}
 use Rattle.terms.proofs.bad_width.Tie as tie
-use Rattle.terms.proofs.bad_width.Reads as reads
-use Rattle.terms.proofs.bad_width.Lts as lts
 
 -- src/lib.rt:197:9
 returns : tie.Need-returns

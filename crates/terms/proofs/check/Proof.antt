@@ -5,23 +5,14 @@ use borrow.Author.Tests.{not-true, not-false}
 use Rattle.terms.proofs.Checking.{Checking, wrong-shape, no-room, too-long, not-whole, whole, checking-first, checking-length, checking-totals, checking-answer, checking-more, checking-ends, checking-written, checking-accepts, checking-all}
 use Rattle.terms.proofs.Rows.{rows-length}
 use Rattle.terms.specs.Faults.{faultAt, isAccepted, faultIn}
-use Rattle.terms.specs.Table.{rowsOf, rowAt}
+use Rattle.terms.specs.Table.{rowsOf}
 use denote.Ref.{now}
-use lib.ListN.{length, length-set}
+use lib.ListN.{length}
 use native.Mathlib.Omega.{arith}
 use Prim.Native.Nat.{ℕ, _-_, _<_, _≤_}
-use mathlib.Core.Path.{_≡_, refl, sym, _∙_, ap}
+use mathlib.Core.Path.{_≡_, sym, _∙_, ap}
 use Rattle.terms.proofs.check.Statement.{statement}
 use Rattle.terms.proofs.check.Tie as tie
-use Rattle.terms.proofs.check.Reads as reads
-use Rattle.terms.proofs.check.Lts as lts
-use Rattle.terms.proofs.accepted.Reads as accepted-reads
-use Rattle.terms.proofs.narrow.Reads as narrow-reads
-use Rattle.terms.proofs.one_if.Reads as one-if-reads
-use Rattle.terms.proofs.row_at.Reads as row-at-reads
-use Rattle.terms.proofs.row_bits.Reads as row-bits-reads
-use Rattle.terms.proofs.row_fault.Reads as row-fault-reads
-use Rattle.terms.proofs.row_width.Reads as row-width-reads
 
 abbrev Inv-loop : tie.InvT-loop
 Inv-loop table widths₀ variables₀ bits₀ equations₀ r₀ widths variables bits equations r = Checking table widths₀ widths variables bits equations r

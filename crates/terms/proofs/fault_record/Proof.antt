@@ -4,11 +4,6 @@ use mathlib.Core.Path.{_∙_, ap₂}
 use borrow.Author.Needs.{needs}
 use Rattle.terms.proofs.fault_record.Statement.{statement}
 use Rattle.terms.proofs.fault_record.Tie as tie
-use Rattle.terms.proofs.fault_record.Reads as reads
-use Rattle.terms.proofs.fault_record.Lts as lts
-use Rattle.terms.proofs.fault_number.Reads as fault-number-reads
-use Rattle.terms.proofs.fault_row.Reads as fault-row-reads
-use Rattle.terms.proofs.refuse.Reads as refuse-reads
 
 -- src/lib.rt:133:12
 fault-number-requires : tie.Need-fault-number-requires

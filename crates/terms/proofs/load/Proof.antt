@@ -5,8 +5,6 @@ use mathlib.Core.Path.{sym}
 use borrow.Author.Needs.{needs}
 use Rattle.terms.proofs.load.Statement.{statement}
 use Rattle.terms.proofs.load.Tie as tie
-use Rattle.terms.proofs.load.Reads as reads
-use Rattle.terms.proofs.load.Lts as lts
 
 mul-result : tie.Need-mul-result
 mul-result c = search needs

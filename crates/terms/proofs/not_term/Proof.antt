@@ -7,9 +7,6 @@ use mathlib.Core.Path.{_≡_, sym, _∙_, ap}
 use borrow.Author.Needs.{needs}
 use Rattle.terms.proofs.not_term.Statement.{statement}
 use Rattle.terms.proofs.not_term.Tie as tie
-use Rattle.terms.proofs.not_term.Reads as reads
-use Rattle.terms.proofs.not_term.Lts as lts
-use Rattle.terms.proofs.row_at.Reads as row-at-reads
 
 -- src/lib.rt:183:9
 returns : tie.Need-returns

@@ -1,12 +1,8 @@
 -- `one_if` meets its contract. Assumes nothing.
-use Rattle.terms.proofs.Cases.{each-kind, or-true}
-use mathlib.Core.Path.{_≡_, refl, sym, _∙_, ap}
 use native.Mathlib.Omega.{arith}
-use borrow.Author.Tests.{lt-ltb, le-ltb, eq-eqb, ne-eqb}
+use borrow.Author.Tests.{eq-eqb, ne-eqb}
 use Rattle.terms.proofs.one_if.Statement.{statement}
 use Rattle.terms.proofs.one_if.Tie as tie
-use Rattle.terms.proofs.one_if.Reads as reads
-use Rattle.terms.proofs.one_if.Lts as lts
 
 -- src/lib.rt:310:9
 returns : tie.Need-returns

@@ -3,18 +3,12 @@ use Rattle.terms.proofs.Placing.{Placing, placing-first, placing-length
 use Rattle.terms.proofs.Rows.{rows-length}
 use Rattle.terms.specs.Table.{rowsOf}
 use denote.Ref.{now}
-use lib.ListN.{length, take}
+use lib.ListN.{length}
 use native.Mathlib.Omega.{arith}
-use Prim.Native.Nat.{ℕ, _-_, _+_, _<_, _≤_}
+use Prim.Native.Nat.{_-_, _<_, _≤_}
 use mathlib.Core.Logic.{inl, inr, ⊎-elim}
-use mathlib.Core.Path.{_≡_, refl, sym, _∙_, ap}
 use Rattle.terms.proofs.place.Statement.{statement}
 use Rattle.terms.proofs.place.Tie as tie
-use Rattle.terms.proofs.place.Reads as reads
-use Rattle.terms.proofs.place.Lts as lts
-use Rattle.terms.proofs.put.Reads as put-reads
-use Rattle.terms.proofs.row_at.Reads as row-at-reads
-use Rattle.terms.proofs.row_bits.Reads as row-bits-reads
 
 abbrev Inv-loop : tie.InvT-loop
 Inv-loop table starts₀ bits₀ r₀ starts bits r = (r ≤ 512) × Placing table starts₀ starts bits r

@@ -5,8 +5,6 @@ use mathlib.Core.Path.{sym}
 use borrow.Author.Needs.{needs}
 use Rattle.terms.proofs.put.Statement.{statement}
 use Rattle.terms.proofs.put.Tie as tie
-use Rattle.terms.proofs.put.Reads as reads
-use Rattle.terms.proofs.put.Lts as lts
 
 -- src/lib.rt:364:9
 mul-buffer : tie.Need-mul-buffer

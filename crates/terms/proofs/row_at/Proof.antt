@@ -4,8 +4,6 @@ use denote.Ref.{now}
 use borrow.Author.Needs.{needs}
 use Rattle.terms.proofs.row_at.Statement.{statement}
 use Rattle.terms.proofs.row_at.Tie as tie
-use Rattle.terms.proofs.row_at.Reads as reads
-use Rattle.terms.proofs.row_at.Lts as lts
 
 -- src/lib.rt:94:9
 returns : tie.Need-returns

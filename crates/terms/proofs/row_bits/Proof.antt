@@ -6,9 +6,6 @@ use mathlib.Core.Path.{refl}
 use borrow.Author.Needs.{needs}
 use Rattle.terms.proofs.row_bits.Statement.{statement}
 use Rattle.terms.proofs.row_bits.Tie as tie
-use Rattle.terms.proofs.row_bits.Reads as reads
-use Rattle.terms.proofs.row_bits.Lts as lts
-use Rattle.terms.proofs.wide.Reads as wide-reads
 
 -- src/lib.rt:315:13
 wide-requires : tie.Need-wide-requires

@@ -1,7 +1,6 @@
 -- `row_fault` meets its contract: the rules are asked in document 01's order. Assumes nothing.
-use mathlib.Core.Path.{_≡_, refl, sym, _∙_, ap, ap₂}
-use mathlib.Core.Bool.{true, false}
-use Prim.Native.Nat.{ℕ}
+use mathlib.Core.Path.{_≡_, sym, _∙_, ap, ap₂}
+use mathlib.Core.Bool.{false}
 use lib.Dec.{ltb}
 use lib.ListN.{getD}
 use denote.Ref.{now}
@@ -12,16 +11,6 @@ use Rattle.terms.specs.Faults.{unusedColumn, misnamed, wrongWidth, wrong
 use borrow.Author.Needs.{needs}
 use Rattle.terms.proofs.row_fault.Statement.{statement}
 use Rattle.terms.proofs.row_fault.Tie as tie
-use Rattle.terms.proofs.row_fault.Reads as reads
-use Rattle.terms.proofs.row_fault.Lts as lts
-use Rattle.terms.proofs.bad_bounds.Reads as bad-bounds-reads
-use Rattle.terms.proofs.bad_names.Reads as bad-names-reads
-use Rattle.terms.proofs.bad_sides.Reads as bad-sides-reads
-use Rattle.terms.proofs.bad_width.Reads as bad-width-reads
-use Rattle.terms.proofs.row_width.Reads as row-width-reads
-use Rattle.terms.proofs.too_many.Reads as too-many-reads
-use Rattle.terms.proofs.unused.Reads as unused-reads
-use Rattle.terms.proofs.width_at.Reads as width-at-reads
 
 -- what the answer of each rule says of the row
 kept-12 : (d : tie.Else1) → ltb 4 (d .before .before .before .before .args .row .kind) ≡ false

@@ -2,17 +2,12 @@
 use mathlib.Core.Path.{ap₂}
 use Prim.Native.Nat.{_+_, _-_}
 use Rattle.terms.specs.Table.{widthIn}
-use Rattle.terms.proofs.Cases.{each-kind, or-true}
-use mathlib.Core.Path.{_≡_, refl, sym, _∙_, ap}
+use Rattle.terms.proofs.Cases.{each-kind}
+use mathlib.Core.Path.{refl}
 use native.Mathlib.Omega.{arith}
-use borrow.Author.Tests.{lt-ltb, le-ltb, eq-eqb, ne-eqb}
 use borrow.Author.Needs.{needs}
 use Rattle.terms.proofs.row_width.Statement.{statement}
 use Rattle.terms.proofs.row_width.Tie as tie
-use Rattle.terms.proofs.row_width.Reads as reads
-use Rattle.terms.proofs.row_width.Lts as lts
-use Rattle.terms.proofs.wide.Reads as wide-reads
-use Rattle.terms.proofs.width_at.Reads as width-at-reads
 
 -- src/lib.rt:171:9
 wide-requires : tie.Need-wide-requires

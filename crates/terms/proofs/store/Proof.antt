@@ -5,8 +5,6 @@ use mathlib.Core.Path.{sym}
 use borrow.Author.Needs.{needs}
 use Rattle.terms.proofs.store.Statement.{statement}
 use Rattle.terms.proofs.store.Tie as tie
-use Rattle.terms.proofs.store.Reads as reads
-use Rattle.terms.proofs.store.Lts as lts
 
 mul-buffer : tie.Need-mul-buffer
 mul-buffer c = search needs

@@ -1,13 +1,9 @@
 -- `too_many` meets its contract: rule 17. Assumes nothing.
 use Rattle.terms.specs.Faults.{tooMany}
-use Rattle.terms.proofs.Cases.{each-kind, or-true}
-use mathlib.Core.Path.{_≡_, refl, sym, _∙_, ap}
 use native.Mathlib.Omega.{arith}
-use borrow.Author.Tests.{lt-ltb, le-ltb, eq-eqb, ne-eqb}
+use borrow.Author.Tests.{lt-ltb, le-ltb}
 use Rattle.terms.proofs.too_many.Statement.{statement}
 use Rattle.terms.proofs.too_many.Tie as tie
-use Rattle.terms.proofs.too_many.Reads as reads
-use Rattle.terms.proofs.too_many.Lts as lts
 
 -- src/lib.rt:236:9
 returns : tie.Need-returns

@@ -6,8 +6,6 @@ use Rattle.terms.specs.Faults.{unusedColumn}
 use Rattle.terms.proofs.Cases.{each-kind, or-true}
 use Rattle.terms.proofs.unused.Statement.{statement}
 use Rattle.terms.proofs.unused.Tie as tie
-use Rattle.terms.proofs.unused.Reads as reads
-use Rattle.terms.proofs.unused.Lts as lts
 
 returns : tie.Need-returns
 unfolding unusedColumn

@@ -7,9 +7,6 @@ use mathlib.Core.Path.{sym, _∙_, ap}
 use borrow.Author.Needs.{needs}
 use Rattle.terms.proofs.width_at.Statement.{statement}
 use Rattle.terms.proofs.width_at.Tie as tie
-use Rattle.terms.proofs.width_at.Reads as reads
-use Rattle.terms.proofs.width_at.Lts as lts
-use Rattle.terms.proofs.wide.Reads as wide-reads
 
 -- src/lib.rt:151:9
 wide-requires : tie.Need-wide-requires

@@ -5,11 +5,9 @@ use denote.Ref.{now}
 use lib.ListN.{length, drop}
 use native.Mathlib.Omega.{arith}
 use Prim.Native.Nat.{_≤_, _-_}
-use mathlib.Core.Path.{_≡_, refl, sym, _∙_}
+use mathlib.Core.Path.{_≡_, refl, _∙_}
 use Rattle.values.proofs.all_bits.Statement.{statement}
 use Rattle.values.proofs.all_bits.Tie as tie
-use Rattle.values.proofs.all_bits.Reads as reads
-use Rattle.values.proofs.all_bits.Lts as lts
 
 abbrev Inv-loop : tie.InvT-loop
 Inv-loop pattern i₀ i = (i ≤ length pattern) × (allBits (drop i pattern) ≡ allBits pattern)

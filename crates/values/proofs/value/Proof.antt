@@ -4,7 +4,7 @@ use mathlib.Core.Bool.{true, false}
 use mathlib.Core.List.{List}
 use Prim.Native.Nat.{ℕ, _<_, _≤_}
 use native.Mathlib.Omega.{arith}
-use lib.ListN.{length, getD, replicate}
+use lib.ListN.{getD, replicate}
 use denote.Ref.{now}
 use borrow.Author.Tests.{not-true, not-false}
 use Rattle.terms.specs.Table.{rowsOf, widthOf, bitsOf}
@@ -14,23 +14,12 @@ use Rattle.terms.specs.Calls.{faultRecord, completed}
 use Rattle.terms.proofs.AcceptedTable.{fault-none, accepted-table, fault-found, widths-left}
 use Rattle.terms.proofs.Faults.{widths-small}
 use Rattle.terms.proofs.Rows.{rows-length}
-use Rattle.values.specs.Value.{allBits, wrongPattern}
+use Rattle.values.specs.Value.{wrongPattern}
 use Rattle.values.specs.Ready.{Ready, IsTerm}
 use Rattle.values.proofs.Stops.{stop-fault, stop-absent, stop-pattern, stop-room, written, starts-left, bits-found, pattern-short, pattern-broken, pattern-right, row-there}
 use borrow.Author.Needs.{needs}
 use Rattle.values.proofs.value.Statement.{statement}
 use Rattle.values.proofs.value.Tie as tie
-use Rattle.values.proofs.value.Reads as reads
-use Rattle.values.proofs.value.Lts as lts
-use Rattle.terms.proofs.accepted.Reads as accepted-reads
-use Rattle.terms.proofs.check.Reads as check-reads
-use Rattle.terms.proofs.complete.Reads as complete-reads
-use Rattle.terms.proofs.fault_record.Reads as fault-record-reads
-use Rattle.terms.proofs.not_term.Reads as not-term-reads
-use Rattle.terms.proofs.place.Reads as place-reads
-use Rattle.terms.proofs.refuse.Reads as refuse-reads
-use Rattle.values.proofs.all_bits.Reads as all-bits-reads
-use Rattle.values.proofs.write_value.Reads as write-value-reads
 
 -- the fault that the check found is the table's
 found : (d : tie.After-check) → d .check .result ≡ firstFault (now (d .before .before .before .before .before .args .table))

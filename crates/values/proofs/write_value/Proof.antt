@@ -4,16 +4,12 @@ use Rattle.values.proofs.Writing.{write-more, write-all}
 use Rattle.terms.specs.Calls.{overwrite}
 use Rattle.terms.specs.Table.{rowsOf, widthOf, valueOf}
 use denote.Ref.{now}
-use lib.ListN.{length, getD, take, length-set}
+use lib.ListN.{length, take, length-set}
 use native.Mathlib.Omega.{arith}
-use Prim.Native.Nat.{ℕ, _≤_, _<_, _-_}
-use mathlib.Core.Path.{_≡_, refl, sym, _∙_, ap}
+use Prim.Native.Nat.{_≤_, _<_, _-_}
+use mathlib.Core.Path.{_≡_, refl, _∙_}
 use Rattle.values.proofs.write_value.Statement.{statement}
 use Rattle.values.proofs.write_value.Tie as tie
-use Rattle.values.proofs.write_value.Reads as reads
-use Rattle.values.proofs.write_value.Lts as lts
-use Rattle.terms.proofs.wide.Reads as wide-reads
-use Rattle.values.proofs.bit.Reads as bit-reads
 
 abbrev Inv-loop : tie.InvT-loop
 Inv-loop table widths starts pattern row output₀ width i₀ output i =

@@ -1,15 +1,11 @@
 -- `column` meets its contract. Assumes nothing.
 use Rattle.sheets.proofs.Fields.{seen-within, kind-within}
-use Rattle.sheets.specs.Text.{sees, columnAt}
+use Rattle.sheets.specs.Text.{columnAt}
 use native.Mathlib.Omega.{arith}
-use mathlib.Core.Path.{_≡_, sym, _∙_}
+use mathlib.Core.Path.{sym, _∙_}
 use borrow.Author.Needs.{needs}
 use Rattle.sheets.proofs.Cursor.column.Statement.{statement}
 use Rattle.sheets.proofs.Cursor.column.Tie as tie
-use Rattle.sheets.proofs.Cursor.column.Reads as reads
-use Rattle.sheets.proofs.Cursor.column.Lts as lts
-use Rattle.sheets.proofs.sees_byte.Reads as sees-byte-reads
-use Rattle.sheets.proofs.sees_kind.Reads as sees-kind-reads
 
 sees-byte-requires : tie.Need-sees-byte-requires
 sees-byte-requires c κs = search needs

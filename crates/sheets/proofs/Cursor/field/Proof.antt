@@ -1,15 +1,11 @@
 -- `field` meets its contract. Assumes nothing.
 use Rattle.sheets.proofs.Fields.{seen-within}
-use Rattle.sheets.specs.Text.{sees, fieldAt}
+use Rattle.sheets.specs.Text.{fieldAt}
 use native.Mathlib.Omega.{arith}
-use mathlib.Core.Path.{_≡_, sym, _∙_}
+use mathlib.Core.Path.{sym, _∙_}
 use borrow.Author.Needs.{needs}
 use Rattle.sheets.proofs.Cursor.field.Statement.{statement}
 use Rattle.sheets.proofs.Cursor.field.Tie as tie
-use Rattle.sheets.proofs.Cursor.field.Reads as reads
-use Rattle.sheets.proofs.Cursor.field.Lts as lts
-use Rattle.sheets.proofs.Cursor.number.Reads as number-reads
-use Rattle.sheets.proofs.sees_byte.Reads as sees-byte-reads
 
 number-requires : tie.Need-number-requires
 number-requires c κs = search needs

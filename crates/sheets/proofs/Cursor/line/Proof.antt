@@ -2,14 +2,10 @@
 use Rattle.sheets.specs.Text.{lineAt}
 use Rattle.sheets.specs.declared.Line.the-variants.{Values}
 use Rattle.terms.specs.declared.Row.{Row}
-use mathlib.Core.Path.{_≡_, sym, _∙_, ap}
+use mathlib.Core.Path.{sym, _∙_, ap}
 use borrow.Author.Needs.{needs}
 use Rattle.sheets.proofs.Cursor.line.Statement.{statement}
 use Rattle.sheets.proofs.Cursor.line.Tie as tie
-use Rattle.sheets.proofs.Cursor.line.Reads as reads
-use Rattle.sheets.proofs.Cursor.line.Lts as lts
-use Rattle.sheets.proofs.Cursor.field.Reads as field-reads
-use Rattle.sheets.proofs.place_values.Reads as place-values-reads
 
 field-requires : tie.Need-field-requires
 field-requires c κs = search needs

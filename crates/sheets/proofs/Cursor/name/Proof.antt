@@ -1,15 +1,11 @@
 -- `name` meets its contract. Assumes nothing.
 use Rattle.sheets.proofs.Fields.{seen-within}
-use Rattle.sheets.specs.Text.{sees, nameAt}
+use Rattle.sheets.specs.Text.{nameAt}
 use native.Mathlib.Omega.{arith}
-use mathlib.Core.Path.{_≡_, sym, _∙_}
+use mathlib.Core.Path.{sym, _∙_}
 use borrow.Author.Needs.{needs}
 use Rattle.sheets.proofs.Cursor.name.Statement.{statement}
 use Rattle.sheets.proofs.Cursor.name.Tie as tie
-use Rattle.sheets.proofs.Cursor.name.Reads as reads
-use Rattle.sheets.proofs.Cursor.name.Lts as lts
-use Rattle.sheets.proofs.Cursor.column.Reads as column-reads
-use Rattle.sheets.proofs.sees_byte.Reads as sees-byte-reads
 
 column-requires : tie.Need-column-requires
 column-requires c κs = search needs

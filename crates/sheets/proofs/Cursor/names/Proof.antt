@@ -1,13 +1,9 @@
 -- `names` meets its contract: a name after the other. Assumes nothing.
 use Rattle.sheets.specs.Text.{namesAt}
-use mathlib.Core.Path.{_≡_, sym, _∙_}
+use mathlib.Core.Path.{sym, _∙_}
 use borrow.Author.Needs.{needs}
 use Rattle.sheets.proofs.Cursor.names.Statement.{statement}
 use Rattle.sheets.proofs.Cursor.names.Tie as tie
-use Rattle.sheets.proofs.Cursor.names.Reads as reads
-use Rattle.sheets.proofs.Cursor.names.Lts as lts
-use Rattle.sheets.proofs.Cursor.name.Reads as name-reads
-use Rattle.sheets.proofs.all_different.Reads as all-different-reads
 
 name-requires : tie.Need-name-requires
 name-requires c κs = search needs

@@ -8,9 +8,6 @@ use Rattle.sheets.specs.Text.{moreDigits, numberAt}
 use Rattle.sheets.proofs.Numbers.{past, not-digit, zero-last, zero-digit, zero-other, starts, ends, stops, over, goes-on}
 use Rattle.sheets.proofs.Cursor.number.Statement.{statement}
 use Rattle.sheets.proofs.Cursor.number.Tie as tie
-use Rattle.sheets.proofs.Cursor.number.Reads as reads
-use Rattle.sheets.proofs.Cursor.number.Lts as lts
-use Rattle.sheets.proofs.digit.Reads as digit-reads
 
 abbrev Inv-loop : tie.InvT-loop
 Inv-loop text from v₀ i₀ v i = (i ≤ length text) × ((v ≤ 65535) × (moreDigits v i (drop i text) ≡ numberAt text from))
