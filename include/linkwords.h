@@ -4,11 +4,11 @@
   term is a variable, a fill (a constant whose bits are all alike), a join of
   two words (concatenation) or a cut out of a word (extraction), and equations
   stand between terms. The caller describes the terms in a table of numbers,
-  which can also be read from a text; the calls take that table and leave their
-  results in buffers of the caller. One of them solves the equations: it tells
-  whether every, no or some choice of the variables' bits meets them all, and
-  for some it describes these choices. Another makes such a choice from the
-  description.
+  which can also be read from a text, or of row structs; the calls take that
+  table and leave their results in buffers of the caller. One of them solves
+  the equations: it tells whether every, no or some choice of the variables'
+  bits meets them all, and for some it describes these choices. Another makes
+  such a choice from the description.
 
   The library is proved: for every input each call yields the record and the
   buffer contents that this header names, and it always returns. It is linked
@@ -168,7 +168,8 @@
   Lengths count elements, not bytes: 16-bit numbers for a table, for a normal
   form, for an answer table and for a work area, bytes for a pattern, for a
   value, for fresh bits and for a sheet. A table of R rows has length 4 * R, and
-  so has an answer table of R rows.
+  so has an answer table of R rows. The calls whose names end in _rows take the
+  table as an array of row structs instead, and the number of rows.
 
   Each pointer is to as many elements as its length says, aligned for their
   type. The buffers of one call must not overlap. A pointer may be NULL where
