@@ -9,12 +9,14 @@ use lib.Dec.{eqb, ltb}
 use lib.ListN.{length, getD, length-map, List·getD-map, List·getD-eq-default}
 use borrow.Author.Tests.{eqb-true, eq-eqb, ltb-true, ltb-false}
 use Rattle.terms.specs.Assignments.{Assignment}
-use Rattle.terms.specs.Table.{bitOf, countUp}
+use Rattle.terms.specs.Table.{bitOf}
+use Rattle.laws.specs.Lists.{countUp}
 use Rattle.terms.proofs.Assignments.{assignment-length}
 use Rattle.answers.specs.Pairs.{Pair, satisfiesPairs}
 use Rattle.answers.specs.Classes.{classesOf, merge, relabel, rep, run}
-use Rattle.answers.proofs.Booleans.{and-first, and-second}
-use Rattle.answers.proofs.Relabelling.{relabel-hit, relabel-miss, dec-eq, hi, lo, next, next-low, next-root, next-just, next-pair, next-old}
+use Rattle.laws.proofs.Bools.{and-first, and-second}
+use Rattle.answers.proofs.Relabelling.{relabel-hit, relabel-miss, hi, lo, next, next-low, next-root, next-just, next-pair, next-old}
+use Rattle.laws.proofs.Numbers.{dec-eq}
 
 pub first-holds : (p : List ℕ) (q : Pair) (qs : List Pair) → satisfiesPairs p (q ∷ qs) ≡ true → bitOf p (q .left) ≡ bitOf p (q .right)
 unfolding satisfiesPairs

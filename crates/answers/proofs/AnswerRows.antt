@@ -10,10 +10,11 @@ use lib.ListN.{replicate}
 use borrow.Author.Tests.{eqb-true, eq-eqb, ne-eqb, le-leb, not-true}
 use Rattle.answers.specs.Pairs.{Pair}
 use Rattle.answers.specs.Classes.{rep, inClass}
-use Rattle.answers.specs.Answer.{tally, begins, unfixed, goesOn, lowest, appears, AnswerRow, placeRow, widened, placed, rowsTo, member, isFresh, freshNumbers}
-use Rattle.answers.proofs.Booleans.{and-second}
+use Rattle.laws.specs.Lists.{tally, member}
+use Rattle.answers.specs.Answer.{begins, unfixed, goesOn, lowest, appears, AnswerRow, placeRow, widened, placed, rowsTo, isFresh, freshNumbers}
+use Rattle.laws.proofs.Bools.{and-second}
 use Rattle.answers.proofs.Agreement.{Represents, dec-lt}
-use Rattle.answers.proofs.Tallies.{tally-mono}
+use Rattle.laws.proofs.Tallies.{tally-mono}
 use Rattle.answers.proofs.Slots.{Slot, fill, part, glued}
 use Rattle.answers.proofs.Gluing.{glued-e, place, front, reach}
 use Rattle.answers.proofs.OurPieces.{mark-place, mark, home, number, slot, wide, slot-loose, slot-fixed, slot-next, wide-is, home-le, front-le, home-mark}

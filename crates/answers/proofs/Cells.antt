@@ -7,7 +7,7 @@ use native.Mathlib.Omega.{arith}
 use lib.Dec.{eqb}
 use lib.ListN.{getD}
 use borrow.Author.Tests.{eq-eqb, ne-eqb}
-use Rattle.answers.specs.Answer.{member}
+use Rattle.laws.specs.Lists.{member}
 use Rattle.answers.specs.Systems.{Part, fill as fillPart, fresh as freshPart, FineSide, FineSides, labelsOf, allLabels}
 use Rattle.answers.proofs.Slots.{Slot, fill, part}
 

@@ -12,7 +12,7 @@ use Rattle.terms.specs.Table.{bitOf}
 use Rattle.terms.proofs.Assignments.{every-at, every-of}
 use Rattle.answers.specs.Pairs.{Pair, noneSatisfies, satisfiesPairs, ties, tiesBefore, unsatAt}
 use Rattle.answers.specs.Classes.{conflictAt, links, linksBefore, rep, run}
-use Rattle.answers.proofs.Relabelling.{dec-eq}
+use Rattle.laws.proofs.Numbers.{dec-eq}
 use Rattle.answers.proofs.Agreement.{Represents, run-represents}
 use Rattle.answers.proofs.Exact.{witness, witness-bits, witness-satisfies, ties-are}
 

@@ -16,8 +16,8 @@ use Rattle.terms.specs.Table.{bitOf}
 use Rattle.terms.proofs.Assignments.{assignment-length, count-ext, count-none-of}
 use Rattle.answers.specs.Pairs.{Pair, satisfiesPairs}
 use Rattle.answers.specs.Classes.{classesOf, rep, roots}
-use Rattle.answers.proofs.Booleans.{and-first, and-second, and-both, same-test}
-use Rattle.answers.proofs.Relabelling.{dec-eq}
+use Rattle.laws.proofs.Bools.{and-first, and-second, and-both, same-test}
+use Rattle.laws.proofs.Numbers.{dec-eq}
 use Rattle.answers.proofs.Agreement.{Represents, dec-lt, bit-past, classes-represent, satisfies-reverse}
 
 count-none : (n : ℕ) → count n (λ p. false) ≡ 0

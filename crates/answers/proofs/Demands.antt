@@ -3,7 +3,7 @@
 use mathlib.Core.Path.{_≡_, refl, sym, _∙_, ap, ap₂, subst}
 use mathlib.Core.Logic.{_≢_}
 use mathlib.Core.Bool.{Bool, true, false, not, cond}
-use mathlib.Core.List.{List, [], reverse}
+use mathlib.Core.List.{List, reverse}
 use Prim.Native.Nat.{ℕ, suc, _+_, _^_, _≤_}
 use native.Mathlib.Omega.{arith}
 use lib.ListN.{length, drop}
@@ -17,7 +17,8 @@ use Rattle.terms.specs.Table.{rowsOf, bitsOf, satisfies}
 use Rattle.terms.proofs.Assignments.{every-at, every-of, count-none-of, count-none-at, count-all-of, count-all-at}
 use Rattle.answers.specs.Pairs.{Pair, pairsIn, satisfiesPairs}
 use Rattle.answers.specs.Classes.{rep, inClass, roots}
-use Rattle.answers.specs.Answer.{AnswerRow, equalUnder, variableWidths, begins, tally, appears, answerRows, freshPieces, freeBits, instantiate}
+use Rattle.answers.specs.Answer.{AnswerRow, equalUnder, variableWidths, begins, appears, answerRows, freshPieces, freeBits, instantiate}
+use Rattle.laws.specs.Lists.{tally}
 use Rattle.answers.specs.Systems.{Part, SolvedSystem, freshCount, systemBits, Gives}
 use Rattle.answers.specs.Solve.{valid, unsatisfiable, unsatRow, pairsTogether, tiesTo, solvedRows, alwaysRecord, neverRecord, solvedRecord, answerRecord}
 use Rattle.answers.proofs.Agreement.{Represents, satisfies-reverse}

@@ -8,7 +8,7 @@ use lib.Dec.{eqb}
 use lib.ListN.{length, getD}
 use Rattle.terms.specs.declared.Row.{Row}
 use Rattle.terms.specs.Table.{rowAt, bitsOf, byKind, bitOf, valuesOf, sourceOf, sameWord, sidesAgree, allRows, satisfies}
-use Rattle.terms.proofs.Cases.{KindOf, is-variable, is-constant, is-concat, is-extract, is-equation, kind-of, else-kind}
+use Rattle.terms.proofs.RowKinds.{KindOf, is-variable, is-constant, is-concat, is-extract, is-equation, kind-of, else-kind}
 use Rattle.terms.proofs.Faults.{kept, kept-names, kept-sides, equation-names}
 use Rattle.terms.proofs.Values.{Sound}
 use Rattle.terms.proofs.Sources.{value-sources, source-length}

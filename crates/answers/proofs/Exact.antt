@@ -10,11 +10,14 @@ use lib.Dec.{eqb}
 use lib.ListN.{length, getD, drop, length-map, List·getD-eq-default}
 use borrow.Author.Tests.{eqb-true, eq-eqb, ne-eqb}
 use Rattle.terms.specs.Assignments.{Assignment}
-use Rattle.terms.specs.Table.{bitOf, countUp}
+use Rattle.terms.specs.Table.{bitOf}
+use Rattle.laws.specs.Lists.{countUp}
 use Rattle.terms.proofs.Assignments.{assignment-of, every-at, every-of}
-use Rattle.answers.specs.Pairs.{Pair, equals, least, representative, satisfiesPairs, ties}
+use Rattle.answers.specs.Pairs.{Pair, equals, representative, satisfiesPairs, ties}
+use Rattle.laws.specs.Lists.{least}
 use Rattle.answers.specs.Classes.{classesOf, links, merge, relabel, rep, roots, run}
-use Rattle.answers.proofs.Relabelling.{relabel-hit, relabel-miss, dec-eq, hi, lo, hi-root}
+use Rattle.answers.proofs.Relabelling.{relabel-hit, relabel-miss, hi, lo, hi-root}
+use Rattle.laws.proofs.Numbers.{dec-eq}
 use Rattle.answers.proofs.Agreement.{map-read, Represents, relabel-zero, step, dec-lt, base, run-represents}
 use Rattle.answers.proofs.Counting.{tail-length, tail-at}
 

@@ -9,11 +9,11 @@ use lib.ListN.{length, getD, drop}
 use borrow.Author.Tests.{eqb-true, eq-eqb, le-leb}
 use Rattle.answers.specs.Pairs.{Pair}
 use Rattle.answers.specs.Classes.{rep, roots}
-use Rattle.answers.specs.Answer.{tally}
-use Rattle.answers.proofs.Booleans.{same-test}
+use Rattle.laws.specs.Lists.{tally}
+use Rattle.laws.proofs.Bools.{same-test}
 use Rattle.answers.proofs.Agreement.{Represents}
 use Rattle.answers.proofs.Counting.{tail-length, tail-at, two}
-use Rattle.answers.proofs.Tallies.{select-rank}
+use Rattle.laws.proofs.Tallies.{select-rank}
 use Rattle.answers.proofs.Slots.{loose, glued, heads}
 use Rattle.answers.proofs.Gluing.{Glue, glued-e, reach, differ, glue-in, reach-step}
 use Rattle.answers.proofs.OurPieces.{mark, wide, class-home}

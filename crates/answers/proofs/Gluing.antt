@@ -3,15 +3,14 @@
 use mathlib.Core.Path.{_≡_, refl, sym, ap, _∙_}
 use mathlib.Core.Logic.{_⊎_, inl, inr, _≢_}
 use mathlib.Core.Bool.{Bool, true, false, not, _&&_, _||_, cond}
-use mathlib.Core.List.{[]}
 use Prim.Native.Nat.{ℕ, zero, suc, _+_, _-_, _≤_, _<_, pred}
 use native.Mathlib.Omega.{arith}
 use lib.Dec.{eqb}
 use borrow.Author.Tests.{eqb-true, eq-eqb, leb-true, le-leb}
-use Rattle.answers.specs.Answer.{below}
-use Rattle.answers.proofs.Booleans.{and-first, and-second, and-both, same-test}
-use Rattle.answers.proofs.Relabelling.{dec-eq}
-use Rattle.answers.proofs.Tallies.{below-of, below-at, implied}
+use Rattle.laws.specs.Lists.{below}
+use Rattle.laws.proofs.Bools.{and-first, and-second, and-both, same-test}
+use Rattle.laws.proofs.Numbers.{dec-eq}
+use Rattle.laws.proofs.Tallies.{below-of, below-at, implied}
 use Rattle.answers.proofs.Slots.{loose, glued, heads}
 
 -- what the rule says, as facts

@@ -14,10 +14,11 @@ use Rattle.terms.specs.Assignments.{Assignment}
 use Rattle.terms.proofs.Assignments.{assignment-length, assignment-bit, assignment-of}
 use Rattle.answers.specs.Pairs.{Pair, satisfiesPairs}
 use Rattle.answers.specs.Classes.{rep, inClass}
-use Rattle.answers.specs.Answer.{tally, begins, AnswerRow, rowsTo, answerRows, member, distinct, isFresh, freshNumbers, freshPieces, freshWidth, freshStart, freeBits, rowBits, bitsOfRows, instantiate}
-use Rattle.answers.proofs.Relabelling.{dec-eq}
+use Rattle.laws.specs.Lists.{tally, member, distinct}
+use Rattle.answers.specs.Answer.{begins, AnswerRow, rowsTo, answerRows, isFresh, freshNumbers, freshPieces, freshWidth, freshStart, freeBits, rowBits, bitsOfRows, instantiate}
+use Rattle.laws.proofs.Numbers.{dec-eq}
 use Rattle.answers.proofs.Agreement.{Represents, dec-lt}
-use Rattle.answers.proofs.Tallies.{pigeon, tally-none, select}
+use Rattle.laws.proofs.Tallies.{pigeon, tally-none, select}
 use Rattle.answers.proofs.Slots.{tab-assignment, Slot, fill, part, value, tab, tab-at, tab-length, glued}
 use Rattle.answers.proofs.Gluing.{glued-e}
 use Rattle.answers.proofs.OurPieces.{mark, slot, wide, slot-gives, slot-bits, filled, slot-reads, slot-there, slot-inside}

@@ -12,7 +12,7 @@ use Rattle.terms.specs.Calls.{stopAt}
 use Rattle.terms.specs.Faults.{firstFault}
 use Rattle.terms.specs.Table.{rowsOf, bitsOf, satisfies}
 use Rattle.terms.proofs.AcceptedTable.{accepted-table}
-use Rattle.terms.proofs.Buffers.{overwrite-fits}
+use Rattle.laws.proofs.Buffers.{overwrite-fits}
 use Rattle.terms.proofs.Faults.{totals-small}
 use Rattle.answers.specs.Answer.{AnswerRow, equalUnder, variableWidths, answerNumbers}
 use Rattle.answers.specs.Solve.{solvedRows, answerRecord, solveRecord, answerAfter, workAfter}

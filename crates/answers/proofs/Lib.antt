@@ -1,4 +1,3 @@
-pub mod Booleans
 pub mod Relabelling
 pub mod Agreement
 pub mod Counting
@@ -7,7 +6,6 @@ pub mod Conflicts
 pub mod Equations
 pub mod Order
 pub mod Theorems
-pub mod Tallies
 pub mod Slots
 pub mod Minimal
 pub mod Gluing

@@ -2,7 +2,7 @@
 use mathlib.Core.Path.{_≡_, refl, sym, ap, _∙_}
 use mathlib.Core.Logic.{_⊎_, inl, inr, _≢_}
 use mathlib.Core.Bool.{Bool, true, false, not, _&&_, _||_, cond}
-use mathlib.Core.List.{List, []}
+use mathlib.Core.List.{List}
 use Prim.Native.Nat.{ℕ, zero, suc, _-_, _≤_, _<_, pred}
 use native.Mathlib.Omega.{arith}
 use lib.Dec.{eqb}
@@ -12,11 +12,11 @@ use Rattle.terms.specs.Assignments.{Assignment}
 use Rattle.terms.specs.Table.{bitOf}
 use Rattle.answers.specs.Pairs.{Pair, satisfiesPairs}
 use Rattle.answers.specs.Classes.{rep}
-use Rattle.answers.specs.Answer.{below, member, distinct}
-use Rattle.answers.proofs.Booleans.{and-first, and-second, and-both}
+use Rattle.laws.specs.Lists.{below, member, distinct}
+use Rattle.laws.proofs.Bools.{and-first, and-second, and-both}
 use Rattle.answers.proofs.Agreement.{Represents, dec-lt}
 use Rattle.answers.proofs.Exact.{equals-to}
-use Rattle.answers.proofs.Tallies.{below-of, pigeon}
+use Rattle.laws.proofs.Tallies.{below-of, pigeon}
 use Rattle.answers.proofs.Slots.{equals-from, tab, tab-at, tab-assignment, Slot, fill, part, value, System, loose, glued, heads, fresh}
 
 module _ (n : ℕ) (c : List ℕ) (seen : List Pair) (inv : Represents n c seen) (one : rep c 1 ≡ 1) (start : ℕ → Bool) (last : start n ≡ true) (S : System n start seen) where

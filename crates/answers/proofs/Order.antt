@@ -6,8 +6,9 @@ use Prim.Native.Nat.{ℕ, zero, suc, _+_}
 use lib.Dec.{eqb}
 use Rattle.terms.specs.Assignments.{every}
 use Rattle.terms.specs.Table.{bitOf}
-use Rattle.answers.specs.Pairs.{Pair, satisfiesPairs, equals, least, representative, turned}
-use Rattle.answers.proofs.Booleans.{same-test}
+use Rattle.answers.specs.Pairs.{Pair, satisfiesPairs, equals, representative, turned}
+use Rattle.laws.specs.Lists.{least}
+use Rattle.laws.proofs.Bools.{same-test}
 use borrow.Author.Tests.{eqb-true, eq-eqb}
 
 pub every-ext : (n : ℕ) (f g : List ℕ → Bool) → ((p : List ℕ) → f p ≡ g p) → every n f ≡ every n g

@@ -2,7 +2,7 @@
 use mathlib.Core.Path.{_≡_, refl, sym, ap, ap₂, _∙_}
 use mathlib.Core.Logic.{_⊎_, inl, inr, _≢_}
 use mathlib.Core.Bool.{Bool, true, false, not, _&&_, cond}
-use mathlib.Core.List.{List, []}
+use mathlib.Core.List.{List}
 use Prim.Native.Nat.{ℕ, zero, suc, _+_, _-_, _≤_, _<_}
 use native.Mathlib.Omega.{arith}
 use lib.Dec.{eqb}
@@ -12,11 +12,11 @@ use Rattle.terms.specs.Assignments.{Assignment}
 use Rattle.terms.specs.Table.{bitOf}
 use Rattle.answers.specs.Pairs.{Pair, satisfiesPairs}
 use Rattle.answers.specs.Classes.{rep}
-use Rattle.answers.specs.Answer.{tally}
-use Rattle.answers.proofs.Booleans.{and-first, and-second, and-both}
-use Rattle.answers.proofs.Relabelling.{dec-eq}
+use Rattle.laws.specs.Lists.{tally}
+use Rattle.laws.proofs.Bools.{and-first, and-second, and-both}
+use Rattle.laws.proofs.Numbers.{dec-eq}
 use Rattle.answers.proofs.Agreement.{Represents, dec-lt, bit-past}
-use Rattle.answers.proofs.Tallies.{tally-mono, select, select-rank, select-mark}
+use Rattle.laws.proofs.Tallies.{tally-mono, select, select-rank, select-mark}
 use Rattle.answers.proofs.Slots.{tab, tab-at, tab-assignment, Slot, fill, part, value, loose, glued, heads}
 use Rattle.answers.proofs.Gluing.{glued-e, place, front, reach, front-place, differ, place-class, reach-class, reach-pos, reach-front, reach-two, front-head, front-loose, heads-class}
 

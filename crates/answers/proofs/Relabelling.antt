@@ -1,13 +1,11 @@
 -- One pair taken, of classes as a function: the higher class goes to the lower.
-use mathlib.Core.Path.{_≡_, refl, sym, ap, _∙_}
+use mathlib.Core.Path.{_≡_, sym, ap, _∙_}
 use mathlib.Core.Logic.{_⊎_, inl, inr, _≢_}
-use mathlib.Core.Bool.{Bool, true, false}
-use mathlib.Core.List.{[]}
 use Prim.Native.Nat.{ℕ, _≤_, min, max}
 use native.Mathlib.Omega.{arith}
-use lib.Dec.{eqb}
-use borrow.Author.Tests.{eqb-true, eqb-false, eq-eqb, ne-eqb}
+use borrow.Author.Tests.{eq-eqb, ne-eqb}
 use Rattle.answers.specs.Classes.{relabel}
+use Rattle.laws.proofs.Numbers.{dec-eq}
 
 pub relabel-hit : (hi lo v : ℕ) → v ≡ hi → relabel hi lo v ≡ lo
 unfolding relabel
@@ -16,13 +14,6 @@ relabel-hit hi lo v e = rw (eq-eqb v hi e)
 pub relabel-miss : (hi lo v : ℕ) → v ≢ hi → relabel hi lo v ≡ v
 unfolding relabel
 relabel-miss hi lo v e = rw (ne-eqb v hi e)
-
-pub dec-eq : (a b : ℕ) → (a ≡ b) ⊎ (a ≢ b)
-dec-eq a b = go (eqb a b) refl
-  where
-    go : (t : Bool) → eqb a b ≡ t → (a ≡ b) ⊎ (a ≢ b)
-    go true e = inl (eqb-true a b e)
-    go false e = inr (eqb-false a b e)
 
 -- c gives each source its representative; the pair is of s and t
 module _ (c : ℕ → ℕ) (low : (i : ℕ) → c i ≤ i) (root : (i : ℕ) → c (c i) ≡ c i) (s t : ℕ) where

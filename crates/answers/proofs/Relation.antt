@@ -2,16 +2,18 @@
 use mathlib.Core.Path.{_≡_, refl, sym, ap, ap₂, _∙_}
 use mathlib.Core.Logic.{_⊎_, inl, inr, _≢_}
 use mathlib.Core.Bool.{Bool, true, false, not, _&&_, _||_, and-false}
-use mathlib.Core.List.{List, []}
+use mathlib.Core.List.{List}
 use Prim.Native.Nat.{ℕ, zero, suc, _+_, _-_, _≤_, _<_, pred}
 use native.Mathlib.Omega.{arith}
 use lib.Dec.{eqb, leb}
 use borrow.Author.Tests.{eqb-true, eq-eqb, ne-eqb, le-leb, lt-leb, not-true}
-use Rattle.answers.specs.Pairs.{Pair, least}
+use Rattle.answers.specs.Pairs.{Pair}
+use Rattle.laws.specs.Lists.{least}
 use Rattle.answers.specs.Classes.{rep, inClass}
-use Rattle.answers.specs.Answer.{below, begins, fixedTo, unfixed, contiguous, fixedAlike, goesOn, lowest, appears}
-use Rattle.answers.proofs.Booleans.{and-first, same-test}
-use Rattle.answers.proofs.Relabelling.{dec-eq}
+use Rattle.laws.specs.Lists.{below}
+use Rattle.answers.specs.Answer.{begins, fixedTo, unfixed, contiguous, fixedAlike, goesOn, lowest, appears}
+use Rattle.laws.proofs.Bools.{and-first, same-test}
+use Rattle.laws.proofs.Numbers.{dec-eq}
 use Rattle.answers.proofs.Agreement.{Represents, dec-lt}
 use Rattle.answers.proofs.Slots.{loose, glued, heads}
 use Rattle.answers.proofs.Gluing.{glued-e}

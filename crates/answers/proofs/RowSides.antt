@@ -9,10 +9,11 @@ use native.Mathlib.Omega.{arith}
 use lib.Dec.{eqb, ltb}
 use lib.ListN.{length, getD}
 use borrow.Author.Tests.{eq-eqb, ne-eqb, lt-ltb, le-ltb, not-true}
-use Rattle.answers.specs.Answer.{tally, begins, variableAt, contiguous, fixedAlike, goesOn, AnswerRow, placeRow, widened, placed, rowsTo, answerRows, isFresh, freshNumbers}
+use Rattle.laws.specs.Lists.{tally}
+use Rattle.answers.specs.Answer.{begins, variableAt, contiguous, fixedAlike, goesOn, AnswerRow, placeRow, widened, placed, rowsTo, answerRows, isFresh, freshNumbers}
 use Rattle.answers.specs.Systems.{Part, fill, fresh, partWidth, sideWidth, FinePart, FineSide, FineSides, labelsOf, allLabels, partBits, sideBits, systemBits}
-use Rattle.answers.proofs.Booleans.{and-first}
-use Rattle.answers.proofs.Relabelling.{dec-eq}
+use Rattle.laws.proofs.Bools.{and-first}
+use Rattle.laws.proofs.Numbers.{dec-eq}
 use Rattle.answers.proofs.Agreement.{dec-lt}
 use Rattle.answers.proofs.AnswerRows.{Each}
 use Rattle.answers.proofs.Instantiating.{each-turn}

@@ -12,7 +12,7 @@ use Rattle.terms.specs.Assignments.{Assignment}
 use Rattle.terms.specs.Table.{bitOf}
 use Rattle.terms.proofs.Assignments.{every-of, assignment-of}
 use Rattle.answers.specs.Pairs.{Pair, satisfiesPairs, equals}
-use Rattle.answers.specs.Answer.{below, tally, member}
+use Rattle.laws.specs.Lists.{below, tally, member}
 
 -- what holds in every pattern, as a statement
 pub equals-from : (n : ℕ) (seen : List Pair) (s t : ℕ) → ((p : List ℕ) → Assignment n p → satisfiesPairs p seen ≡ true → bitOf p s ≡ bitOf p t) → equals n seen s t ≡ true

@@ -13,16 +13,18 @@ use Rattle.terms.specs.declared.Row.{Row}
 use Rattle.terms.specs.declared.Fault.the-variants.{Accepted}
 use Rattle.terms.specs.Assignments.{Assignment, every, count}
 use Rattle.terms.specs.Faults.{firstFault}
-use Rattle.terms.specs.Table.{rowsOf, rowAt, bitsOf, bitOf, countUp, satisfies}
+use Rattle.terms.specs.Table.{rowsOf, rowAt, bitsOf, bitOf, satisfies}
+use Rattle.laws.specs.Lists.{countUp}
 use Rattle.terms.proofs.AcceptedTable.{accepted-table}
 use Rattle.terms.proofs.Assignments.{assignment-length, every-at, every-of, count-ext, count-none-of, count-all-of, count-all-at}
 use Rattle.terms.proofs.Values.{Sound}
-use Rattle.answers.specs.Pairs.{Pair, pairsOf, pairsIn, satisfiesPairs, satisfiesAll, allPairs, equals, least, ties, noneSatisfies, unsatAt, tiesBefore}
+use Rattle.answers.specs.Pairs.{Pair, pairsOf, pairsIn, satisfiesPairs, satisfiesAll, allPairs, equals, ties, noneSatisfies, unsatAt, tiesBefore}
+use Rattle.laws.specs.Lists.{least}
 use Rattle.answers.specs.Classes.{rep, inClass, classesOf, runAll, roots, conflictAt, linksBefore}
 use Rattle.answers.specs.Answer.{placed, placeRow, goesOn, rowsTo, AnswerRow, equalUnder, variableWidths, answerRows}
 use Rattle.answers.specs.Solve.{valid, unsatisfiable, satisfiesTo, unsatRow, pairsTogether, tiesTo, solvedRows, alwaysRecord, neverRecord, solvedRecord, answerRecord}
 use Rattle.answers.proofs.Agreement.{Represents, classes-represent, satisfies-reverse}
-use Rattle.answers.proofs.Booleans.{same-test}
+use Rattle.laws.proofs.Bools.{same-test}
 use Rattle.answers.proofs.Agreement.{dec-lt}
 use Rattle.answers.proofs.Exact.{equals-is}
 use Rattle.answers.proofs.Equations.{table-pairs, rows-pairs, row-pairs, all-pairs}

@@ -9,7 +9,8 @@ use lib.Dec.{eqb}
 use lib.ListN.{drop}
 use borrow.Author.Tests.{eqb-false, not-true}
 use Rattle.terms.specs.Assignments.{Assignment, count}
-use Rattle.terms.specs.Table.{bitOf, countUp}
+use Rattle.terms.specs.Table.{bitOf}
+use Rattle.laws.specs.Lists.{countUp}
 use Rattle.terms.proofs.Assignments.{every-at, count-none-of}
 use Rattle.answers.specs.Pairs.{Pair, satisfiesPairs, representative, ties, noneSatisfies, unsatAt, tiesBefore}
 use Rattle.answers.specs.Classes.{rep, classesOf, roots, links, conflictAt, linksBefore}

@@ -10,7 +10,7 @@ use borrow.Author.Tests.{ltb-true}
 use Rattle.terms.specs.declared.Row.{Row}
 use Rattle.terms.specs.Assignments.{Assignment, done, off, on}
 use Rattle.terms.specs.Table.{byKind, bitsIn, bitsOf}
-use Rattle.terms.proofs.Cases.{KindOf, kind-of, is-variable, is-constant, is-concat, is-extract, is-equation, else-kind}
+use Rattle.terms.proofs.RowKinds.{KindOf, kind-of, is-variable, is-constant, is-concat, is-extract, is-equation, else-kind}
 use Rattle.answers.specs.Answer.{variableWidths, begins}
 use Rattle.answers.specs.Systems.{Part, fill, fresh, partWidth, sideWidth, FinePart, FineSide, FineSides, SolvedSystem, pieceBits, partBits, sideBits, systemBits, Filling}
 use Rattle.answers.proofs.GeneralSystems.{widthSum}

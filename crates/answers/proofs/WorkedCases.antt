@@ -12,13 +12,16 @@ use Rattle.terms.specs.declared.Fault.the-variants.{Accepted}
 use Rattle.terms.specs.Assignments.{every, count}
 use Rattle.terms.proofs.Assignments.{every-of}
 use Rattle.terms.specs.Faults.{firstFault, breaks11, lowestFault, faultAt, firstRule, breaks12, breaks13, breaks14, breaks15, breaks16, breaks17, breaks18, unusedColumn, misnamed, notTerm, wrongWidth, outside, wrongBounds, tooMany, unequalSides}
-use Rattle.terms.specs.Table.{rowsOf, byKind, byRows, widthIn, widthsOf, bitsIn, bitsOf, countKind, countUp, extract, valueIn, valuesOf, sourcesOf, sameWord, sidesAgree, allRows, satisfies}
-use Rattle.answers.specs.Pairs.{paired, pairsOf, pairsIn, least, ties}
+use Rattle.terms.specs.Table.{rowsOf, byKind, byRows, widthIn, widthsOf, bitsIn, bitsOf, countKind, extract, valueIn, valuesOf, sourcesOf, sameWord, sidesAgree, allRows, satisfies}
+use Rattle.laws.specs.Lists.{countUp}
+use Rattle.answers.specs.Pairs.{paired, pairsOf, pairsIn, ties}
+use Rattle.laws.specs.Lists.{least}
 use Rattle.answers.specs.Classes.{inClass, relabel, merge, run, classesOf, links, conflictAt, linksBefore}
-use Rattle.answers.specs.Answer.{variableWidths, begins, variableAt, below, tally, contiguous, fixedAlike, goesOn, lowest, appears, placeRow, placed, rowsTo, answerRows, answerNumbers, member, distinct, freshNumbers, freshPieces, freshWidth, freshStart, freeBits}
+use Rattle.answers.specs.Answer.{variableWidths, begins, variableAt, contiguous, fixedAlike, goesOn, lowest, appears, placeRow, placed, rowsTo, answerRows, answerNumbers, freshNumbers, freshPieces, freshWidth, freshStart, freeBits}
+use Rattle.laws.specs.Lists.{below, tally, member, distinct}
 use Rattle.answers.specs.Solve.{valid, unsatisfiable, unsatRow, satisfiesTo, tiesTo, pairsTogether, solvedRows, alwaysRecord, neverRecord, solvedRecord, answerRecord}
 use Rattle.answers.proofs.Tables.{tableClasses, is-left, solved-rows, never-record, always-record, solved-record}
-use Rattle.answers.proofs.Booleans.{and-both}
+use Rattle.laws.proofs.Bools.{and-both}
 use Rattle.answers.proofs.Demands.{demand-3}
 
 -- Case 1: a variable of 8, bits 6 to 3 equal to bits 4 to 1: 16 patterns.

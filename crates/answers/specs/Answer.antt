@@ -8,7 +8,7 @@ use lib.ListN.{take, drop, replicate}
 use Rattle.terms.specs.declared.Row.{Row}
 use Rattle.terms.specs.Assignments.{every}
 use Rattle.terms.specs.Table.{bitOf, byKind}
-use Rattle.answers.specs.Pairs.{least}
+use Rattle.laws.specs.Lists.{least, below, tally, distinct}
 
 -- Whether two sources have the same bit in every assignment of n bits that passes a test.
 unfoldable pub equalUnder : ℕ → (List ℕ → Bool) → ℕ → ℕ → Bool
@@ -28,15 +28,6 @@ begins (w ∷ ws) i = cond (ltb i w) (eqb i 0) (begins ws (i - w))
 unfoldable pub variableAt : List ℕ → ℕ → ℕ
 variableAt [] i = 0
 variableAt (w ∷ ws) i = cond (ltb i w) 0 (suc (variableAt ws (i - w)))
-
--- Whether a test holds at each number below n; at how many it does.
-unfoldable pub below : ℕ → (ℕ → Bool) → Bool
-below zero f = true
-below (suc n) f = f n && below n f
-
-unfoldable pub tally : ℕ → (ℕ → Bool) → ℕ
-tally zero f = 0
-tally (suc n) f = cond (f n) 1 0 + tally n f
 
 abbrev pub implies : Bool → Bool → Bool
 implies a b = not a || b
@@ -118,15 +109,6 @@ answerRows n ws same = reverse (rowsTo n ws same n)
 unfoldable pub answerNumbers : List AnswerRow → List ℕ
 answerNumbers [] = []
 answerNumbers (r ∷ rows) = r .variable ∷ r .kind ∷ r .width ∷ r .fresh ∷ answerNumbers rows
-
--- How many different numbers a list has.
-unfoldable pub member : ℕ → List ℕ → Bool
-member x [] = false
-member x (y ∷ ys) = eqb x y || member x ys
-
-unfoldable pub distinct : List ℕ → ℕ
-distinct [] = 0
-distinct (x ∷ xs) = cond (member x xs) 0 1 + distinct xs
 
 -- The fresh numbers in a table's rows; how many fresh pieces it has; the width of fresh piece k, from its first row; where its bits
 -- begin among the fresh bits (fresh piece 0 first); and how many fresh bits there are, each piece once.

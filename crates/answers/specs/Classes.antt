@@ -2,10 +2,10 @@
 -- of this crate say that it comes to the same.
 use mathlib.Core.Bool.{Bool, cond}
 use mathlib.Core.List.{List, [], _∷_, map}
-use Prim.Native.Nat.{ℕ, zero, suc, _+_, min, max}
+use Prim.Native.Nat.{ℕ, suc, _+_, min, max}
 use lib.Dec.{eqb}
 use lib.ListN.{getD}
-use Rattle.terms.specs.Table.{countUp}
+use Rattle.laws.specs.Lists.{countUp}
 use Rattle.answers.specs.Pairs.{Pair}
 
 abbrev pub rep : List ℕ → ℕ → ℕ

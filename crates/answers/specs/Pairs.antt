@@ -2,12 +2,13 @@
 -- pairs are ties. All of it is by what holds at every assignment: there is no algorithm here. Bits are sources: 0 and 1 are the fixed
 -- bits, i + 2 is place i of an assignment.
 use mathlib.Core.Bool.{Bool, true, not, _&&_, _||_, cond}
-use mathlib.Core.List.{List, [], _∷_, _++_, reverseAux}
-use Prim.Native.Nat.{ℕ, zero, suc, _+_}
+use mathlib.Core.List.{List, [], _∷_, reverseAux}
+use Prim.Native.Nat.{ℕ, suc, _+_}
 use lib.Dec.{eqb}
 use Rattle.terms.specs.declared.Row.{Row}
 use Rattle.terms.specs.Assignments.{every}
-use Rattle.terms.specs.Table.{bitOf, byKind, sourceOf, rowAt}
+use Rattle.terms.specs.Table.{bitOf, byKind, sourceOf}
+use Rattle.laws.specs.Lists.{least}
 
 pub record Pair : Type 0 where
   pub left : ℕ
@@ -53,11 +54,6 @@ equals n qs s t = every n (λ p. not (satisfiesPairs p qs) || eqb (bitOf p s) (b
 -- Whether place i is fixed to the bit b.
 abbrev pub fixedAt : ℕ → List Pair → ℕ → ℕ → Bool
 fixedAt n qs i b = equals n qs (suc (suc i)) b
-
--- The least number from k on, of d at the most, that passes; k + d if none does.
-unfoldable pub least : (ℕ → Bool) → ℕ → ℕ → ℕ
-least f k zero = k
-least f k (suc d) = cond (f k) k (least f (suc k) d)
 
 -- The lowest source that equals s: the fixed bit where s is fixed, else the lowest place.
 unfoldable pub representative : ℕ → List Pair → ℕ → ℕ

@@ -8,10 +8,12 @@ use lib.ListN.{length, replicate, take}
 use Rattle.terms.specs.declared.Record.{Record}
 use Rattle.terms.specs.declared.Row.{Row}
 use Rattle.terms.specs.Assignments.{every}
-use Rattle.terms.specs.Calls.{refusal, faultRecord, stopAt, overwrite}
+use Rattle.terms.specs.Calls.{refusal, faultRecord, stopAt}
+use Rattle.laws.specs.Buffers.{overwrite}
 use Rattle.terms.specs.Faults.{isAccepted, firstFault}
 use Rattle.terms.specs.Table.{rowsOf, bitsOf, valuesOf, sidesAgree, allRows, satisfies}
-use Rattle.answers.specs.Pairs.{Pair, pairsIn, least, ties}
+use Rattle.answers.specs.Pairs.{Pair, pairsIn, ties}
+use Rattle.laws.specs.Lists.{least}
 use Rattle.answers.specs.Answer.{AnswerRow, equalUnder, variableWidths, answerRows, answerNumbers, freshPieces, freeBits}
 
 -- Whether every assignment satisfies a table; whether none does.

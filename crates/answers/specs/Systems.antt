@@ -6,7 +6,7 @@ use mathlib.Core.List.{List, [], _∷_, _++_, map}
 use Prim.Native.Nat.{ℕ, zero, suc, _+_, _≤_}
 use lib.ListN.{replicate}
 use Rattle.terms.specs.Assignments.{Assignment}
-use Rattle.answers.specs.Answer.{distinct}
+use Rattle.laws.specs.Lists.{distinct}
 
 -- A part of a right side: a fill, or a whole fresh piece.
 pub data Part : Type 0 where

@@ -11,10 +11,11 @@ use lib.ListN.{length}
 use borrow.Author.Tests.{eq-eqb, ne-eqb, lt-leb}
 use Rattle.answers.specs.Pairs.{Pair}
 use Rattle.answers.specs.Classes.{rep, inClass}
-use Rattle.answers.specs.Answer.{tally, begins, variableAt, fixedTo, unfixed, goesOn, AnswerRow, placeRow, widened, placed, rowsTo, answerRows, member, isFresh, freshNumbers}
-use Rattle.answers.proofs.Relabelling.{dec-eq}
+use Rattle.laws.specs.Lists.{tally, member}
+use Rattle.answers.specs.Answer.{begins, variableAt, fixedTo, unfixed, goesOn, AnswerRow, placeRow, widened, placed, rowsTo, answerRows, isFresh, freshNumbers}
+use Rattle.laws.proofs.Numbers.{dec-eq}
 use Rattle.answers.proofs.Agreement.{Represents, dec-lt}
-use Rattle.answers.proofs.Tallies.{tally-mono}
+use Rattle.laws.proofs.Tallies.{tally-mono}
 use Rattle.answers.proofs.Slots.{glued}
 use Rattle.answers.proofs.Gluing.{glued-e}
 use Rattle.answers.proofs.GeneralSystems.{widthSum}

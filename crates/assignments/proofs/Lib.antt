@@ -1,10 +1,5 @@
-pub mod OneMore
-pub mod Passed
-pub mod Passing
-pub mod Reading
-pub mod Filling
-pub mod Stops
 pub mod Places
 pub mod Turning
 pub mod FineRows
 pub mod Theorems
+pub mod PatternCall

@@ -16,8 +16,8 @@ use Rattle.terms.specs.Calls.{completed, stopAt}
 use Rattle.terms.specs.Faults.{firstFault}
 use Rattle.terms.specs.Table.{rowsOf, bitsOf, satisfies}
 use Rattle.terms.proofs.Assignments.{assignment-length}
-use Rattle.terms.proofs.Buffers.{overwrite-fits}
-use Rattle.values.specs.Value.{allBits}
+use Rattle.laws.proofs.Buffers.{overwrite-fits}
+use Rattle.laws.specs.Lists.{allBits}
 use Rattle.answers.specs.Answer.{AnswerRow, variableWidths, begins, answerNumbers, freeBits, instantiate}
 use Rattle.answers.specs.Solve.{unsatisfiable, pairsTogether, solvedRows, answerRecord}
 use Rattle.answers.specs.Pairs.{pairsIn}

@@ -8,9 +8,10 @@ use native.Mathlib.Omega.{arith}
 use lib.Dec.{eqb, ltb}
 use lib.ListN.{length}
 use borrow.Author.Tests.{eqb-true, eq-eqb, lt-ltb}
-use Rattle.answers.specs.Pairs.{least}
-use Rattle.answers.specs.Answer.{AnswerRow, isFresh, member, distinct, freshNumbers, freshWidth}
-use Rattle.answers.proofs.Booleans.{and-both}
+use Rattle.laws.specs.Lists.{least}
+use Rattle.answers.specs.Answer.{AnswerRow, isFresh, freshNumbers, freshWidth}
+use Rattle.laws.specs.Lists.{member, distinct}
+use Rattle.laws.proofs.Bools.{and-both}
 use Rattle.answers.proofs.Agreement.{dec-lt}
 use Rattle.answers.proofs.Instantiating.{distinct-is}
 use Rattle.assignments.specs.Form.{variableFine, kindFine, widthFine, widthIn, variableWide, patternBits, patternWide, fillFine, neighboursFine, lowestUnseen, freshFine, rowFine, rowsFine}

@@ -5,8 +5,9 @@ use Prim.Native.Nat.{ℕ}
 use lib.Dec.{eqb, ltb}
 use lib.ListN.{length}
 use Rattle.terms.specs.declared.Record.{Record}
-use Rattle.terms.specs.Calls.{refusal, completed, stopAt, overwrite}
-use Rattle.values.specs.Value.{allBits}
+use Rattle.terms.specs.Calls.{refusal, completed, stopAt}
+use Rattle.laws.specs.Buffers.{overwrite}
+use Rattle.laws.specs.Lists.{allBits}
 use Rattle.answers.specs.Answer.{freeBits, instantiate}
 use Rattle.assignments.specs.Form.{answerRowsOf, patternBits, hasForm}
 

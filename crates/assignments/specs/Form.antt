@@ -2,11 +2,12 @@
 -- for each clause, by the rows before it. 33 is told for every table that has not this form.
 use mathlib.Core.Bool.{Bool, true, not, _&&_, _||_, cond}
 use mathlib.Core.List.{List, [], _∷_, _++_}
-use Prim.Native.Nat.{ℕ, zero, suc, _+_, _%_}
+use Prim.Native.Nat.{ℕ, suc, _+_, _%_}
 use lib.Dec.{eqb, ltb}
 use lib.ListN.{length}
-use Rattle.answers.specs.Pairs.{least}
-use Rattle.answers.specs.Answer.{AnswerRow, isFresh, member, freshNumbers, freshWidth}
+use Rattle.laws.specs.Lists.{least}
+use Rattle.answers.specs.Answer.{AnswerRow, isFresh, freshNumbers, freshWidth}
+use Rattle.laws.specs.Lists.{member}
 
 -- The numbers of an answer table as rows of variable, kind, width and fresh number.
 unfoldable pub answerRowsOf : List ℕ → List AnswerRow

@@ -10,7 +10,8 @@ use lib.ListN.{length}
 use borrow.Author.Tests.{ne-eqb, lt-ltb, le-ltb}
 use Rattle.terms.specs.declared.Row.{Row}
 use Rattle.terms.specs.Table.{rowAt, byKind, bitsIn, bitsOf}
-use Rattle.answers.specs.Answer.{variableWidths, begins, variableAt, tally}
+use Rattle.answers.specs.Answer.{variableWidths, begins, variableAt}
+use Rattle.laws.specs.Lists.{tally}
 use Rattle.answers.proofs.Agreement.{dec-lt}
 use Rattle.answers.proofs.GeneralSystems.{widthSum}
 

@@ -18,7 +18,7 @@ use Rattle.terms.proofs.AcceptedTable.{accepted-table}
 use Rattle.terms.proofs.Faults.{totals-small}
 use Rattle.terms.proofs.Widths.{bits-more}
 use Rattle.answers.specs.Answer.{variableWidths, begins}
-use Rattle.answers.proofs.Relabelling.{dec-eq}
+use Rattle.laws.proofs.Numbers.{dec-eq}
 use Rattle.answers.proofs.Agreement.{dec-lt}
 use Rattle.answers.proofs.GeneralSystems.{widthSum}
 use Rattle.borders.specs.Borders.{Zeros, MarksBegins}

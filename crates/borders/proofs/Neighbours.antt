@@ -9,13 +9,13 @@ use native.Mathlib.Omega.{arith}
 use lib.Dec.{eqb, ltb}
 use lib.ListN.{getD}
 use borrow.Author.Tests.{eqb-true, eq-eqb, lt-ltb, le-ltb, not-true, ltb-false}
-use Rattle.terms.proofs.Cases.{not-both}
+use Rattle.laws.proofs.Bools.{not-both}
 use Rattle.answers.specs.Pairs.{Pair}
 use Rattle.answers.specs.Classes.{rep, inClass}
 use Rattle.answers.specs.Answer.{implies, begins, goesOn}
-use Rattle.answers.proofs.Booleans.{and-first, and-second, same-test}
+use Rattle.laws.proofs.Bools.{and-first, and-second, same-test}
 use Rattle.answers.proofs.Agreement.{dec-lt}
-use Rattle.answers.proofs.Tallies.{below-of, below-at, implied}
+use Rattle.laws.proofs.Tallies.{below-of, below-at, implied}
 use Rattle.answers.proofs.Slots.{glued}
 use Rattle.answers.proofs.Gluing.{Glue, glued-e, glued-i}
 use Rattle.answers.proofs.Relation.{goes-loose, goes-fixed}

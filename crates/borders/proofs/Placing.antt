@@ -10,13 +10,14 @@ use lib.Dec.{eqb, ltb, leb}
 use lib.ListN.{length, getD, set, length-reverse}
 use lib.Seq.{getD-set-same, getD-set-other}
 use borrow.Author.Tests.{eqb-true, eq-eqb, ne-eqb, lt-ltb, le-ltb, le-leb, lt-leb}
-use Rattle.terms.specs.Calls.{overwrite}
-use Rattle.terms.proofs.Cases.{not-both}
+use Rattle.laws.specs.Buffers.{overwrite}
+use Rattle.laws.proofs.Bools.{not-both}
 use Rattle.answers.specs.Pairs.{Pair}
 use Rattle.answers.specs.Classes.{rep, inClass}
-use Rattle.answers.specs.Answer.{tally, begins, variableAt, fixedTo, unfixed, goesOn, lowest, appears, AnswerRow, placeRow, widened, placed, rowsTo, answerRows, answerNumbers}
-use Rattle.answers.proofs.Booleans.{same-test}
-use Rattle.answers.proofs.Relabelling.{dec-eq}
+use Rattle.laws.specs.Lists.{tally}
+use Rattle.answers.specs.Answer.{begins, variableAt, fixedTo, unfixed, goesOn, lowest, appears, AnswerRow, placeRow, widened, placed, rowsTo, answerRows, answerNumbers}
+use Rattle.laws.proofs.Bools.{same-test}
+use Rattle.laws.proofs.Numbers.{dec-eq}
 use Rattle.answers.proofs.Agreement.{dec-lt}
 use Rattle.answers.proofs.Relation.{fixed-is, unfixed-is, lowest-is}
 use Rattle.borders.specs.declared.Progress.{Progress}

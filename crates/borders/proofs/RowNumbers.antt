@@ -4,8 +4,8 @@ use mathlib.Core.List.{List, [], _∷_, _++_, append-assoc, reverse, reverse-con
 use Prim.Native.Nat.{ℕ, zero, suc, _+_, _-_, _*_, _<_}
 use native.Mathlib.Omega.{arith}
 use lib.ListN.{length, set, length-append, length-reverse}
-use Rattle.terms.specs.Calls.{overwrite}
-use Rattle.terms.proofs.Buffers.{overwrite-more}
+use Rattle.laws.specs.Buffers.{overwrite}
+use Rattle.laws.proofs.Buffers.{overwrite-more}
 use Rattle.answers.specs.Answer.{AnswerRow, answerNumbers}
 use Rattle.borders.specs.declared.Progress.{Progress}
 use Rattle.borders.specs.Borders.{rowWritten}

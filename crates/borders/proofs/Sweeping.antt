@@ -11,8 +11,9 @@ use lib.ListN.{length, getD, set}
 use lib.Seq.{getD-set-same, getD-set-other}
 use borrow.Author.Tests.{eq-eqb, ne-eqb}
 use Rattle.answers.specs.Classes.{rep}
-use Rattle.answers.specs.Answer.{below, implies}
-use Rattle.answers.proofs.Relabelling.{dec-eq}
+use Rattle.laws.specs.Lists.{below}
+use Rattle.answers.specs.Answer.{implies}
+use Rattle.laws.proofs.Numbers.{dec-eq}
 use Rattle.borders.specs.Borders.{besideIn, evenAt, MarksUneven, unevenWith}
 
 -- with k places passed, the marks are those of the first k

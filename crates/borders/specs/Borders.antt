@@ -9,10 +9,11 @@ use lib.ListN.{length, getD, set}
 use Rattle.terms.specs.declared.Fault.the-variants.{Accepted}
 use Rattle.terms.specs.Table.{rowsOf, bitsOf}
 use Rattle.terms.specs.Faults.{firstFault}
-use Rattle.terms.specs.Calls.{overwrite}
+use Rattle.laws.specs.Buffers.{overwrite}
 use Rattle.answers.specs.Pairs.{Pair}
 use Rattle.answers.specs.Classes.{rep, inClass}
-use Rattle.answers.specs.Answer.{begins, variableAt, variableWidths, below, implies, tally, appears, answerRows, answerNumbers}
+use Rattle.answers.specs.Answer.{begins, variableAt, variableWidths, implies, appears, answerRows, answerNumbers}
+use Rattle.laws.specs.Lists.{below, tally}
 use Rattle.answers.proofs.Agreement.{Represents}
 use Rattle.borders.specs.declared.Progress.{Progress}
 

@@ -6,10 +6,11 @@ use lib.ListN.{length}
 use Rattle.terms.specs.declared.Fault.the-variants.{Accepted}
 use Rattle.terms.specs.Table.{rowsOf, bitsOf}
 use Rattle.terms.specs.Faults.{firstFault}
-use Rattle.terms.specs.Calls.{overwrite}
+use Rattle.laws.specs.Buffers.{overwrite}
 use Rattle.answers.specs.Pairs.{Pair}
 use Rattle.answers.specs.Classes.{rep, inClass}
-use Rattle.answers.specs.Answer.{tally, variableWidths, appears, answerRows, answerNumbers}
+use Rattle.laws.specs.Lists.{tally}
+use Rattle.answers.specs.Answer.{variableWidths, appears, answerRows, answerNumbers}
 use Rattle.answers.proofs.Agreement.{Represents}
 
 -- The rows of an accepted table whose classes are these were written: how many, how many fresh pieces, and the answer table.

@@ -34,13 +34,13 @@ fn mark_begins(table: &[u16], marks: &mut [u16]) -> u16
         if table.len() / 4 <= r {
             break;
         }
-        terms::store(marks, bits, 1);
-        let row = terms::row_at(table, r);
-        bits = bits + (terms::row_bits(row) as usize);
+        numbers::store(marks, bits, 1);
+        let row = rows::row_at(table, r);
+        bits = bits + (checker::row_bits(row) as usize);
         r += 1;
     }
-    terms::store(marks, bits, 1);
-    terms::narrow(bits)
+    numbers::store(marks, bits, 1);
+    numbers::narrow(bits)
 }
 
 // The representative of the neighbour of place k: side 0 the place before it, side 1 the place after it; 0 where a variable begins
@@ -48,9 +48,9 @@ fn mark_begins(table: &[u16], marks: &mut [u16]) -> u16
 fn beside(marks: &[u16], links: &[u16], side: u16, k: u16) -> u16
     ensures { λ r. ⌜ r ≡ besideIn (now (marks .entry)) (now (links .entry)) side k ⌝ }
 {
-    let at = terms::wide(k) + terms::wide(side);
-    if terms::load(marks, at) == 0 {
-        return terms::load(links, at + terms::wide(side) + 1);
+    let at = numbers::wide(k) + numbers::wide(side);
+    if numbers::load(marks, at) == 0 {
+        return numbers::load(links, at + numbers::wide(side) + 1);
     }
     0
 }
@@ -69,12 +69,12 @@ fn marked(old: u16, a: u16, b: u16) -> u16
 fn mark_place(marks: &[u16], links: &[u16], side: u16, k: u16, uneven: &mut [u16])
     ensures { λ _. ⌜ now (uneven .exit) ≡ unevenWith (now (marks .entry)) (now (links .entry)) side k (now (uneven .entry)) ⌝ }
 {
-    let r = terms::load(links, terms::wide(k) + 2);
+    let r = numbers::load(links, numbers::wide(k) + 2);
     let here = beside(marks, links, side, k);
-    let lowest = beside(marks, links, side, terms::difference(r, 2));
-    let at = terms::wide(r);
-    let old = terms::load(uneven, at);
-    terms::store(uneven, at, marked(old, here, lowest));
+    let lowest = beside(marks, links, side, numbers::difference(r, 2));
+    let at = numbers::wide(r);
+    let old = numbers::load(uneven, at);
+    numbers::store(uneven, at, marked(old, here, lowest));
 }
 
 // Marks each representative whose places have different neighbours on one side.
@@ -92,12 +92,12 @@ fn mark_uneven(marks: &[u16], links: &[u16], side: u16, n: u16, uneven: &mut [u1
 fn goes_on(marks: &[u16], links: &[u16], after: &[u16], before: &[u16], i: u16) -> bool
     ensures { λ r. ⌜ r ≡ goesIn (now (marks .entry)) (now (links .entry)) (now (after .entry)) (now (before .entry)) i ⌝ }
 {
-    let at = terms::wide(i);
-    if terms::load(marks, at) != 0 {
+    let at = numbers::wide(i);
+    if numbers::load(marks, at) != 0 {
         return false;
     }
-    let a = terms::load(links, at + 1);
-    let b = terms::load(links, at + 2);
+    let a = numbers::load(links, at + 1);
+    let b = numbers::load(links, at + 2);
     if b < 2 {
         if a == b {
             return true;
@@ -107,10 +107,10 @@ fn goes_on(marks: &[u16], links: &[u16], after: &[u16], before: &[u16], i: u16) 
     if a < 2 {
         return false;
     }
-    if terms::load(after, terms::wide(a)) != 0 {
+    if numbers::load(after, numbers::wide(a)) != 0 {
         return false;
     }
-    if terms::load(before, terms::wide(b)) != 0 {
+    if numbers::load(before, numbers::wide(b)) != 0 {
         return false;
     }
     true
@@ -120,8 +120,8 @@ fn goes_on(marks: &[u16], links: &[u16], after: &[u16], before: &[u16], i: u16) 
 fn own(r: u16, i: u16) -> u16
     ensures { λ x. ⌜ x ≡ cond (eqb r (suc (suc i))) 1 0 ⌝ }
 {
-    let at = terms::wide(r);
-    if at == terms::wide(i) + 2 {
+    let at = numbers::wide(r);
+    if at == numbers::wide(i) + 2 {
         return 1;
     }
     0
@@ -144,7 +144,7 @@ fn number_of(numbers: &[u16], r: u16) -> u16
     if r < 2 {
         return 0;
     }
-    terms::load(numbers, terms::wide(terms::difference(r, 2)))
+    numbers::load(numbers, numbers::wide(numbers::difference(r, 2)))
 }
 
 // One place more: the last row goes on, or a row begins.
@@ -159,8 +159,8 @@ fn step(
 ) -> Progress
     ensures { λ q. ⌜ q ≡ stepIn (now (marks .entry)) (now (links .entry)) (now (after .entry)) (now (before .entry)) (now (numbers .entry)) p i ⌝ }
 {
-    let at = terms::wide(i);
-    let begun = terms::plus(p.begun, terms::load(marks, at));
+    let at = numbers::wide(i);
+    let begun = numbers::plus(p.begun, numbers::load(marks, at));
     if goes_on(marks, links, after, before, i) {
         return Progress {
             begun: begun,
@@ -168,16 +168,16 @@ fn step(
             fresh: p.fresh,
             variable: p.variable,
             kind: p.kind,
-            width: terms::plus(p.width, 1),
+            width: numbers::plus(p.width, 1),
             number: p.number,
         };
     }
-    let r = terms::load(links, at + 2);
+    let r = numbers::load(links, at + 2);
     Progress {
         begun: begun,
-        rows: terms::plus(p.rows, 1),
-        fresh: terms::plus(p.fresh, own(r, i)),
-        variable: terms::difference(begun, 1),
+        rows: numbers::plus(p.rows, 1),
+        fresh: numbers::plus(p.fresh, own(r, i)),
+        variable: numbers::difference(begun, 1),
         kind: kind_of(r),
         width: 1,
         number: number_of(numbers, r),
@@ -188,11 +188,11 @@ fn step(
 fn put_row(answer: &mut [u16], p: Progress)
     ensures { λ _. ⌜ now (answer .exit) ≡ rowWritten (now (answer .entry)) p ⌝ }
 {
-    let at = terms::wide(terms::difference(p.rows, 1)) * 4;
-    terms::store(answer, at, p.variable);
-    terms::store(answer, at + 1, p.kind);
-    terms::store(answer, at + 2, p.width);
-    terms::store(answer, at + 3, p.number);
+    let at = numbers::wide(numbers::difference(p.rows, 1)) * 4;
+    numbers::store(answer, at, p.variable);
+    numbers::store(answer, at + 1, p.kind);
+    numbers::store(answer, at + 2, p.width);
+    numbers::store(answer, at + 3, p.number);
 }
 
 // Writes the rows of n places. `numbers` has afterwards, for each place, how many fresh pieces appear before it.
@@ -218,14 +218,14 @@ fn put_places(
     };
     let mut i: u16 = 0;
     while i < n {
-        terms::store(numbers, terms::wide(i), p.fresh);
+        numbers::store(numbers, numbers::wide(i), p.fresh);
         p = step(marks, links, after, before, numbers, p, i);
         put_row(answer, p);
         i += 1;
     }
     Counts {
-        pieces: terms::wide(p.rows),
-        fresh: terms::wide(p.fresh),
+        pieces: numbers::wide(p.rows),
+        fresh: numbers::wide(p.fresh),
     }
 }
 

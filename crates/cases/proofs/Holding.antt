@@ -11,11 +11,12 @@ use borrow.Author.Tests.{le-ltb}
 use Rattle.terms.specs.declared.Record.{Record}
 use Rattle.terms.specs.declared.Fault.the-variants.{Accepted}
 use Rattle.terms.specs.Assignments.{Assignment, every, count}
-use Rattle.terms.specs.Calls.{completed, faultRecord, stopAt, overwrite}
+use Rattle.terms.specs.Calls.{completed, faultRecord, stopAt}
+use Rattle.laws.specs.Buffers.{overwrite}
 use Rattle.terms.specs.Faults.{firstFault, isAccepted, absent}
 use Rattle.terms.specs.Table.{rowsOf, bitsOf, widthOf, satisfies}
 use Rattle.terms.proofs.Assignments.{every-at, every-of}
-use Rattle.values.specs.Value.{valueRecord}
+use Rattle.terms.specs.Value.{valueRecord}
 use Rattle.forms.specs.declared.Piece.{Piece}
 use Rattle.forms.specs.Call.{formRecord, formAfter}
 use Rattle.forms.specs.Form.{formOf, numbersOf}

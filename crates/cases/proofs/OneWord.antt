@@ -14,10 +14,11 @@ use Rattle.terms.specs.Assignments.{Assignment, off}
 use Rattle.terms.specs.Faults.{firstFault}
 use Rattle.terms.specs.Table.{rowsOf, bitsOf, bitOf, satisfies}
 use Rattle.terms.proofs.Assignments.{assignment-of, every-of}
-use Rattle.answers.specs.Pairs.{least}
-use Rattle.answers.specs.Answer.{AnswerRow, equalUnder, variableWidths, answerRows, answerNumbers, freshNumbers, freshPieces, freshStart, freeBits, distinct, begins, variableAt, below, tally, implies, tied, fixedTo, contiguous, fixedAlike, goesOn, lowest, placeRow, placed, rowsTo, member, freshWidth}
+use Rattle.laws.specs.Lists.{least}
+use Rattle.answers.specs.Answer.{AnswerRow, equalUnder, variableWidths, answerRows, answerNumbers, freshNumbers, freshPieces, freshStart, freeBits, begins, variableAt, implies, tied, fixedTo, contiguous, fixedAlike, goesOn, lowest, placeRow, placed, rowsTo, freshWidth}
+use Rattle.laws.specs.Lists.{distinct, below, tally, member}
 use Rattle.answers.specs.Solve.{solvedRows, answerRecord, solvedRecord}
-use Rattle.answers.proofs.Tallies.{below-at}
+use Rattle.laws.proofs.Tallies.{below-at}
 use Rattle.answers.proofs.Variables.{begins-first}
 use Rattle.cases.specs.Cases.{Solved, Holds, row, times, figures}
 use Rattle.cases.proofs.Holding.{every-fails, met-by-some, solved-case}

@@ -6,8 +6,8 @@ use Prim.Native.Nat.{ℕ}
 use native.Mathlib.Omega.{arith}
 use lib.ListN.{length}
 use borrow.Author.Tests.{le-ltb}
-use Rattle.terms.specs.Calls.{overwrite}
-use Rattle.sheets.specs.Sheet.{rowNumbers}
+use Rattle.laws.specs.Buffers.{overwrite}
+use Rattle.terms.specs.Table.{rowNumbers}
 use Rattle.sheets.specs.Call.{sheetRecord, tableAfter}
 use Rattle.sheets.proofs.SheetCases.{firstSheet, case-1-sheet, case-1-record, case-1-table, case-10}
 use Rattle.answers.proofs.WorkedCases.{case1, accepted1, record1, answer1, case2, accepted2, record2, answer2, case5, accepted5, record5, case6, accepted6, record6}

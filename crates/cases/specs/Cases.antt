@@ -10,9 +10,9 @@ use lib.Dec.{eqb}
 use lib.ListN.{length}
 use Rattle.terms.specs.declared.Record.{Record}
 use Rattle.terms.specs.Assignments.{count}
-use Rattle.terms.specs.Calls.{overwrite}
+use Rattle.laws.specs.Buffers.{overwrite}
 use Rattle.terms.specs.Table.{rowsOf, bitsOf, satisfies}
-use Rattle.values.specs.Value.{valueRecord}
+use Rattle.terms.specs.Value.{valueRecord}
 use Rattle.forms.specs.Call.{formRecord, formAfter}
 use Rattle.sheets.specs.Call.{sheetRecord, tableAfter}
 use Rattle.sheets.specs.Print.{recordText, answerText}

@@ -17,7 +17,7 @@ const FORM: usize = 4096;
 
 // Writes the first n bytes of a buffer, or all of it, to standard output.
 fn write_first(out: &[u8], n: usize) {
-    let len = terms::lesser(n, out.len());
+    let len = numbers::lesser(n, out.len());
     io::write_all(libc::STDOUT_FILENO, &out[..len]);
 }
 
@@ -50,7 +50,7 @@ fn digit(bit: u8) -> u8 {
 // Writes a record's values as a line, and behind them up to 4,096 bits as a line of digits.
 fn print_bits(found: Record, bits: &[u8], out: &mut [u8]) {
     let mut line = [10u8; 4097];
-    let len = terms::lesser(bits.len(), 4096);
+    let len = numbers::lesser(bits.len(), 4096);
     let mut i = 0;
     while i < len {
         line[i] = digit(bits[i]);
@@ -69,9 +69,9 @@ fn print_record(found: Record, out: &mut [u8]) {
 // The record and the normal form of a row.
 fn print_form(table: &[u16], row: usize, out: &mut [u8]) {
     let mut form = [0u16; FORM];
-    let found = forms::normal_form(table, row, &mut form[..]);
+    let found = normalizer::normal_form(table, row, &mut form[..]);
     let at = prints::put_line(sheets::record_values(found), out, 0);
-    let len = terms::lesser(found.pieces as usize * 4, FORM);
+    let len = numbers::lesser(found.pieces as usize * 4, FORM);
     let end = prints::put_rows(&form[..len], out, at);
     write_first(out, end);
 }
@@ -88,12 +88,12 @@ fn print_forms(table: &[u16], out: &mut [u8]) {
 // The record and the value of a row under a pattern.
 fn print_value(table: &[u16], row: usize, pattern: &[u8], out: &mut [u8]) {
     let mut value = [0u8; terms::MAX_WIDTH];
-    let found = values::value(table, row, pattern, &mut value[..]);
+    let found = evaluator::value(table, row, pattern, &mut value[..]);
     if found.outcome != 0 {
         print_record(found, out);
         return;
     }
-    let len = terms::lesser(found.free as usize, terms::MAX_WIDTH);
+    let len = numbers::lesser(found.free as usize, terms::MAX_WIDTH);
     print_bits(found, &value[..len], out);
 }
 
@@ -101,7 +101,7 @@ fn print_values(table: &[u16], bits: usize, out: &mut [u8]) {
     io::write_all(libc::STDOUT_FILENO, b"values\n");
     let mut pattern = [0u8; terms::MAX_BITS];
     mark_every(&mut pattern[..], 0, 3);
-    let len = terms::lesser(bits, terms::MAX_BITS);
+    let len = numbers::lesser(bits, terms::MAX_BITS);
     let mut row = 0;
     while row < table.len() / 4 {
         print_value(table, row, &pattern[..len], out);
@@ -113,10 +113,10 @@ fn print_values(table: &[u16], bits: usize, out: &mut [u8]) {
 fn print_pattern(answer: &[u16], first: usize, free: usize, out: &mut [u8]) {
     let mut fresh = [0u8; terms::MAX_BITS];
     mark_every(&mut fresh[..], first, 2);
-    let len = terms::lesser(free, terms::MAX_BITS);
+    let len = numbers::lesser(free, terms::MAX_BITS);
     let mut pattern = [0u8; terms::MAX_BITS];
-    let found = assignments::make_pattern(answer, &fresh[..len], &mut pattern[..]);
-    let bits = terms::lesser(found.free as usize, terms::MAX_BITS);
+    let found = maker::make_pattern(answer, &fresh[..len], &mut pattern[..]);
+    let bits = numbers::lesser(found.free as usize, terms::MAX_BITS);
     print_bits(found, &pattern[..bits], out);
 }
 
@@ -139,7 +139,7 @@ fn print_table(table: &[u16], out: &mut [u8]) {
         return;
     }
     io::write_all(libc::STDOUT_FILENO, b"patterns\n");
-    let len = terms::lesser(found.pieces as usize * 4, solver::MEMORY);
+    let len = numbers::lesser(found.pieces as usize * 4, solver::MEMORY);
     print_pattern(&answer[..len], 0, free, out);
     print_pattern(&answer[..len], 1, free, out);
 }
@@ -153,7 +153,7 @@ fn print_sheet(text: &[u8], out: &mut [u8]) {
     if read.outcome != 0 {
         return;
     }
-    let numbers = terms::lesser(read.pieces as usize * 4, TABLE);
+    let numbers = numbers::lesser(read.pieces as usize * 4, TABLE);
     print_table(&table[..numbers], out);
 }
 
@@ -167,7 +167,7 @@ fn print_case(name: &[u8], out: &mut [u8]) {
         return;
     }
     let mut text = [0u8; MOST_READ];
-    let len = terms::lesser(io::read_full(fd, &mut text[..]), MOST_READ);
+    let len = numbers::lesser(io::read_full(fd, &mut text[..]), MOST_READ);
     libc::close(fd);
     print_sheet(&text[..len], out);
 }
@@ -178,7 +178,7 @@ fn main() {
     let count = os::arg_count();
     let mut i = 1;
     while i < count {
-        let len = terms::lesser(os::arg(i, &mut name[..]), MOST_NAME);
+        let len = numbers::lesser(os::arg(i, &mut name[..]), MOST_NAME);
         print_case(&name[..len], &mut out[..]);
         i += 1;
     }

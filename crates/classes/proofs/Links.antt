@@ -1,7 +1,7 @@
 -- Links h stand for classes c. A halving changes nothing of c; a tie joins two of them; the sweep makes h the same as c.
 use mathlib.Core.Path.{_≡_, refl, sym, ap, _∙_}
 use mathlib.Core.Logic.{_⊎_, inl, inr, _≢_}
-use mathlib.Core.List.{List, []}
+use mathlib.Core.List.{List}
 use Prim.Native.Nat.{ℕ, _+_, _≤_, _<_, min, max}
 use native.Mathlib.Omega.{arith}
 use lib.ListN.{length, getD, set, length-set, length-map}
@@ -9,7 +9,8 @@ use lib.Seq.{getD-set-same, getD-set-other, ext-getD}
 use borrow.Author.Tests.{eq-eqb, ne-eqb}
 use Rattle.answers.specs.Pairs.{Pair}
 use Rattle.answers.specs.Classes.{rep, relabel, merge}
-use Rattle.answers.proofs.Relabelling.{dec-eq, relabel-miss, hi, lo, next, next-low, next-root, next-lo, next-hi}
+use Rattle.laws.proofs.Numbers.{dec-eq}
+use Rattle.answers.proofs.Relabelling.{relabel-miss, hi, lo, next, next-low, next-root, next-lo, next-hi}
 use Rattle.answers.proofs.Agreement.{map-read, relabel-zero}
 use Rattle.answers.proofs.Exact.{relabel-same, map-same}
 use Rattle.classes.specs.Links.{Low, pair, linked}

@@ -1,14 +1,15 @@
 -- The roots of links that point down are the only classes that they stand for.
 use mathlib.Core.Path.{_≡_, refl, sym, ap, _∙_, subst}
 use mathlib.Core.Logic.{_⊎_, inl, inr, _≢_}
-use mathlib.Core.List.{List, []}
+use mathlib.Core.List.{List}
 use Prim.Native.Nat.{ℕ, zero, suc, _≤_, _<_, min, max}
 use native.Mathlib.Omega.{arith}
 use lib.ListN.{length, getD, set, length-map, List·getD-eq-default}
 use lib.Seq.{ext-getD}
-use Rattle.terms.specs.Table.{countUp}
+use Rattle.laws.specs.Lists.{countUp}
 use Rattle.answers.specs.Classes.{rep, merge}
-use Rattle.answers.proofs.Relabelling.{dec-eq, next}
+use Rattle.laws.proofs.Numbers.{dec-eq}
+use Rattle.answers.proofs.Relabelling.{next}
 use Rattle.answers.proofs.Agreement.{map-read, start-at, start-past, start-length, dec-lt}
 use Rattle.classes.specs.Links.{Low, climb, rootsOf, RootFound, pair, linked, PairTaken}
 use Rattle.classes.proofs.Links.{Canon, start, Stands, Found, Linked, set-low, link-tie}

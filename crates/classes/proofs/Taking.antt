@@ -8,7 +8,7 @@ use Prim.Native.Nat.{ℕ, suc, _+_, min, max}
 use native.Mathlib.Omega.{arith}
 use lib.Dec.{eqb}
 use borrow.Author.Tests.{eq-eqb, ne-eqb}
-use Rattle.terms.specs.Table.{countUp}
+use Rattle.laws.specs.Lists.{countUp}
 use Rattle.answers.specs.Pairs.{Pair, equals, noneSatisfies}
 use Rattle.answers.specs.Classes.{rep, merge, run, classesOf}
 use Rattle.answers.proofs.Relabelling.{relabel-miss}

@@ -3,7 +3,6 @@
 // links that point down.
 ghost use mathlib.Core.Path.{_≡_};
 ghost use Prim.Native.Nat.{min, max};
-ghost use lib.ListN.{set};
 ghost use Rattle.classes.specs.Links.{numberOf, Finds, Takes, Settles};
 
 fn higher(a: u16, b: u16) -> u16
@@ -28,18 +27,18 @@ fn lower(a: u16, b: u16) -> u16
 pub fn find(links: &mut [u16], s: u16) -> u16
     ensures { λ r. ⌜ Finds (now (links .entry)) (now (links .exit)) s r ⌝ }
 {
-    let mut x = terms::wide(s);
+    let mut x = numbers::wide(s);
     if links.len() <= x {
         return s;
     }
     let mut p = links[x];
-    while terms::wide(p) < x {
-        let g = links[terms::wide(p)];
+    while numbers::wide(p) < x {
+        let g = links[numbers::wide(p)];
         if p <= g {
             return p;
         }
-        terms::store(links, x, g);
-        x = terms::wide(g);
+        numbers::store(links, x, g);
+        x = numbers::wide(g);
         p = links[x];
     }
     x as u16
@@ -65,7 +64,7 @@ pub fn take_pair(links: &mut [u16], s: u16, t: u16) -> Pairing
     if top == 1 {
         return Pairing::Conflict;
     }
-    terms::store(links, terms::wide(top), lower(a, b));
+    numbers::store(links, numbers::wide(top), lower(a, b));
     Pairing::Tie
 }
 
@@ -75,12 +74,12 @@ pub fn settle(links: &mut [u16])
 {
     let mut i = 0;
     while i < links.len() {
-        let v = terms::wide(links[i]);
+        let v = numbers::wide(links[i]);
         if links.len() <= v {
             return;
         }
         let g = links[v];
-        terms::store(links, i, g);
+        numbers::store(links, i, g);
         i += 1;
     }
 }

@@ -12,7 +12,9 @@ use mathlib.Core.Logic.{_⊎_, inl, inr, ⊎-elim}
 use borrow.Author.Tests.{eqb-true, eqb-false, ne-eqb}
 use Rattle.terms.specs.declared.Row.{Row}
 use Rattle.terms.specs.Table.{byKind, bitsIn, bitsOf, bitOf, extract, sourceOf, valueOf}
-use Rattle.terms.proofs.Cases.{KindOf, is-variable, is-constant, is-concat, is-extract, is-equation, kind-of, else-kind, not-both, lt-or-le}
+use Rattle.terms.proofs.RowKinds.{KindOf, is-variable, is-constant, is-concat, is-extract, is-equation, kind-of, else-kind}
+use Rattle.laws.proofs.Bools.{not-both}
+use Rattle.laws.proofs.Numbers.{lt-or-le}
 use Rattle.terms.proofs.Sources.{value-sources}
 use Rattle.terms.proofs.Values.{Sound}
 use Rattle.terms.proofs.Words.{extract-join}

@@ -2,11 +2,10 @@ pub mod Grouping
 pub mod Maximal
 pub mod PieceWidths
 pub mod Places
-pub mod Buffer
 pub mod Units
-pub mod Appending
 pub mod RowForms
-pub mod Numbering
-pub mod Stops
 pub mod FormValues
 pub mod Theorems
+pub mod FormCall
+pub mod FormNumbers
+pub mod Numbered

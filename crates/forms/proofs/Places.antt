@@ -9,9 +9,10 @@ use lib.ListN.{length, take, drop, replicate, length-append}
 use lib.Seq.{split-at, take-at, drop-at}
 use borrow.Author.Tests.{eq-eqb, lt-ltb}
 use Rattle.terms.specs.declared.Row.{Row}
-use Rattle.terms.specs.Table.{rowAt, noRow, byKind, bitsIn, bitsOf, countKind, countUp, sourcesOf, sourceOf}
-use Rattle.terms.proofs.Cases.{KindOf, is-variable, is-constant, is-concat, is-extract, is-equation, kind-of, else-kind}
-use Rattle.terms.proofs.Lists.{map-take, map-drop, map-replicate, read-places}
+use Rattle.terms.specs.Table.{rowAt, noRow, byKind, bitsIn, bitsOf, countKind, sourcesOf, sourceOf}
+use Rattle.laws.specs.Lists.{countUp}
+use Rattle.terms.proofs.RowKinds.{KindOf, is-variable, is-constant, is-concat, is-extract, is-equation, kind-of, else-kind}
+use Rattle.laws.proofs.Lists.{map-take, map-drop, map-replicate, read-places}
 use Rattle.terms.proofs.Values.{value-variable, value-constant}
 use Rattle.forms.specs.declared.Piece.{Piece}
 use Rattle.forms.specs.Form.{fill, part, bitsUp, placePieces, pieceOf, meets, merged, add, addAll, group}

@@ -7,18 +7,19 @@ use Prim.Native.Nat.{ℕ, zero, suc, _+_, _-_, _%_, _<_, _≤_}
 use native.Mathlib.Omega.{arith}
 use lib.ListN.{length, getD, take, drop, replicate}
 use Rattle.terms.specs.declared.Row.{Row}
-use Rattle.terms.specs.Table.{rowsOf, rowAt, widthOf, bitsOf, countKind, countUp, extract, sourcesOf, sourceOf}
+use Rattle.terms.specs.Table.{rowsOf, rowAt, widthOf, bitsOf, countKind, extract, sourcesOf, sourceOf}
+use Rattle.laws.specs.Lists.{countUp}
 use Rattle.terms.specs.Faults.{absent, misnamed}
 use Rattle.terms.proofs.AcceptedTable.{Table, accepted-table, term-there, term-present}
-use Rattle.terms.proofs.Cases.{KindOf, is-variable, is-constant, is-concat, is-extract, is-equation, kind-of}
+use Rattle.terms.proofs.RowKinds.{KindOf, is-variable, is-constant, is-concat, is-extract, is-equation, kind-of}
 use Rattle.terms.proofs.Faults.{Term, Kept, kept, kept-names, kept-kind, kept-bit, kept-width, kept-bounds, concat-names, extract-names, equation-names, widths-small}
-use Rattle.terms.proofs.Lists.{map-take, map-drop}
+use Rattle.laws.proofs.Lists.{map-take, map-drop}
 use Rattle.terms.proofs.Sources.{source-length}
 use Rattle.terms.proofs.Values.{value-concat, value-extract, width-variable, width-constant, width-concat, width-extract}
 use Rattle.terms.proofs.Words.{extract-right, extract-left, extract-across, extract-whole, extract-extract}
 use Rattle.forms.specs.declared.Piece.{Piece}
 use Rattle.forms.specs.Form.{fill, part, bitsUp, pieceOf, group, formFrom}
-use Rattle.forms.specs.Append.{Numbered}
+use Rattle.forms.specs.Numbered.{Numbered}
 use Rattle.forms.proofs.Places.{variable-pieces, constant-pieces, bits-take, bits-drop, group-bits, group-fills}
 
 drop-copies : (n j : ℕ) (p : Piece) → drop j (replicate n p) ≡ replicate (n - j) p

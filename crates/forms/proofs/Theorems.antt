@@ -7,25 +7,26 @@ use native.Mathlib.Omega.{arith}
 use lib.ListN.{length, take}
 use Rattle.terms.specs.declared.Row.{Row}
 use Rattle.terms.specs.declared.Fault.the-variants.{Accepted}
-use Rattle.terms.specs.Table.{rowsOf, rowAt, byKind, byRows, widthIn, widthsOf, widthOf, bitsIn, bitsOf, countKind, countUp, extract, sourcesOf, sourceOf, valueIn, valuesOf, valueOf}
+use Rattle.terms.specs.Table.{rowsOf, rowAt, byKind, byRows, widthIn, widthsOf, widthOf, bitsIn, bitsOf, countKind, extract, sourcesOf, sourceOf, valueIn, valuesOf, valueOf}
+use Rattle.laws.specs.Lists.{countUp}
 use Rattle.terms.specs.Faults.{firstFault, breaks11, lowestFault, faultAt, firstRule, breaks12, breaks13, breaks14, breaks15, breaks16, breaks17, breaks18, unusedColumn, misnamed, notTerm, wrongWidth, outside, wrongBounds, tooMany, unequalSides}
 use Rattle.terms.specs.Assignments.{Assignment}
 use Rattle.terms.proofs.AcceptedTable.{accepted-table, term-present}
 use Rattle.terms.proofs.Assignments.{assignment-length}
 use Rattle.terms.proofs.Equations.{IsConcat, IsExtract, equation-1, equation-2, equation-3, equation-4, equation-7}
 use Rattle.terms.proofs.Faults.{kept, kept-bounds, widths-small}
-use Rattle.terms.proofs.Lists.{map-append}
+use Rattle.laws.proofs.Lists.{map-append}
 use Rattle.terms.proofs.Separation.{same-sources}
 use Rattle.terms.proofs.Sources.{count-up, source-length}
 use Rattle.terms.proofs.Values.{Sound, value-concat, value-extract, width-variable}
 use Rattle.terms.proofs.Words.{extract-join, extract-whole}
 use Rattle.forms.specs.Form.{fill, part, bitsUp, placePieces, pieceOf, meets, merged, add, addAll, group, formFrom, formOf, numbersOf, formWidth, formValue}
-use Rattle.forms.specs.Append.{Numbered, variablesIn}
-use Rattle.forms.proofs.Buffer.{numbers-length}
+use Rattle.forms.specs.Numbered.{Numbered, variablesIn}
+use Rattle.forms.proofs.FormNumbers.{numbers-length}
 use Rattle.forms.proofs.FormValues.{form-value}
 use Rattle.forms.proofs.Grouping.{group-append}
 use Rattle.forms.proofs.Maximal.{Maximal, group-maximal}
-use Rattle.forms.proofs.Numbering.{number-row}
+use Rattle.forms.proofs.Numbered.{number-row}
 use Rattle.forms.proofs.PieceWidths.{AllProper}
 use Rattle.forms.proofs.RowForms.{variable-form, constant-cut}
 use Rattle.forms.proofs.Units.{form-proper, form-width, form-count}

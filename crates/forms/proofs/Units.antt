@@ -8,7 +8,8 @@ use lib.Dec.{eqb}
 use lib.ListN.{length, getD, length-map}
 use Rattle.terms.specs.declared.Row.{Row}
 use Rattle.terms.specs.Table.{byKind}
-use Rattle.terms.proofs.Cases.{KindOf, is-variable, is-constant, is-concat, is-extract, is-equation, kind-of, else-kind, not-both}
+use Rattle.terms.proofs.RowKinds.{KindOf, is-variable, is-constant, is-concat, is-extract, is-equation, kind-of, else-kind}
+use Rattle.laws.proofs.Bools.{not-both}
 use Rattle.forms.specs.declared.Piece.{Piece}
 use Rattle.forms.specs.Form.{fill, part, bitsUp, placePieces, pieceOf, formFrom, pieceWidth, formWidth}
 use Rattle.forms.proofs.PieceWidths.{Proper, AllProper, none, some, group-proper, group-width, group-count}

@@ -1,5 +1,5 @@
 -- What the normal form call returns and writes, for every input (document 01, "Where a call stops").
-use mathlib.Core.Bool.{Bool, not, cond}
+use mathlib.Core.Bool.{not, cond}
 use mathlib.Core.List.{List, [], _∷_}
 use Prim.Native.Nat.{ℕ}
 use lib.Dec.{eqb, ltb}
@@ -7,7 +7,8 @@ use lib.ListN.{length}
 use Rattle.terms.specs.declared.Record.{Record}
 use Rattle.terms.specs.Table.{rowsOf, widthOf}
 use Rattle.terms.specs.Faults.{absent, isAccepted, firstFault}
-use Rattle.terms.specs.Calls.{refusal, completed, faultRecord, stopAt, overwrite}
+use Rattle.terms.specs.Calls.{refusal, completed, faultRecord, stopAt}
+use Rattle.laws.specs.Buffers.{overwrite}
 use Rattle.forms.specs.Form.{formOf, numbersOf}
 
 -- The record, where the output has room for so many numbers. 32: output below 4,096 numbers

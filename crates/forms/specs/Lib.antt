@@ -1,3 +1,3 @@
 pub mod Form
-pub mod Append
 pub mod Call
+pub mod Numbered

@@ -8,11 +8,12 @@ use lib.Dec.{eqb, ltb}
 use lib.ListN.{length, take}
 use Rattle.terms.specs.declared.Row.{Row}
 use Rattle.terms.specs.declared.Fault.the-variants.{Shape}
-use Rattle.terms.specs.Calls.{refusal, stopAt, overwrite}
+use Rattle.terms.specs.Calls.{refusal, stopAt}
+use Rattle.laws.specs.Buffers.{overwrite}
 use Rattle.terms.specs.Faults.{firstFault}
-use Rattle.values.specs.Value.{valueRecord, valueAfter}
+use Rattle.terms.specs.Value.{valueRecord, valueAfter}
 use Rattle.forms.specs.Call.{formRecord, formAfter}
-use Rattle.sheets.specs.Sheet.{rowNumbers}
+use Rattle.terms.specs.Table.{rowNumbers}
 use Rattle.rows.specs.Held.{held}
 use Rattle.rows.proofs.Held.{held-read, all-or-over}
 use Rattle.answers.specs.Solve.{solveRecord, answerAfter, workAfter}

@@ -8,9 +8,10 @@ use Rattle.terms.specs.declared.Fault.the-variants.{Accepted}
 use Rattle.terms.specs.Assignments.{count}
 use Rattle.terms.specs.Faults.{firstFault}
 use Rattle.terms.specs.Table.{rowsOf, bitsOf, satisfies}
-use Rattle.sheets.specs.Sheet.{rowNumbers, sheetRows}
+use Rattle.terms.specs.Table.{rowNumbers}
+use Rattle.sheets.specs.Sheet.{sheetRows}
 use Rattle.sheets.specs.Print.{recordText, answerText}
-use Rattle.sheets.proofs.TableRead.{rows-written}
+use Rattle.terms.proofs.RowNumbers.{rows-written}
 use Rattle.sheets.proofs.SheetCases.{firstSheet, case-1-sheet, case-1-record, case-1-table, printedRecord, printedTable}
 use Rattle.answers.specs.Answer.{answerNumbers}
 use Rattle.answers.specs.Solve.{solvedRows, answerRecord}

@@ -2,9 +2,9 @@
 // statement. A slice is a pointer and then a length.
 ghost use mathlib.Core.Path.{_≡_};
 ghost use lib.ListN.{length};
-ghost use Rattle.values.specs.Value.{valueRecord, valueAfter};
+ghost use Rattle.terms.specs.Value.{valueRecord, valueAfter};
 ghost use Rattle.forms.specs.Call.{formRecord, formAfter};
-ghost use Rattle.sheets.specs.Sheet.{rowNumbers};
+ghost use Rattle.terms.specs.Table.{rowNumbers};
 ghost use Rattle.sheets.specs.Call.{sheetRecord, tableAfter};
 ghost use Rattle.answers.specs.Solve.{solveRecord, answerAfter, workAfter};
 ghost use Rattle.answers.specs.RightSide.{rightSideStart, rightSideLength};
@@ -19,7 +19,7 @@ pub extern "C" fn lw_value(table: &[u16], row: usize, pattern: &[u8], value: &mu
     ensures record { λ r. ⌜ r ≡ valueRecord (now (table .entry)) row (now (pattern .entry)) (length (now (value .entry))) ⌝ }
     ensures value { λ r. ⌜ now (value .exit) ≡ valueAfter (now (table .entry)) row (now (pattern .entry)) (now (value .entry)) ⌝ }
 {
-    values::value(table, row, pattern, value)
+    evaluator::value(table, row, pattern, value)
 }
 
 // The normal form of a row, four numbers for each piece.
@@ -28,7 +28,7 @@ pub extern "C" fn lw_normal_form(table: &[u16], row: usize, form: &mut [u16]) ->
     ensures record { λ r. ⌜ r ≡ formRecord (now (table .entry)) row (length (now (form .entry))) ⌝ }
     ensures form { λ r. ⌜ now (form .exit) ≡ formAfter (now (table .entry)) row (now (form .entry)) ⌝ }
 {
-    forms::normal_form(table, row, form)
+    normalizer::normal_form(table, row, form)
 }
 
 // The table that a sheet describes.
@@ -65,7 +65,7 @@ pub extern "C" fn lw_make_pattern(answer: &[u16], fresh: &[u8], pattern: &mut [u
     ensures record { λ r. ⌜ r ≡ patternRecord (now (answer .entry)) (now (fresh .entry)) (length (now (pattern .entry))) ⌝ }
     ensures pattern { λ _. ⌜ now (pattern .exit) ≡ patternAfter (now (answer .entry)) (now (fresh .entry)) (now (pattern .entry)) ⌝ }
 {
-    assignments::make_pattern(answer, fresh, pattern)
+    maker::make_pattern(answer, fresh, pattern)
 }
 
 // The same calls on a table that is lent as row records. The records are copied as numbers into an area of 513 rows, one more than
@@ -85,7 +85,7 @@ pub extern "C" fn lw_value_rows(
 {
     let mut flat = [0u16; rows::AREA];
     let used = rows::flatten(rows, &mut flat[..]);
-    values::value(&flat[..used], row, pattern, value)
+    evaluator::value(&flat[..used], row, pattern, value)
 }
 
 // The normal form of a row, four numbers for each piece.
@@ -96,7 +96,7 @@ pub extern "C" fn lw_normal_form_rows(rows: &[Row], row: usize, form: &mut [u16]
 {
     let mut flat = [0u16; rows::AREA];
     let used = rows::flatten(rows, &mut flat[..]);
-    forms::normal_form(&flat[..used], row, form)
+    normalizer::normal_form(&flat[..used], row, form)
 }
 
 // Solves a table.

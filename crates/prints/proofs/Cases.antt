@@ -7,7 +7,8 @@ use lib.ListN.{replicate, length-replicate}
 use Rattle.terms.specs.declared.Row.{Row}
 use Rattle.terms.specs.Table.{rowsOf}
 use Rattle.terms.specs.Calls.{refusal}
-use Rattle.sheets.specs.Sheet.{rowNumbers, sheetRows}
+use Rattle.terms.specs.Table.{rowNumbers}
+use Rattle.sheets.specs.Sheet.{sheetRows}
 use Rattle.sheets.specs.Writing.{digits}
 use Rattle.sheets.specs.Call.{sheetRecord}
 use Rattle.sheets.specs.Print.{field, recordValues, recordText}

@@ -10,8 +10,8 @@ use lib.Dec.{leb}
 use lib.ListN.{length, getD, set, take, drop, length-append}
 use lib.Seq.{take-suc, take-at, length-take-le}
 use borrow.Author.Tests.{leb-true, leb-false, le-leb, lt-leb}
-use Rattle.terms.specs.Calls.{overwrite}
-use Rattle.terms.proofs.Buffers.{overwrite-length, overwrite-fits, overwrite-more}
+use Rattle.laws.specs.Buffers.{overwrite}
+use Rattle.laws.proofs.Buffers.{overwrite-length, overwrite-fits, overwrite-more}
 use Rattle.prints.specs.Printed.{fits, written, printedIn, behindIn}
 
 pub written-length : (out : List ℕ) (at : ℕ) (l : List ℕ) → length (written out at l) ≡ length out

@@ -9,8 +9,8 @@ use lib.ListN.{length, take, drop, replicate, length-append, length-take, length
 use lib.Seq.{take-at}
 use borrow.Author.Tests.{ne-eqb, eqb-true, lt-ltb, le-ltb}
 use Rattle.terms.specs.declared.Record.{Record}
-use Rattle.terms.specs.Calls.{overwrite}
-use Rattle.terms.proofs.Buffers.{overwrite-fits}
+use Rattle.laws.specs.Buffers.{overwrite}
+use Rattle.laws.proofs.Buffers.{overwrite-fits}
 use Rattle.sheets.specs.Sheet.{sheetRows}
 use Rattle.sheets.specs.Print.{recordText, answerText}
 use Rattle.answers.specs.Answer.{answerNumbers}

@@ -2,7 +2,7 @@
 -- Assumes nothing.
 use mathlib.Core.Path.{_≡_, refl, sym, _∙_, ap, ap₂}
 use mathlib.Core.Bool.{Bool, true, false, not, cond}
-use mathlib.Core.List.{List, []}
+use mathlib.Core.List.{List}
 use Prim.Native.Nat.{ℕ, _*_, _≤_}
 use native.Mathlib.Omega.{arith}
 use lib.Dec.{eqb, ltb}
@@ -20,9 +20,10 @@ use Rattle.terms.proofs.AcceptedTable.{accepted-table, fault-none}
 use Rattle.terms.proofs.Faults.{totals-small}
 use Rattle.sheets.specs.declared.Sheet.{Sheet}
 use Rattle.sheets.specs.declared.Sheet.the-variants.{TooLong, WrongNames, TooMany, WrongLine, Rows}
-use Rattle.sheets.specs.Sheet.{rowNumbers, sheetRows, sheetFound}
+use Rattle.terms.specs.Table.{rowNumbers}
+use Rattle.sheets.specs.Sheet.{sheetRows, sheetFound}
 use Rattle.sheets.specs.Call.{sheetNumber, sheetRow, rowCount, sheetRecord}
-use Rattle.sheets.proofs.TableRead.{rows-written}
+use Rattle.terms.proofs.RowNumbers.{rows-written}
 use Rattle.answers.specs.Answer.{equalUnder, variableWidths, answerNumbers}
 use Rattle.answers.specs.Solve.{solvedRows, answerRecord, solveRecord, answerAfter}
 use Rattle.answers.proofs.Demands.{demand-3}

@@ -12,10 +12,10 @@ use Rattle.terms.specs.declared.Fault.the-variants.{Accepted}
 use Rattle.terms.specs.Faults.{isAccepted, firstFault}
 use Rattle.terms.specs.Calls.{faultRecord, stopAt}
 use Rattle.sheets.specs.Writing.{SheetOf}
-use Rattle.sheets.specs.Sheet.{rowNumbers}
+use Rattle.terms.specs.Table.{rowNumbers}
 use Rattle.sheets.specs.Call.{sheetRecord}
 use Rattle.sheets.specs.Print.{recordText, answerText}
-use Rattle.sheets.proofs.TableRead.{rows-written}
+use Rattle.terms.proofs.RowNumbers.{rows-written}
 use Rattle.sheets.proofs.Written.{read-exactly}
 use Rattle.answers.specs.Answer.{answerNumbers}
 use Rattle.answers.specs.Solve.{solvedRows, answerRecord, solveRecord}

@@ -4,7 +4,7 @@ use mathlib.Core.List.{List, _++_}
 use Prim.Native.Nat.{ℕ, _+_}
 use lib.Dec.{leb}
 use lib.ListN.{length, take}
-use Rattle.terms.specs.Calls.{overwrite}
+use Rattle.laws.specs.Buffers.{overwrite}
 
 -- Whether n bytes fit into a buffer of so many bytes from a place on.
 unfoldable pub fits : ℕ → ℕ → ℕ → Bool

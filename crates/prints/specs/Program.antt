@@ -5,8 +5,9 @@ use Prim.Native.Nat.{ℕ}
 use lib.Dec.{eqb, ltb}
 use lib.ListN.{length}
 use Rattle.terms.specs.declared.Record.{Record}
-use Rattle.terms.specs.Calls.{overwrite}
-use Rattle.sheets.specs.Sheet.{rowNumbers, sheetRows}
+use Rattle.laws.specs.Buffers.{overwrite}
+use Rattle.terms.specs.Table.{rowNumbers}
+use Rattle.sheets.specs.Sheet.{sheetRows}
 use Rattle.sheets.specs.Call.{sheetRecord}
 use Rattle.sheets.specs.Print.{recordText, answerText}
 use Rattle.answers.specs.Answer.{answerNumbers}

@@ -1,11 +1,11 @@
 -- Row records lent as a run, and the numbers of those that a buffer holds.
 use mathlib.Core.Bool.{cond}
 use mathlib.Core.List.{List}
-use Prim.Native.Nat.{ℕ, _/_}
+use Prim.Native.Nat.{ℕ, _+_, _*_, _/_}
 use lib.Dec.{ltb}
-use lib.ListN.{length, take}
+use lib.ListN.{length, take, set}
 use Rattle.terms.specs.declared.Row.{Row}
-use Rattle.sheets.specs.Sheet.{rowNumbers, putRow}
+use Rattle.terms.specs.Table.{rowNumbers}
 
 -- The numbers of the first rows of a run, as many whole rows as a buffer of so many numbers holds.
 unfoldable pub held : List Row → ℕ → List ℕ
@@ -14,6 +14,10 @@ held rows room = rowNumbers (take (room / 4) rows)
 -- How many of n rows those are.
 unfoldable pub fitting : ℕ → ℕ → ℕ
 fitting n room = cond (ltb n (room / 4)) n (room / 4)
+
+-- A table with row k written, as far as it reaches.
+unfoldable pub putRow : List ℕ → ℕ → Row → List ℕ
+putRow table k r = set (set (set (set table (k * 4) (r .kind)) (k * 4 + 1) (r .a)) (k * 4 + 2) (r .b)) (k * 4 + 3) (r .c)
 
 -- A buffer with row k written, where it holds row k whole.
 unfoldable pub putWhole : List ℕ → ℕ → Row → List ℕ

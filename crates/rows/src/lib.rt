@@ -3,12 +3,35 @@
 // `flatten` takes a slice of structs and is proved by a walk of its code, by hand; what it calls is on numbers.
 ghost use mathlib.Core.Path.{_≡_};
 ghost use lib.ListN.{length};
-ghost use Rattle.terms.specs.Calls.{overwrite};
+ghost use Rattle.laws.specs.Buffers.{overwrite};
 ghost use Rattle.rows.specs.Held.{held, fitting, putWhole};
+ghost use Prim.Native.Nat.{_+_, _-_};
+ghost use Rattle.terms.specs.Table.{rowsOf, rowAt};
 use terms::Row;
 
 // The numbers of the area to which calls copy rows: 513 rows, one more than a table may have.
 pub const AREA: usize = 2052;
+
+// A row of the table, all 0 past its end.
+pub fn row_at(table: &[u16], r: usize) -> Row
+    ensures { λ row. ⌜ row ≡ rowAt (rowsOf (now (table .entry))) r ⌝ }
+{
+    if table.len() / 4 <= r {
+        return Row {
+            kind: 0,
+            a: 0,
+            b: 0,
+            c: 0,
+        };
+    }
+    let at = r * 4;
+    Row {
+        kind: table[at],
+        a: table[at + 1],
+        b: table[at + 2],
+        c: table[at + 3],
+    }
+}
 
 // How many of n rows a buffer of so many numbers holds whole.
 fn fit(n: usize, room: usize) -> usize

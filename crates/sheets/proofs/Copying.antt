@@ -11,9 +11,10 @@ use lib.Seq.{take-suc, take-all, take-at, length-take-le}
 use borrow.Author.Tests.{lt-ltb, le-ltb, eq-eqb, ne-eqb}
 use Rattle.terms.specs.declared.Record.{Record}
 use Rattle.terms.specs.declared.Row.{Row}
-use Rattle.terms.specs.Calls.{overwrite, refusal, completed}
-use Rattle.terms.proofs.Buffers.{overwrite-fits, overwrite-more}
-use Rattle.terms.proofs.Cases.{not-both}
+use Rattle.laws.specs.Buffers.{overwrite}
+use Rattle.terms.specs.Calls.{refusal, completed}
+use Rattle.laws.proofs.Buffers.{overwrite-fits, overwrite-more}
+use Rattle.laws.proofs.Bools.{not-both}
 use Rattle.sheets.specs.declared.Order.{Order}
 use Rattle.sheets.specs.declared.Line.{Line}
 use Rattle.sheets.specs.declared.Line.the-variants.{Values, NoLine}
@@ -22,9 +23,10 @@ use Rattle.sheets.specs.declared.Names.the-variants.{InOrder, NoNames}
 use Rattle.sheets.specs.declared.Sheet.{Sheet}
 use Rattle.sheets.specs.declared.Sheet.the-variants.{TooLong, WrongNames, TooMany, WrongLine, Rows}
 use Rattle.sheets.specs.Text.{lineAt, namesAt}
-use Rattle.sheets.specs.Sheet.{rowNumbers, byLine, byNames, foundFrom, rowsFrom, sheetFound, sheetRows}
+use Rattle.terms.specs.Table.{rowNumbers}
+use Rattle.sheets.specs.Sheet.{byLine, byNames, foundFrom, rowsFrom, sheetFound, sheetRows}
 use Rattle.sheets.specs.Call.{sheetNumber, sheetRow, rowCount, sheetRecord, tableAfter}
-use Rattle.sheets.proofs.Reading.{numbers-length}
+use Rattle.terms.proofs.RowNumbers.{row-numbers-length}
 
 pub copy-more : (from base out out′ : List ℕ) (i : ℕ) → i < length from → out ≡ overwrite (take i from) base → out′ ≡ set out i (getD from i 0)
     → out′ ≡ overwrite (take (i + 1) from) base
@@ -125,8 +127,8 @@ module _ (text old : List ℕ) where
     taken base n =
         let rows = sheetRows text in
         let c = sheet-counted text (eq-eqb (sheetNumber (sheetFound text)) 0 h) in
-        ap (take (rowCount (sheetFound text) * 4)) (overwrite-fits (rowNumbers rows) base (omega (arith, numbers-length rows, sheet-few text)))
-        ∙ take-at (rowNumbers rows) (drop (length (rowNumbers rows)) base) (rowCount (sheetFound text) * 4) (omega (arith, numbers-length rows))
+        ap (take (rowCount (sheetFound text) * 4)) (overwrite-fits (rowNumbers rows) base (omega (arith, row-numbers-length rows, sheet-few text)))
+        ∙ take-at (rowNumbers rows) (drop (length (rowNumbers rows)) base) (rowCount (sheetFound text) * 4) (omega (arith, row-numbers-length rows))
 
     pub sheet-read : 2048 ≤ length old → (base : List ℕ) → length base ≡ 2048 → (r : Record) (out : List ℕ) → r ≡ completed (rowCount (sheetFound text)) 0
         → out ≡ overwrite (take (rowCount (sheetFound text) * 4) (overwrite (rowNumbers (sheetRows text)) base)) old → Answer r out

@@ -6,7 +6,7 @@ use Prim.Native.Nat.{ℕ, _+_, _<_}
 use lib.Dec.{ltb, eqb}
 use lib.ListN.{length, getD}
 use borrow.Author.Tests.{ltb-true, eqb-true}
-use Rattle.terms.proofs.Cases.{not-both}
+use Rattle.laws.proofs.Bools.{not-both}
 use Rattle.sheets.specs.Text.{sees, seesKind}
 
 and-first : (a b : Bool) → a && b ≡ true → a ≡ true

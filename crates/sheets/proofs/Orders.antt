@@ -6,7 +6,7 @@ use native.Mathlib.Omega.{arith}
 use lib.Dec.{eqb}
 use borrow.Author.Tests.{eq-eqb, ne-eqb, eqb-true, eqb-false, not-true}
 use Rattle.terms.specs.declared.Row.{Row}
-use Rattle.terms.proofs.Cases.{or-first, or-second}
+use Rattle.laws.proofs.Bools.{or-first, or-second}
 use Rattle.sheets.specs.declared.Order.{Order}
 use Rattle.sheets.specs.Text.{valueFor, placed, allDifferent}
 use Rattle.sheets.specs.Writing.{column, IsOrder, SmallRow}

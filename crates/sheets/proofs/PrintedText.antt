@@ -1,12 +1,12 @@
 -- The lines, one behind the other, are the texts of a record and of an answer table. Assumes nothing.
 use mathlib.Core.Path.{_≡_, refl, _∙_, ap}
-use mathlib.Core.List.{List, [], _∷_, _++_}
+use mathlib.Core.List.{List, _∷_, _++_}
 use Prim.Native.Nat.{ℕ, _≤_}
 use native.Mathlib.Omega.{arith}
 use lib.ListN.{length, replicate, take, drop}
 use lib.Seq.{take-at}
 use Rattle.terms.specs.declared.Record.{Record}
-use Rattle.terms.proofs.Buffers.{overwrite-fits}
+use Rattle.laws.proofs.Buffers.{overwrite-fits}
 use Rattle.sheets.specs.Print.{lineOf, shown, recordNames, recordValues, recordText, answerNames, answerValues, answerLines, answerText}
 use Rattle.sheets.proofs.Printing.{record-values-few, answer-values-few}
 

@@ -8,7 +8,7 @@ use lib.Dec.{ltb}
 use lib.ListN.{length, length-append, getD, drop, drop-of-length-le}
 use Rattle.sheets.proofs.Numbers.{at-byte}
 use borrow.Author.Tests.{lt-ltb, le-ltb}
-use Rattle.terms.proofs.Buffers.{overwrite-more}
+use Rattle.laws.proofs.Buffers.{overwrite-more}
 use Rattle.sheets.specs.declared.Text.{Text}
 use Rattle.terms.specs.declared.Record.{Record}
 use Rattle.sheets.specs.Print.{pushed, pushAll, lineOf, field, recordValues, answerValues}

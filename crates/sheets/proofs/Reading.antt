@@ -2,53 +2,22 @@
 -- of all lines.
 use mathlib.Core.Path.{_≡_, refl, sym, _∙_, ap}
 use mathlib.Core.List.{List, [], _∷_, _++_, append-assoc, append-nil}
-use Prim.Native.Nat.{ℕ, zero, suc, _+_, _-_, _*_, _<_, _≤_}
+use Prim.Native.Nat.{ℕ, zero, suc, _+_, _-_, _<_, _≤_}
 use native.Mathlib.Omega.{arith}
 use lib.ListN.{length, length-append}
 use borrow.Author.Tests.{lt-ltb, le-ltb}
 use Rattle.terms.specs.declared.Row.{Row}
-use Rattle.terms.specs.Calls.{overwrite}
-use Rattle.terms.proofs.Buffers.{overwrite-length, overwrite-more}
+use Rattle.laws.specs.Buffers.{overwrite}
+use Rattle.laws.proofs.Buffers.{overwrite-length}
 use Rattle.sheets.specs.declared.Cursor.{Cursor}
 use Rattle.sheets.specs.declared.Order.{Order}
 use Rattle.sheets.specs.declared.Line.the-variants.{Values, NoLine}
 use Rattle.sheets.specs.declared.Sheet.the-variants.{TooMany, WrongLine, Rows}
 use Rattle.sheets.specs.Text.{lineAt}
-use Rattle.sheets.specs.Sheet.{rowNumbers, putRow, foundFrom, rowsFrom}
-
-numbers-append : (xs ys : List Row) → rowNumbers (xs ++ ys) ≡ rowNumbers xs ++ rowNumbers ys
-unfolding rowNumbers
-numbers-append [] ys = refl
-numbers-append (r ∷ xs) ys = ap (λ (l : List ℕ). r .kind ∷ r .a ∷ r .b ∷ r .c ∷ l) (numbers-append xs ys)
-
-pub numbers-length : (rs : List Row) → length (rowNumbers rs) ≡ length rs * 4
-unfolding rowNumbers
-numbers-length [] = refl
-numbers-length (r ∷ rs) = omega (arith, numbers-length rs)
-
--- one more row is written behind those that are there
-pub row-put : (rs : List Row) (base : List ℕ) (r : Row) (k : ℕ) → length rs ≡ k
-    → putRow (overwrite (rowNumbers rs) base) k r ≡ overwrite (rowNumbers (rs ++ (r ∷ []))) base
-unfolding putRow rowNumbers
-row-put rs base r k e =
-    let n₀ = rowNumbers rs in
-    let n₁ = n₀ ++ (r .kind ∷ []) in
-    let n₂ = n₁ ++ (r .a ∷ []) in
-    let n₃ = n₂ ++ (r .b ∷ []) in
-    let l₀ : length n₀ ≡ k * 4 = omega (arith, numbers-length rs) in
-    let l₁ : length n₁ ≡ k * 4 + 1 = omega (arith, length-append n₀ (r .kind ∷ [])) in
-    let l₂ : length n₂ ≡ k * 4 + 2 = omega (arith, length-append n₁ (r .a ∷ [])) in
-    let l₃ : length n₃ ≡ k * 4 + 3 = omega (arith, length-append n₂ (r .b ∷ [])) in
-    let all : n₃ ++ (r .c ∷ []) ≡ rowNumbers (rs ++ (r ∷ [])) =
-    append-assoc n₂ (r .b ∷ []) (r .c ∷ []) ∙ append-assoc n₁ (r .a ∷ []) (r .b ∷ r .c ∷ []) ∙ append-assoc n₀ (r .kind ∷ []) (r .a ∷ r .b ∷ r .c ∷ [])
-    ∙ sym (numbers-append rs (r ∷ [])) in
-    rw (
-      overwrite-more n₀ base (r .kind) (k * 4) l₀,
-      overwrite-more n₁ base (r .a) (k * 4 + 1) l₁,
-      overwrite-more n₂ base (r .b) (k * 4 + 2) l₂,
-      overwrite-more n₃ base (r .c) (k * 4 + 3) l₃,
-    )
-    (ap (λ (l : List ℕ). overwrite l base) all)
+use Rattle.terms.specs.Table.{rowNumbers}
+use Rattle.rows.specs.Held.{putRow}
+use Rattle.sheets.specs.Sheet.{foundFrom, rowsFrom}
+use Rattle.rows.proofs.Held.{row-put}
 
 pub record Reading (text : List ℕ) (order : Order) (start : ℕ) (base table : List ℕ) (at k : ℕ) : Type 0 where
   pub rows : List Row

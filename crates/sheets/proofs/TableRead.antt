@@ -1,25 +1,18 @@
 -- The table that the reader leaves, as rows and as numbers. Assumes nothing.
-use mathlib.Core.Path.{_≡_, refl, sym, _∙_, ap}
-use mathlib.Core.List.{List, [], _∷_}
+use mathlib.Core.Path.{_≡_, sym, _∙_, ap}
+use mathlib.Core.List.{List}
 use Prim.Native.Nat.{ℕ, _*_, _≤_}
 use native.Mathlib.Omega.{arith}
 use lib.ListN.{length, take, drop}
 use lib.Seq.{take-at}
 use Rattle.terms.specs.declared.Record.{Record}
-use Rattle.terms.specs.declared.Row.{Row}
-use Rattle.terms.specs.Table.{rowsOf}
-use Rattle.terms.proofs.Buffers.{overwrite-fits}
-use Rattle.sheets.specs.Sheet.{rowNumbers, sheetRows}
+use Rattle.laws.proofs.Buffers.{overwrite-fits}
+use Rattle.terms.specs.Table.{rowNumbers}
+use Rattle.sheets.specs.Sheet.{sheetRows}
 use Rattle.sheets.specs.Call.{sheetRecord, tableAfter}
 use Rattle.sheets.proofs.Copying.{sheet-few}
-use Rattle.sheets.proofs.Reading.{numbers-length}
+use Rattle.terms.proofs.RowNumbers.{row-numbers-length}
 use Rattle.sheets.proofs.Theorems.{sheet-accepted, sheet-only}
-
--- a table written as numbers has its rows
-pub rows-written : (rows : List Row) → rowsOf (rowNumbers rows) ≡ rows
-unfolding rowsOf rowNumbers
-rows-written [] = refl
-rows-written (r ∷ rows) = ap (λ (l : List Row). r ∷ l) (rows-written rows)
 
 module _ (text old : List ℕ) (room : 2048 ≤ length old) (accepted : sheetRecord text (length old) .outcome ≡ 0) where
   pub pieces-read : sheetRecord text (length old) .pieces ≡ length (sheetRows text)
@@ -33,8 +26,8 @@ module _ (text old : List ℕ) (room : 2048 ≤ length old) (accepted : sheetRec
   pub table-read : take (sheetRecord text (length old) .pieces * 4) (tableAfter text old) ≡ rowNumbers (sheetRows text)
   table-read =
       let s = sheet-accepted text old (sheetRows text) room (sheet-only text (length old) accepted) in
-      let fits : length (rowNumbers (sheetRows text)) ≤ length old = omega (arith, numbers-length (sheetRows text), sheet-few text) in
+      let fits : length (rowNumbers (sheetRows text)) ≤ length old = omega (arith, row-numbers-length (sheetRows text), sheet-few text) in
       let count : sheetRecord text (length old) .pieces * 4 ≡ length (rowNumbers (sheetRows text)) =
-      ap (λ (n : ℕ). n * 4) pieces-read ∙ sym (numbers-length (sheetRows text)) in
+      ap (λ (n : ℕ). n * 4) pieces-read ∙ sym (row-numbers-length (sheetRows text)) in
       ap (λ (l : List ℕ). take (sheetRecord text (length old) .pieces * 4) l) (s .1 ∙ overwrite-fits (rowNumbers (sheetRows text)) old fits)
       ∙ take-at (rowNumbers (sheetRows text)) (drop (length (rowNumbers (sheetRows text))) old) (sheetRecord text (length old) .pieces * 4) (sym count)

@@ -9,10 +9,12 @@ use lib.Dec.{eqb, ltb}
 use lib.ListN.{length}
 use borrow.Author.Tests.{le-ltb}
 use Rattle.terms.specs.declared.Row.{Row}
-use Rattle.terms.specs.Calls.{refusal, completed, overwrite}
+use Rattle.terms.specs.Calls.{refusal, completed}
+use Rattle.laws.specs.Buffers.{overwrite}
 use Rattle.sheets.specs.declared.Sheet.{Sheet}
 use Rattle.sheets.specs.declared.Sheet.the-variants.{TooLong, WrongNames, TooMany, WrongLine, Rows}
-use Rattle.sheets.specs.Sheet.{rowNumbers, sheetFound, sheetRows}
+use Rattle.terms.specs.Table.{rowNumbers}
+use Rattle.sheets.specs.Sheet.{sheetFound, sheetRows}
 use Rattle.sheets.specs.Call.{sheetNumber, sheetRow, rowCount, sheetRecord, tableAfter}
 use Rattle.sheets.specs.Writing.{SheetOf}
 use Rattle.sheets.proofs.Written.{read-written, read-exactly}

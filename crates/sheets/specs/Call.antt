@@ -1,14 +1,16 @@
 -- What reading a sheet returns and writes, for every input (document 01, "Where a call stops").
 use mathlib.Core.Bool.{cond}
-use mathlib.Core.List.{List, [], _∷_}
+use mathlib.Core.List.{List}
 use Prim.Native.Nat.{ℕ}
 use lib.Dec.{eqb, ltb}
 use lib.ListN.{length}
 use Rattle.terms.specs.declared.Record.{Record}
-use Rattle.terms.specs.Calls.{refusal, completed, stopAt, overwrite}
+use Rattle.terms.specs.Calls.{refusal, completed}
+use Rattle.laws.specs.Buffers.{overwrite}
 use Rattle.sheets.specs.declared.Sheet.{Sheet}
 use Rattle.sheets.specs.declared.Sheet.the-variants.{TooLong, WrongNames, TooMany, WrongLine, Rows}
-use Rattle.sheets.specs.Sheet.{rowNumbers, sheetFound, sheetRows}
+use Rattle.terms.specs.Table.{rowNumbers}
+use Rattle.sheets.specs.Sheet.{sheetFound, sheetRows}
 
 -- The number and the row of each refusal of a sheet; 0 for rows read.
 abbrev pub sheetNumber : Sheet → ℕ

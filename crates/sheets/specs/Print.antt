@@ -4,7 +4,7 @@ use mathlib.Core.List.{List, [], _∷_, _++_}
 use Prim.Native.Nat.{ℕ, _+_}
 use lib.Dec.{ltb}
 use lib.ListN.{length, replicate, set, take}
-use Rattle.terms.specs.Calls.{overwrite}
+use Rattle.laws.specs.Buffers.{overwrite}
 use Rattle.terms.specs.declared.Record.{Record}
 use Rattle.sheets.specs.declared.Text.{Text}
 use Rattle.sheets.specs.Writing.{digits}

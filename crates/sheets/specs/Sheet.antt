@@ -1,9 +1,9 @@
 -- What a sheet is (document 01, "Sheet and program"): a line of names, then at most 512 lines of values.
-use mathlib.Core.Bool.{Bool, cond}
+use mathlib.Core.Bool.{cond}
 use mathlib.Core.List.{List, [], _∷_}
-use Prim.Native.Nat.{ℕ, zero, suc, _+_, _*_}
+use Prim.Native.Nat.{ℕ, zero, suc, _+_}
 use lib.Dec.{ltb}
-use lib.ListN.{length, set}
+use lib.ListN.{length}
 use Rattle.terms.specs.declared.Row.{Row}
 use Rattle.sheets.specs.declared.Order.{Order}
 use Rattle.sheets.specs.declared.Line.{Line}
@@ -13,15 +13,6 @@ use Rattle.sheets.specs.declared.Names.the-variants.{InOrder, NoNames}
 use Rattle.sheets.specs.declared.Sheet.{Sheet}
 use Rattle.sheets.specs.declared.Sheet.the-variants.{TooLong, WrongNames, TooMany, WrongLine, Rows}
 use Rattle.sheets.specs.Text.{lineAt, namesAt}
-
--- Rows as a table is written: four numbers each, in the order kind, a, b, c.
-unfoldable pub rowNumbers : List Row → List ℕ
-rowNumbers [] = []
-rowNumbers (r ∷ rs) = r .kind ∷ r .a ∷ r .b ∷ r .c ∷ rowNumbers rs
-
--- A table with row k written, as far as it reaches.
-unfoldable pub putRow : List ℕ → ℕ → Row → List ℕ
-putRow table k r = set (set (set (set table (k * 4) (r .kind)) (k * 4 + 1) (r .a)) (k * 4 + 2) (r .b)) (k * 4 + 3) (r .c)
 
 -- What follows a line, by whether it is one.
 abbrev pub byLine : {A : Type 0} → Line → (Row → ℕ → A) → A → A

@@ -1,8 +1,8 @@
 -- What stands in a text at a place (document 01, "Sheet and program"): a number, a name, a line. Each definition is given
 -- the place and what is left of the text there, and says what is found and where it ends.
-use mathlib.Core.Bool.{Bool, true, false, _&&_, _||_, not, cond}
+use mathlib.Core.Bool.{Bool, _&&_, _||_, not, cond}
 use mathlib.Core.List.{List, [], _∷_}
-use Prim.Native.Nat.{ℕ, zero, suc, _+_, _*_, _-_}
+use Prim.Native.Nat.{ℕ, _+_, _*_, _-_}
 use lib.Dec.{ltb, eqb}
 use lib.ListN.{length, getD, drop}
 use Rattle.terms.specs.declared.Row.{Row}

@@ -3,10 +3,12 @@
 ghost use mathlib.Core.Path.{_≡_};
 ghost use mathlib.Core.List.{[]};
 ghost use Prim.Native.Nat.{_≤_};
-ghost use lib.ListN.{length, set, take};
-ghost use Rattle.terms.specs.Calls.{overwrite};
+ghost use lib.ListN.{length, take};
+ghost use Rattle.laws.specs.Buffers.{overwrite};
 ghost use Rattle.sheets.specs.Text.{digitOf, sees, numberAt, fieldAt, lineAt, valueFor, placed, seesKind, columnAt, nameAt, namesAt, allDifferent};
-ghost use Rattle.sheets.specs.Sheet.{rowNumbers, putRow, foundFrom, rowsFrom, sheetFound, sheetRows};
+ghost use Rattle.terms.specs.Table.{rowNumbers};
+ghost use Rattle.rows.specs.Held.{putRow};
+ghost use Rattle.sheets.specs.Sheet.{foundFrom, rowsFrom, sheetFound, sheetRows};
 ghost use Rattle.sheets.specs.Print.{pushed, pushAll, field, lineOf, recordNames, recordValues, answerNames, answerValues};
 ghost use Rattle.sheets.specs.Writing.{digits};
 ghost use Rattle.sheets.specs.Call.{sheetNumber, sheetRow, rowCount, sheetRecord, tableAfter};
@@ -295,11 +297,11 @@ pub enum Sheet {
 fn put_row(table: &mut [u16], k: u16, row: Row)
     ensures { λ _. ⌜ now (table .exit) ≡ putRow (now (table .entry)) k row ⌝ }
 {
-    let at = terms::wide(k) * 4;
-    terms::store(table, at, row.kind);
-    terms::store(table, at + 1, row.a);
-    terms::store(table, at + 2, row.b);
-    terms::store(table, at + 3, row.c);
+    let at = numbers::wide(k) * 4;
+    numbers::store(table, at, row.kind);
+    numbers::store(table, at + 1, row.a);
+    numbers::store(table, at + 2, row.b);
+    numbers::store(table, at + 3, row.c);
 }
 
 // The lines of values from a place on. Their rows are written to the beginning of a table.
@@ -390,7 +392,7 @@ fn copy(from: &[u16], n: usize, table: &mut [u16])
         if from.len() <= i {
             return;
         }
-        terms::store(table, i, from[i]);
+        numbers::store(table, i, from[i]);
         i += 1;
     }
 }
@@ -404,14 +406,14 @@ pub fn read_sheet(text: &[u8], table: &mut [u16]) -> Record
     let found = read_rows(text, &mut rows[..]);
     let number = sheet_number(found);
     if number != 0 {
-        return terms::refuse(number, sheet_row(found));
+        return records::refuse(number, sheet_row(found));
     }
     if table.len() < 2048 {
-        return terms::refuse(32, 0);
+        return records::refuse(32, 0);
     }
     let n = row_count(found);
-    copy(&rows[..], terms::wide(n) * 4, table);
-    terms::complete(n as u32, 0)
+    copy(&rows[..], numbers::wide(n) * 4, table);
+    records::complete(n as u32, 0)
 }
 
 // A line of text: its first len bytes.

@@ -11,7 +11,7 @@ use lib.Seq.{getD-take}
 use borrow.Author.Tests.{eqb-true, eqb-false}
 use Rattle.terms.specs.declared.Row.{Row}
 use Rattle.terms.specs.Table.{rowAt, noRow, byKind, bitsIn, bitsOf, countKind, sourcesOf}
-use Rattle.terms.proofs.Cases.{lt-or-le}
+use Rattle.laws.proofs.Numbers.{lt-or-le}
 use Rattle.answers.specs.Pairs.{Pair, pairsOf, pairsIn}
 use Rattle.sides.specs.Sides.{lowSources}
 

@@ -7,11 +7,11 @@ use native.Mathlib.Omega.{arith}
 use lib.ListN.{length, getD}
 use Rattle.terms.specs.declared.Row.{Row}
 use Rattle.terms.specs.Table.{rowsOf, rowAt, byKind, bitsOf, widthOf, sourceOf}
-use Rattle.terms.specs.Calls.{overwrite}
+use Rattle.laws.specs.Buffers.{overwrite}
 use Rattle.terms.specs.Faults.{absent}
 use Rattle.terms.proofs.AcceptedTable.{Table, accepted-table, term-present}
-use Rattle.terms.proofs.Buffers.{overwrite-read}
-use Rattle.terms.proofs.Cases.{KindOf, is-variable, is-constant, is-concat, is-extract, is-equation, kind-of, else-kind}
+use Rattle.laws.proofs.Buffers.{overwrite-read}
+use Rattle.terms.proofs.RowKinds.{KindOf, is-variable, is-constant, is-concat, is-extract, is-equation, kind-of, else-kind}
 use Rattle.terms.proofs.Faults.{Term, Kept, kept, kept-kind, kept-names, kept-sides, equation-names, widths-small}
 use Rattle.terms.proofs.Sources.{source-length}
 use Rattle.answers.specs.Pairs.{Pair, paired, pairsOf}

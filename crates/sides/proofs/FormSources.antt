@@ -9,20 +9,22 @@ use lib.ListN.{length, getD, take, drop, replicate, length-map, length-append}
 use lib.Seq.{take-suc, take-at, take-length}
 use borrow.Author.Tests.{ltb-true}
 use Rattle.terms.specs.declared.Row.{Row}
-use Rattle.terms.specs.Table.{rowsOf, rowAt, noRow, bitsOf, bitOf, countUp, sourcesOf, sourceOf}
-use Rattle.terms.specs.Calls.{overwrite}
+use Rattle.terms.specs.Table.{rowsOf, rowAt, noRow, bitsOf, bitOf, sourcesOf, sourceOf}
+use Rattle.laws.specs.Lists.{countUp}
+use Rattle.laws.specs.Buffers.{overwrite}
 use Rattle.terms.specs.Faults.{absent}
 use Rattle.terms.proofs.AcceptedTable.{Table, accepted-table, term-there}
-use Rattle.terms.proofs.Buffers.{overwrite-fits}
+use Rattle.laws.proofs.Buffers.{overwrite-fits}
 use Rattle.terms.proofs.Faults.{totals-small}
 use Rattle.terms.proofs.Sources.{value-sources, count-up}
 use Rattle.terms.proofs.Values.{Sound}
 use Rattle.forms.specs.declared.Piece.{Piece}
 use Rattle.forms.specs.Form.{formOf, numbersOf}
-use Rattle.forms.specs.Append.{Appended}
-use Rattle.forms.proofs.Buffer.{numbers-length}
+use Rattle.normalizer.specs.Append.{Appended}
+use Rattle.forms.proofs.FormNumbers.{numbers-length}
 use Rattle.forms.proofs.RowForms.{sources-wide, width-small}
-use Rattle.forms.proofs.Stops.{appended-form, form-few}
+use Rattle.normalizer.proofs.Appending.{appended-form}
+use Rattle.forms.proofs.FormCall.{form-few}
 use Rattle.sides.specs.Sides.{lowSources, Prepared}
 use Rattle.sides.specs.Spread.{stepped, sourcesIn, spelled, Spells}
 use Rattle.sides.proofs.Lows.{lows-count}

@@ -15,7 +15,8 @@ use Rattle.terms.specs.declared.Fault.the-variants.{Accepted}
 use Rattle.terms.specs.Table.{rowsOf, rowAt, noRow, byKind, bitsIn, bitsOf, countKind}
 use Rattle.terms.specs.Faults.{firstFault}
 use Rattle.terms.proofs.AcceptedTable.{accepted-table}
-use Rattle.terms.proofs.Cases.{KindOf, is-variable, is-constant, is-concat, is-extract, is-equation, kind-of, else-kind, lt-or-le}
+use Rattle.terms.proofs.RowKinds.{KindOf, is-variable, is-constant, is-concat, is-extract, is-equation, kind-of, else-kind}
+use Rattle.laws.proofs.Numbers.{lt-or-le}
 use Rattle.terms.proofs.Faults.{totals-small}
 use Rattle.terms.proofs.Widths.{bits-more, count-more}
 use Rattle.sides.specs.Sides.{lowSources}

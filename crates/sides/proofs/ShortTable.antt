@@ -10,9 +10,11 @@ use lib.Seq.{ext-getD}
 use borrow.Author.Tests.{eqb-true, eqb-false, ne-eqb, eq-eqb, lt-ltb, le-ltb}
 use Rattle.terms.specs.declared.Row.{Row}
 use Rattle.terms.specs.declared.Fault.the-variants.{Accepted}
-use Rattle.terms.specs.Table.{rowsOf, rowAt, byKind, widthIn, widthsOf, widthOf, bitsOf, extract, valuesOf, valueOf, countUp, sourcesOf}
+use Rattle.terms.specs.Table.{rowsOf, rowAt, byKind, widthIn, widthsOf, widthOf, bitsOf, extract, valuesOf, valueOf, sourcesOf}
+use Rattle.laws.specs.Lists.{countUp}
 use Rattle.terms.specs.Faults.{breaks11, breaks12, breaks13, breaks14, breaks15, breaks16, breaks17, breaks18, unusedColumn, notTerm, misnamed, wrongWidth, wrongBounds, unequalSides, firstRule, faultAt, isAccepted, lowestFault, firstFault}
-use Rattle.terms.proofs.Cases.{KindOf, is-variable, is-constant, is-concat, is-extract, is-equation, kind-of, by-strong}
+use Rattle.terms.proofs.RowKinds.{KindOf, is-variable, is-constant, is-concat, is-extract, is-equation, kind-of}
+use Rattle.laws.proofs.Numbers.{by-strong}
 use Rattle.terms.proofs.Widths.{width-row, width-early, width-same, widths-count}
 use Rattle.terms.proofs.Faults.{AllKept, Term, Kept, kept, kept-names, concat-names}
 use Rattle.terms.proofs.Values.{Sound, values-count, value-variable, value-constant, value-concat, value-extract, value-equation, width-extract}

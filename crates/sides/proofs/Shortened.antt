@@ -10,7 +10,7 @@ use lib.ListN.{length, take}
 use borrow.Author.Tests.{eqb-true, eqb-false, eq-eqb, ne-eqb}
 use Rattle.terms.specs.declared.Row.{Row}
 use Rattle.terms.specs.Table.{rowAt, noRow, widthOf, bitsOf, extract, valueOf}
-use Rattle.terms.proofs.Cases.{by-strong}
+use Rattle.laws.proofs.Numbers.{by-strong}
 use Rattle.terms.proofs.ByRows.{rows-count, rows-early, rows-more, rows-at}
 use Rattle.terms.proofs.Faults.{Term, kept, kept-names, kept-bounds, extract-names}
 use Rattle.terms.proofs.Values.{Sound, value-extract, value-length, width-extract}

@@ -11,8 +11,11 @@ use lib.ListN.{length, getD, replicate, replicate-append-replicate, List·getD-a
 use lib.Seq.{getD-append-add}
 use borrow.Author.Tests.{eqb-true, eqb-false, ne-eqb}
 use Rattle.terms.specs.declared.Row.{Row}
-use Rattle.terms.specs.Table.{byKind, bitsOf, countKind, countUp}
-use Rattle.terms.proofs.Cases.{KindOf, is-variable, is-constant, is-concat, is-extract, is-equation, kind-of, else-kind, not-both, lt-or-le}
+use Rattle.terms.specs.Table.{byKind, bitsOf, countKind}
+use Rattle.laws.specs.Lists.{countUp}
+use Rattle.terms.proofs.RowKinds.{KindOf, is-variable, is-constant, is-concat, is-extract, is-equation, kind-of, else-kind}
+use Rattle.laws.proofs.Bools.{not-both}
+use Rattle.laws.proofs.Numbers.{lt-or-le}
 use Rattle.forms.specs.declared.Piece.{Piece}
 use Rattle.forms.specs.Form.{fill, part, bitsUp, placePieces, pieceOf, meets, merged, add, addAll, group, formFrom}
 use Rattle.forms.proofs.Grouping.{Meeting, meeting}

@@ -8,8 +8,8 @@ use lib.ListN.{length, getD, set, length-append, length-set}
 use borrow.Author.Tests.{lt-ltb, le-ltb}
 use Rattle.terms.specs.declared.Row.{Row}
 use Rattle.terms.specs.Table.{rowsOf, rowAt}
-use Rattle.terms.specs.Calls.{overwrite, Written, Behind}
-use Rattle.terms.proofs.Buffers.{overwrite-length, written-more}
+use Rattle.laws.specs.Buffers.{overwrite, Written, Behind}
+use Rattle.laws.proofs.Buffers.{overwrite-length, written-more}
 use Rattle.sides.specs.Spread.{stepped, sourcesIn, spelled, Spells}
 
 stepped-count : (x step n : ℕ) → length (stepped x step n) ≡ n

@@ -5,7 +5,7 @@ use Prim.Native.Nat.{ℕ, zero, suc, _+_, _≤_, _<_}
 use lib.ListN.{length, getD}
 use Rattle.terms.specs.declared.Row.{Row}
 use Rattle.terms.specs.Table.{rowsOf, rowAt, byKind, bitsOf, countKind}
-use Rattle.forms.specs.Append.{Numbered}
+use Rattle.forms.specs.Numbered.{Numbered}
 use Rattle.answers.specs.Pairs.{Pair, pairsOf}
 
 -- The source of each variable's low bit, where k variable bits stand before the rows.

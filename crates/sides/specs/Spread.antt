@@ -9,7 +9,7 @@ use Rattle.terms.specs.declared.Row.{Row}
 use Rattle.terms.specs.declared.Fault.the-variants.{Accepted}
 use Rattle.terms.specs.Table.{rowsOf, rowAt, countKind, sourceOf}
 use Rattle.terms.specs.Faults.{firstFault, absent}
-use Rattle.terms.specs.Calls.{overwrite}
+use Rattle.laws.specs.Buffers.{overwrite}
 use Rattle.sides.specs.Sides.{lowSources, Prepared}
 
 -- For an accepted table and room for 64 numbers: each variable's low source stands at the variable's number.

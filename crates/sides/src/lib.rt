@@ -6,7 +6,7 @@ ghost use Prim.Native.Nat.{_≤_, min};
 ghost use lib.Dec.{eqb};
 ghost use lib.ListN.{length, take};
 ghost use Rattle.terms.specs.Table.{rowsOf, bitsOf};
-ghost use Rattle.terms.specs.Calls.{Behind};
+ghost use Rattle.laws.specs.Buffers.{Behind};
 ghost use Rattle.sides.specs.Sides.{ReadsSides};
 ghost use Rattle.sides.specs.Spread.{FindsLows, stepped, sourcesIn, Spells, ReadsSide};
 ghost use Rattle.sides.specs.Shortened.{shortIn, storedRow, Shortens};
@@ -35,9 +35,9 @@ pub fn low_sources(table: &[u16], lows: &mut [u16]) -> usize
         if table.len() / 4 <= r {
             break;
         }
-        let row = terms::row_at(table, r);
-        bits = bits + (terms::row_bits(row) as usize);
-        terms::store(lows, v, terms::narrow(bits + 1));
+        let row = rows::row_at(table, r);
+        bits = bits + (checker::row_bits(row) as usize);
+        numbers::store(lows, v, numbers::narrow(bits + 1));
         v = v + one(row.kind);
         r += 1;
     }
@@ -55,8 +55,8 @@ fn run(out: &mut [u16], from: usize, count: usize, x: u16, step: u16) -> usize
         if out.len() <= at {
             return at;
         }
-        terms::store(out, at, y);
-        y = terms::plus(y, step);
+        numbers::store(out, at, y);
+        y = numbers::plus(y, step);
         at += 1;
         left -= 1;
     }
@@ -68,13 +68,13 @@ fn put_sources(lows: &[u16], p: Row, out: &mut [u16], n: usize) -> usize
     ensures { λ m. ⌜ Behind (sourcesIn (now (lows .entry)) p) n (now (out .entry)) m (now (out .exit)) ⌝ }
 {
     let kind = p.kind;
-    let high = terms::wide(p.b);
+    let high = numbers::wide(p.b);
     if kind < 2 {
         return run(out, n, high + 1, kind, 0);
     }
-    let low = terms::wide(terms::load(lows, terms::wide(p.a)));
-    let count = terms::minus(high + 1, terms::wide(p.c));
-    run(out, n, count, terms::narrow(terms::minus(low, high)), 1)
+    let low = numbers::wide(numbers::load(lows, numbers::wide(p.a)));
+    let count = numbers::minus(high + 1, numbers::wide(p.c));
+    run(out, n, count, numbers::narrow(numbers::minus(low, high)), 1)
 }
 
 // Writes the sources of the first n pieces of a form.
@@ -84,7 +84,7 @@ fn spread(lows: &[u16], form: &[u16], n: usize, out: &mut [u16])
     let mut m = 0;
     let mut i = 0;
     while i < n {
-        m = put_sources(lows, terms::row_at(form, i), out, m);
+        m = put_sources(lows, rows::row_at(form, i), out, m);
         i += 1;
     }
 }
@@ -102,7 +102,7 @@ fn side_bits(
     ensures { λ _. ⌜ ReadsSide (now (table .entry)) (now (widths .entry)) (now (variables .entry)) (now (lows .entry)) row
         (length (now (form .entry))) (now (out .entry)) (now (out .exit)) ⌝ }
 {
-    let pieces = forms::put_form(table, widths, variables, row, form, 0);
+    let pieces = normalizer::put_form(table, widths, variables, row, form, 0);
     spread(lows, form, pieces, out);
 }
 
@@ -121,23 +121,23 @@ pub fn equation_pairs(
         (length (now (form .entry))) (length (now (left .entry))) (length (now (right .entry)))
         (now (left .exit)) (now (right .exit)) w ⌝ }
 {
-    let row = terms::row_at(table, r);
+    let row = rows::row_at(table, r);
     let kind = row.kind;
     if kind != terms::EQUATION {
         return 0;
     }
-    let a = terms::wide(row.a);
+    let a = numbers::wide(row.a);
     side_bits(table, widths, variables, lows, a, form, left);
     side_bits(
         table,
         widths,
         variables,
         lows,
-        terms::wide(row.b),
+        numbers::wide(row.b),
         form,
         right,
     );
-    terms::wide(terms::load(widths, a))
+    numbers::wide(numbers::load(widths, a))
 }
 
 // A row, from the row that it names first: a cut of a cut is made one cut.
@@ -155,8 +155,8 @@ fn short_row(row: Row, named: Row) -> Row
     Row {
         kind: terms::EXTRACT,
         a: named.a,
-        b: terms::plus(row.b, named.c),
-        c: terms::plus(row.c, named.c),
+        b: numbers::plus(row.b, named.c),
+        c: numbers::plus(row.c, named.c),
     }
 }
 
@@ -164,11 +164,11 @@ fn short_row(row: Row, named: Row) -> Row
 fn store_row(table: &mut [u16], r: usize, row: Row)
     ensures { λ _. ⌜ now (table .exit) ≡ storedRow (now (table .entry)) (min r 512) row ⌝ }
 {
-    let at = terms::lesser(r, terms::MAX_ROWS) * 4;
-    terms::store(table, at, row.kind);
-    terms::store(table, at + 1, row.a);
-    terms::store(table, at + 2, row.b);
-    terms::store(table, at + 3, row.c);
+    let at = numbers::lesser(r, terms::MAX_ROWS) * 4;
+    numbers::store(table, at, row.kind);
+    numbers::store(table, at + 1, row.a);
+    numbers::store(table, at + 2, row.b);
+    numbers::store(table, at + 3, row.c);
 }
 
 // Copies the first 512 rows of a table, each cut of a cut made one cut. How many numbers they are.
@@ -181,8 +181,8 @@ pub fn shorten(table: &[u16], short: &mut [u16]) -> usize
         if table.len() / 4 <= r {
             break;
         }
-        let row = terms::row_at(table, r);
-        let named = terms::row_at(short, terms::wide(row.a));
+        let row = rows::row_at(table, r);
+        let named = rows::row_at(short, numbers::wide(row.a));
         store_row(short, r, short_row(row, named));
         r += 1;
     }

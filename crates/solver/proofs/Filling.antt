@@ -5,9 +5,9 @@ use Prim.Native.Nat.{ℕ, zero, suc, _+_}
 use native.Mathlib.Omega.{arith}
 use native.Mathlib.Numerals.{add-one}
 use lib.ListN.{length, replicate, set, length-replicate}
-use Rattle.terms.specs.Table.{countUp}
-use Rattle.terms.specs.Calls.{overwrite}
-use Rattle.terms.proofs.Buffers.{overwrite-more}
+use Rattle.laws.specs.Lists.{countUp}
+use Rattle.laws.specs.Buffers.{overwrite}
+use Rattle.laws.proofs.Buffers.{overwrite-more}
 use Rattle.answers.proofs.Agreement.{start-length}
 
 pub overwrite-none : (old : List ℕ) → old ≡ overwrite [] old

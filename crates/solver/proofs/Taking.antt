@@ -10,10 +10,11 @@ use lib.Dec.{eqb}
 use lib.ListN.{length, getD, drop}
 use borrow.Author.Tests.{eq-eqb, ne-eqb}
 use Rattle.terms.specs.declared.Row.{Row}
-use Rattle.terms.specs.Table.{rowAt, bitsOf, countUp}
+use Rattle.terms.specs.Table.{rowAt, bitsOf}
+use Rattle.laws.specs.Lists.{countUp}
 use Rattle.answers.specs.Pairs.{Pair, pairsOf, pairsIn}
 use Rattle.answers.specs.Classes.{rep, relabel, merge, run, runAll, links, conflictAt, linksBefore}
-use Rattle.answers.proofs.Relabelling.{dec-eq}
+use Rattle.laws.proofs.Numbers.{dec-eq}
 use Rattle.answers.proofs.Agreement.{relabel-zero, base, start-at, start-length}
 use Rattle.classes.specs.Links.{Low, rootsOf, pair, linked, PairTaken}
 use Rattle.classes.proofs.Links.{Canon, canon-merge, merge-len, merge-is}

@@ -8,9 +8,10 @@ use lib.ListN.{length, getD}
 use Rattle.terms.specs.declared.Record.{Record}
 use Rattle.terms.specs.declared.Row.{Row}
 use Rattle.terms.specs.declared.Fault.the-variants.{Accepted}
-use Rattle.terms.specs.Table.{rowsOf, bitsOf, widthOf, countKind, countUp}
+use Rattle.terms.specs.Table.{rowsOf, bitsOf, widthOf, countKind}
+use Rattle.laws.specs.Lists.{countUp}
 use Rattle.terms.specs.Faults.{firstFault}
-use Rattle.terms.specs.Calls.{overwrite}
+use Rattle.laws.specs.Buffers.{overwrite}
 use Rattle.answers.specs.Answer.{answerNumbers}
 use Rattle.answers.specs.Solve.{solvedRows, answerRecord}
 use Rattle.sides.specs.Sides.{lowSources}

@@ -4,7 +4,8 @@ use mathlib.Core.List.{List}
 use Prim.Native.Nat.{ℕ, suc, _≤_}
 use lib.ListN.{length}
 use Rattle.terms.specs.declared.Row.{Row}
-use Rattle.terms.specs.Table.{rowsOf, bitsOf, countUp}
+use Rattle.terms.specs.Table.{rowsOf, bitsOf}
+use Rattle.laws.specs.Lists.{countUp}
 use Rattle.answers.specs.Pairs.{pairsIn}
 use Rattle.answers.specs.Classes.{runAll, conflictAt, linksBefore}
 use Rattle.classes.specs.Links.{Low, rootsOf}

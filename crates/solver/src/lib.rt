@@ -30,16 +30,16 @@ fn take_equations(
 ) -> Taken
     ensures { λ r. ⌜ TakesEquations (now (table .entry)) (now (widths .entry)) (now (variables .entry)) (now (lows .entry)) (length (now (form .entry))) (length (now (left .entry))) (length (now (right .entry))) (now (links .entry)) (now (links .exit)) (r .row) (r .ties) ⌝ }
 {
-    let rows = terms::lesser(table.len() / 4, terms::MAX_ROWS);
+    let rows = numbers::lesser(table.len() / 4, terms::MAX_ROWS);
     let mut ties: usize = 0;
     let mut r: usize = 0;
     'solve: while r < rows {
         let pairs = sides::equation_pairs(table, widths, variables, lows, r, form, left, right);
-        let width = terms::lesser(pairs, terms::MAX_WIDTH);
+        let width = numbers::lesser(pairs, terms::MAX_WIDTH);
         let mut found: usize = 0;
         let mut k: usize = 0;
         while k < width {
-            match classes::take_pair(links, terms::load(left, k), terms::load(right, k)) {
+            match classes::take_pair(links, numbers::load(left, k), numbers::load(right, k)) {
                 classes::Pairing::Nothing => {}
                 classes::Pairing::Tie => {
                     found += 1;
@@ -69,7 +69,7 @@ fn unlink(links: &mut [u16])
 {
     let mut i = 0;
     while i < links.len() {
-        terms::store(links, i, (i % 65536) as u16);
+        numbers::store(links, i, (i % 65536) as u16);
         i += 1;
     }
 }
@@ -80,7 +80,7 @@ fn clear(work: &mut [u16])
 {
     let mut i = 0;
     while i < work.len() {
-        terms::store(work, i, 0);
+        numbers::store(work, i, 0);
         i += 1;
     }
 }
@@ -107,7 +107,7 @@ fn conclude(
         };
     }
     if ties == 0 {
-        return terms::complete(0, short(bits));
+        return records::complete(0, short(bits));
     }
     classes::settle(links);
     let counts = borders::put_rows(table, links, answer);
@@ -115,7 +115,7 @@ fn conclude(
         outcome: 2,
         pieces: short(counts.pieces),
         fresh: short(counts.fresh),
-        free: short(terms::minus(bits, ties)),
+        free: short(numbers::minus(bits, ties)),
         ties: short(ties),
         row: 0,
     }
@@ -135,7 +135,7 @@ fn answer_table(
     let mut short = [0u16; 2048];
     let len = sides::shorten(table, &mut short[..]);
     let mut variables = [0u16; 512];
-    forms::number(&short[..len], &mut variables[..]);
+    normalizer::number(&short[..len], &mut variables[..]);
     let mut form = [0u16; 4096];
     let mut left = [0u16; 1024];
     let mut right = [0u16; 1024];
@@ -159,7 +159,7 @@ fn solve_accepted(table: &[u16], widths: &[u16], answer: &mut [u16], work: &mut 
 {
     let mut lows = [0u16; 64];
     let bits = sides::low_sources(table, &mut lows[..]);
-    let sources = terms::lesser(terms::lesser(bits, terms::MAX_BITS) + 2, work.len());
+    let sources = numbers::lesser(numbers::lesser(bits, terms::MAX_BITS) + 2, work.len());
     answer_table(table, widths, &lows[..], bits, &mut work[..sources], answer)
 }
 
@@ -173,15 +173,15 @@ pub fn solve(table: &[u16], answer: &mut [u16], work: &mut [u16]) -> Record
     ensures work { λ _. ⌜ now (work .exit) ≡ workAfter (now (table .entry)) (length (now (answer .entry))) (now (work .entry)) ⌝ }
 {
     if answer.len() < MEMORY {
-        return terms::refuse(10, 0);
+        return records::refuse(10, 0);
     }
     if work.len() < MEMORY {
-        return terms::refuse(10, 0);
+        return records::refuse(10, 0);
     }
     let mut widths = [0u16; 512];
-    let fault = terms::check(table, &mut widths[..]);
-    if !terms::accepted(fault) {
-        return terms::fault_record(fault);
+    let fault = checker::check(table, &mut widths[..]);
+    if !records::accepted(fault) {
+        return records::fault_record(fault);
     }
     let found = solve_accepted(table, &widths[..], answer, work);
     clear(work);
@@ -201,7 +201,7 @@ fn first_row(used: &[u16], variable: usize) -> usize
 {
     let mut i = 0;
     while i < used.len() / 4 {
-        if terms::wide(used[i * 4]) == variable {
+        if numbers::wide(used[i * 4]) == variable {
             return i;
         }
         i += 1;
@@ -215,7 +215,7 @@ fn rows_on(used: &[u16], variable: usize, first: usize) -> usize
 {
     let mut i = first;
     while i < used.len() / 4 {
-        if terms::wide(used[i * 4]) != variable {
+        if numbers::wide(used[i * 4]) != variable {
             return i - first;
         }
         i += 1;

@@ -12,12 +12,13 @@ use Rattle.terms.specs.declared.Row.{Row}
 use Rattle.terms.specs.declared.Fault.{Fault}
 use Rattle.terms.specs.declared.Fault.the-variants.{Accepted, Shape, Kind, Unused, Named, Width, Bounds, Count, Sides}
 use Rattle.terms.specs.Table.{rowsOf, rowAt, widthsOf, widthOf}
-use Rattle.terms.specs.Calls.{faultNumber, overwrite}
+use Rattle.terms.specs.Calls.{faultNumber}
+use Rattle.laws.specs.Buffers.{overwrite}
 use Rattle.terms.specs.Faults.{nonzero, breaks11, isAccepted, lowestFault, firstFault, faultIn, rowsBefore, rowsPassed, notTerm, absent}
-use Rattle.terms.proofs.Cases.{not-both, or-first, or-second}
+use Rattle.laws.proofs.Bools.{not-both, or-first, or-second}
 use Rattle.terms.proofs.Faults.{passed-from, term, Term}
 use Rattle.terms.proofs.Values.{Sound}
-use Rattle.terms.proofs.Buffers.{overwrite-read}
+use Rattle.laws.proofs.Buffers.{overwrite-read}
 use Rattle.terms.proofs.Widths.{widths-count}
 
 pub fault-none : (f : Fault) → isAccepted f ≡ true → f ≡ Accepted

@@ -12,7 +12,7 @@ use Rattle.terms.specs.declared.Fault.the-variants.{Accepted, Width, Bou
 use Rattle.terms.specs.Table.{rowsOf, byKind, byRows, widthIn, widthsOf, bitsIn, bitsOf, countKind}
 use Rattle.terms.specs.Faults.{breaks11, breaks12, breaks13, breaks14, breaks15, breaks16, breaks17, breaks18, unusedColumn, notTerm, misnamed, outside, wrongWidth, wrongBounds, tooMany, unequalSides, firstRule, faultAt, isAccepted, lowestFault, firstFault}
 use Rattle.terms.specs.Calls.{refusal, faultRecord}
-use Rattle.terms.proofs.Cases.{or-true}
+use Rattle.laws.proofs.Bools.{or-true}
 
 -- A variable of 1 to 1,024 bits is accepted.
 pub variable-accepted : (w : ℕ) → 1 ≤ w → w ≤ 1024 → firstFault (0 ∷ w ∷ 0 ∷ 0 ∷ []) ≡ Accepted

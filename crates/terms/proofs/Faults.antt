@@ -13,7 +13,9 @@ use Rattle.terms.specs.declared.Fault.{Fault}
 use Rattle.terms.specs.declared.Fault.the-variants.{Accepted}
 use Rattle.terms.specs.Table.{rowAt, byKind, widthIn, widthOf, bitsOf, countKind}
 use Rattle.terms.specs.Faults.{breaks12, breaks13, breaks14, breaks15, breaks16, breaks17, breaks18, notTerm, misnamed, outside, wrongWidth, wrongBounds, tooMany, unequalSides, firstRule, faultAt, isAccepted, lowestFault, rowsBefore}
-use Rattle.terms.proofs.Cases.{else-kind, KindOf, is-variable, is-constant, is-concat, is-extract, is-equation, kind-of, not-both, or-first, or-second, lt-or-le}
+use Rattle.terms.proofs.RowKinds.{else-kind, KindOf, is-variable, is-constant, is-concat, is-extract, is-equation, kind-of}
+use Rattle.laws.proofs.Bools.{not-both, or-first, or-second}
+use Rattle.laws.proofs.Numbers.{lt-or-le}
 use Rattle.terms.proofs.Widths.{width-row}
 
 pub record AllKept (b12 b13 b14 b15 b16 b17 b18 : Bool) : Type 0 where

@@ -1,12 +1,7 @@
-pub mod Lists
-pub mod Cases
 pub mod Rows
 pub mod ByRows
-pub mod Buffers
 pub mod Widths
 pub mod Faults
-pub mod Checking
-pub mod Placing
 pub mod Words
 pub mod Values
 pub mod Sources
@@ -16,3 +11,6 @@ pub mod AcceptedTable
 pub mod Equations
 pub mod Satisfies
 pub mod Separation
+pub mod RowKinds
+pub mod RowNumbers
+pub mod ValueCall

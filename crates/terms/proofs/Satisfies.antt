@@ -9,7 +9,8 @@ use lib.ListN.{length, getD}
 use borrow.Author.Tests.{eqb-true, eq-eqb}
 use Rattle.terms.specs.declared.Row.{Row}
 use Rattle.terms.specs.Table.{rowAt, valuesOf, valueOf, sameWord, sidesAgree, allRows, satisfies}
-use Rattle.terms.proofs.Cases.{each-kind, else-kind, not-both}
+use Rattle.terms.proofs.RowKinds.{each-kind, else-kind}
+use Rattle.laws.proofs.Bools.{not-both}
 
 both : (a b : Bool) → a && b ≡ true → (a ≡ true) × (b ≡ true)
 both true b h = (refl, h)

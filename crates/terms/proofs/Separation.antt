@@ -8,10 +8,12 @@ use native.Mathlib.Omega.{arith}
 use lib.ListN.{length, getD, take, drop, replicate, set, length-replicate, length-set, getD-replicate}
 use lib.Seq.{getD-set-same, getD-set-other}
 use Rattle.terms.specs.declared.Row.{Row}
-use Rattle.terms.specs.Table.{rowAt, bitsOf, bitOf, countUp, extract, sourcesOf, sourceOf, valueOf}
+use Rattle.terms.specs.Table.{rowAt, bitsOf, bitOf, extract, sourcesOf, sourceOf, valueOf}
+use Rattle.laws.specs.Lists.{countUp}
 use Rattle.terms.specs.Assignments.{Assignment}
 use Rattle.terms.proofs.Assignments.{assignment-of, assignment-length}
-use Rattle.terms.proofs.Cases.{KindOf, is-variable, is-constant, is-concat, is-extract, is-equation, kind-of, by-strong, lt-or-le}
+use Rattle.terms.proofs.RowKinds.{KindOf, is-variable, is-constant, is-concat, is-extract, is-equation, kind-of}
+use Rattle.laws.proofs.Numbers.{by-strong, lt-or-le}
 use Rattle.terms.proofs.Faults.{Kept, kept, kept-names, kept-bit, concat-names, extract-names}
 use Rattle.terms.proofs.Sources.{value-sources}
 use Rattle.terms.proofs.Values.{Sound, value-variable, value-constant, value-concat, value-extract, value-equation}

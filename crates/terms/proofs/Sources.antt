@@ -5,11 +5,13 @@ use Prim.Native.Nat.{ℕ, zero, suc, _+_, _-_, _<_, _≤_}
 use native.Mathlib.Omega.{arith}
 use lib.ListN.{length, getD, take, drop, replicate}
 use Rattle.terms.specs.declared.Row.{Row}
-use Rattle.terms.specs.Table.{rowAt, bitsOf, extract, valueOf, bitOf, countUp, sourcesOf, sourceOf, widthOf}
-use Rattle.terms.proofs.Cases.{KindOf, is-variable, is-constant, is-concat, is-extract, is-equation, kind-of, by-strong}
+use Rattle.terms.specs.Table.{rowAt, bitsOf, extract, valueOf, bitOf, sourcesOf, sourceOf, widthOf}
+use Rattle.laws.specs.Lists.{countUp}
+use Rattle.terms.proofs.RowKinds.{KindOf, is-variable, is-constant, is-concat, is-extract, is-equation, kind-of}
+use Rattle.laws.proofs.Numbers.{by-strong}
 use Rattle.terms.proofs.Faults.{Kept, kept, kept-names, kept-bit, concat-names, extract-names}
 use Rattle.terms.proofs.Values.{Sound, value-length, value-variable, value-constant, value-concat, value-extract, value-equation}
-use Rattle.terms.proofs.Lists.{map-append, map-take, map-drop, map-replicate, read-places}
+use Rattle.laws.proofs.Lists.{map-append, map-take, map-drop, map-replicate, read-places}
 use Rattle.terms.proofs.Words.{extract-map}
 
 -- the places of an assignment have its bits

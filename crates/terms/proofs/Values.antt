@@ -8,7 +8,8 @@ use lib.ListN.{length, getD, take, drop, replicate, length-append, length-drop, 
 use lib.Seq.{length-take-le}
 use Rattle.terms.specs.declared.Row.{Row}
 use Rattle.terms.specs.Table.{rowAt, byKind, widthIn, widthOf, bitsIn, bitsOf, extract, valueIn, valuesOf, valueOf}
-use Rattle.terms.proofs.Cases.{else-kind, KindOf, is-variable, is-constant, is-concat, is-extract, is-equation, kind-of, by-strong}
+use Rattle.terms.proofs.RowKinds.{else-kind, KindOf, is-variable, is-constant, is-concat, is-extract, is-equation, kind-of}
+use Rattle.laws.proofs.Numbers.{by-strong}
 use Rattle.terms.proofs.ByRows.{rows-count, rows-early, rows-at}
 use Rattle.terms.proofs.Widths.{width-row, width-early, bits-more}
 use Rattle.terms.proofs.Faults.{Kept, kept, Passed, kept-names, kept-bounds, concat-names, extract-names}

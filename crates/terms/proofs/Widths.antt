@@ -9,7 +9,7 @@ use lib.ListN.{length, getD, take}
 use lib.Seq.{take-suc}
 use Rattle.terms.specs.declared.Row.{Row}
 use Rattle.terms.specs.Table.{rowAt, noRow, widthIn, widthsOf, widthOf, bitsIn, bitsOf, startsOf, countKind}
-use Rattle.terms.proofs.Cases.{kind-same}
+use Rattle.terms.proofs.RowKinds.{kind-same}
 use Rattle.terms.proofs.ByRows.{rows-count, rows-early, rows-more, rows-at}
 
 pub widths-count : (t : List Row) → length (widthsOf t) ≡ length t

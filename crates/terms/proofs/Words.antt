@@ -7,7 +7,7 @@ use native.Mathlib.Omega.{arith}
 use lib.ListN.{length, getD, take, drop, replicate, length-append, length-take, length-drop, length-map, length-replicate, getD-replicate}
 use lib.Seq.{take-all, take-nil, take-append-le, take-append-add, drop-append-le, drop-append-add, take-add, take-take, drop-drop, getD-take, getD-drop, ext-getD}
 use Rattle.terms.specs.Table.{extract}
-use Rattle.terms.proofs.Lists.{map-take, map-drop}
+use Rattle.laws.proofs.Lists.{map-take, map-drop}
 
 drop-take : (m n : ℕ) (w : List ℕ) → drop m (take (n + m) w) ≡ take n (drop m w)
 drop-take zero n w = let all : n + 0 ≡ n = omega arith in rw all

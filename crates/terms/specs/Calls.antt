@@ -1,9 +1,7 @@
 -- What calls return and leave in buffers (document 01, "Where a call stops").
-use mathlib.Core.Path.{_≡_}
 use mathlib.Core.Bool.{Bool, cond}
-use mathlib.Core.List.{List, [], _∷_, _++_}
-use Prim.Native.Nat.{ℕ, _+_, _≤_}
-use lib.ListN.{length}
+use mathlib.Core.List.{List, [], _∷_}
+use Prim.Native.Nat.{ℕ}
 use Rattle.terms.specs.declared.Record.{Record}
 use Rattle.terms.specs.declared.Fault.{Fault}
 use Rattle.terms.specs.declared.Fault.the-variants.{Accepted, Shape, Kind, Unused, Named, Width, Bounds, Count, Sides}
@@ -46,19 +44,3 @@ faultRecord f = refusal (faultNumber f) (faultRow f)
 unfoldable pub stopAt : List (Bool × Record) → Record → Record
 stopAt [] accepted = accepted
 stopAt (s ∷ stops) accepted = cond (s .0) (s .1) (stopAt stops accepted)
-
--- A buffer after `new` was written to its beginning, as far as it reaches: what follows keeps its content.
-unfoldable pub overwrite : List ℕ → List ℕ → List ℕ
-overwrite [] old = old
-overwrite (x ∷ new) [] = []
-overwrite (x ∷ new) (y ∷ old) = x ∷ overwrite new old
-
--- The n numbers xs stand in front of what was there before.
-pub record Written (xs base : List ℕ) (n : ℕ) (out : List ℕ) : Type 0 where
-  pub counted : n ≡ length xs
-  pub numbers : out ≡ overwrite xs base
-
--- New numbers were written behind those that were there, if there is room.
-abbrev pub Behind : List ℕ → ℕ → List ℕ → ℕ → List ℕ → Type 0
-Behind new n out m out′ =
-    (earlier base : List ℕ) → length earlier + length new ≤ length base → Written earlier base n out → Written (earlier ++ new) base m out′

@@ -2,3 +2,4 @@ pub mod Table
 pub mod Faults
 pub mod Assignments
 pub mod Calls
+pub mod Value

@@ -6,6 +6,7 @@ use Prim.Native.Nat.{ℕ, zero, suc, _+_, _-_}
 use lib.Dec.{eqb}
 use lib.ListN.{length, getD, take, drop, replicate}
 use Rattle.terms.specs.declared.Row.{Row}
+use Rattle.laws.specs.Lists.{countUp}
 
 -- The numbers of a table as rows of kind, a, b, c.
 unfoldable pub rowsOf : List ℕ → List Row
@@ -14,6 +15,11 @@ rowsOf (k ∷ []) = []
 rowsOf (k ∷ a ∷ []) = []
 rowsOf (k ∷ a ∷ b ∷ []) = []
 rowsOf (k ∷ a ∷ b ∷ c ∷ t) = record { kind = k; a = a; b = b; c = c } ∷ rowsOf t
+
+-- Rows as a table is written: four numbers each, in the order kind, a, b, c.
+unfoldable pub rowNumbers : List Row → List ℕ
+rowNumbers [] = []
+rowNumbers (r ∷ rs) = r .kind ∷ r .a ∷ r .b ∷ r .c ∷ rowNumbers rs
 
 -- What is read past the end of a table.
 abbrev pub noRow : Row
@@ -98,11 +104,6 @@ valueOf t p r = getD (valuesOf t p) r []
 -- The bit of source s under p:
 unfoldable pub bitOf : List ℕ → ℕ → ℕ
 bitOf p s = getD (0 ∷ 1 ∷ p) s 0
-
--- k, k + 1, .., n numbers in all.
-unfoldable pub countUp : ℕ → ℕ → List ℕ
-countUp k zero = []
-countUp k (suc n) = k ∷ countUp (suc k) n
 
 -- Each row's bits as sources: its value where each place has its own source for a bit.
 unfoldable pub sourcesOf : List Row → List (List ℕ)

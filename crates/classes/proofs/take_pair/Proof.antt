@@ -3,7 +3,6 @@ use mathlib.Core.Path.{sym, _∙_}
 use native.Mathlib.Omega.{arith}
 use Rattle.classes.proofs.Roots.{found-rel, taken-is, taken-tie}
 use Rattle.classes.proofs.Links.{link-same, link-conflict}
-use borrow.Author.Needs.{needs}
 use Rattle.classes.proofs.take_pair.Statement.{statement}
 use Rattle.classes.proofs.take_pair.Tie as tie
 

@@ -50,7 +50,7 @@ use denote.Triple.Walked.{Stays, stay-none-slice, gave-slice, walkOf, goes-none-
 use denote.Exit.{yes}
 use Rattle.terms.specs.declared.Record.{Record}
 use Rattle.terms.specs.declared.Row.{Row}
-use Rattle.terms.specs.Calls.{overwrite}
+use Rattle.laws.specs.Buffers.{overwrite}
 use Rattle.terms.proofs.Record as O
 use Rattle.terms.proofs.Record.Laws as O′
 use Rattle.terms.proofs.Row as T
@@ -59,7 +59,7 @@ use Rattle.solver.proofs.solve as called
 use Rattle.solver.proofs.solve.Symbol as called-def
 use Rattle.solver.proofs.solve.Symbol.{name as #solver·solve}
 use Rattle.solver.proofs.solve.Met as called-thm
-use Rattle.sheets.specs.Sheet.{rowNumbers}
+use Rattle.terms.specs.Table.{rowNumbers}
 use Rattle.rows.specs.Held.{held}
 use Rattle.rows.proofs.Held.{held-room}
 use Rattle.rows.proofs.Facts.{says-three, number-is}

@@ -1,6 +1,6 @@
 -- `linkwords::lw_value_rows` meets its contract: a walk of its MIR, by hand. The area, a local array of 2,052 numbers, is made and taken
 -- apart into its numbers (`LocalArray.antt`). It is lent as a slice to `rows::flatten`, and then its part in use as a `&` to
--- `values::value`, each for a lifetime that is made for the call. What the caller lends as `&mut` goes to that call for good. At the end
+-- `evaluator::value`, each for a lifetime that is made for the call. What the caller lends as `&mut` goes to that call for good. At the end
 -- the area is room again.
 -- What the call says of the part in use it says of all rows (`RowsHeld.antt`). Assumes nothing.
 use mathlib.Core.Path.{_≡_, refl, sym, _∙_, ap}
@@ -50,16 +50,16 @@ use denote.Triple.Walked.{Stays, stay-none, stay-none-slice, gave-slice, walkOf,
 use denote.Exit.{yes}
 use Rattle.terms.specs.declared.Record.{Record}
 use Rattle.terms.specs.declared.Row.{Row}
-use Rattle.terms.specs.Calls.{overwrite}
+use Rattle.laws.specs.Buffers.{overwrite}
 use Rattle.terms.proofs.Record as O
 use Rattle.terms.proofs.Record.Laws as O′
 use Rattle.terms.proofs.Row as T
-use Rattle.values.specs.Value.{valueRecord, valueAfter}
-use Rattle.values.proofs.value as called
-use Rattle.values.proofs.value.Symbol as called-def
-use Rattle.values.proofs.value.Symbol.{name as #values·value}
-use Rattle.values.proofs.value.Met as called-thm
-use Rattle.sheets.specs.Sheet.{rowNumbers}
+use Rattle.terms.specs.Value.{valueRecord, valueAfter}
+use Rattle.evaluator.proofs.value as called
+use Rattle.evaluator.proofs.value.Symbol as called-def
+use Rattle.evaluator.proofs.value.Symbol.{name as #evaluator·value}
+use Rattle.evaluator.proofs.value.Met as called-thm
+use Rattle.terms.specs.Table.{rowNumbers}
 use Rattle.rows.specs.Held.{held}
 use Rattle.rows.proofs.Held.{held-room}
 use Rattle.rows.proofs.Facts.{says-two, number-is}
@@ -165,7 +165,7 @@ module _ {M : Type 1} (𝓤 : URA M) (H : Heap 𝓤) (A : Atoms 𝓤) (W : Given
   roomy : (zs : List ℕ) → length zs ≤ 2052 → Room u16 (length zs)
   roomy zs e = (omega (arith, e), omega (arith, e))
 
-  module _ (𝓣 : Tables 𝓤 H) (known-flat : Triple 𝓤 (𝓣 .C #rows·flatten) (Flatten 𝓤 H A at-mem run)) (known-call : Triple 𝓤 (𝓣 .C #values·value) (Value 𝓤 H A at-mem run)) (l₀ l₁ l₂ l₃ l₄ l₅ l₆ l₇ l₈ l₉ l₁₀ l₁₁ l₁₂ : ℕ) where
+  module _ (𝓣 : Tables 𝓤 H) (known-flat : Triple 𝓤 (𝓣 .C #rows·flatten) (Flatten 𝓤 H A at-mem run)) (known-call : Triple 𝓤 (𝓣 .C #evaluator·value) (Value 𝓤 H A at-mem run)) (l₀ l₁ l₂ l₃ l₄ l₅ l₆ l₇ l₈ l₉ l₁₀ l₁₁ l₁₂ : ℕ) where
     abbrev C : Calls 𝓤 H
     C = 𝓣 .C
 
@@ -285,7 +285,7 @@ module _ {M : Type 1} (𝓤 : URA M) (H : Heap 𝓤) (A : Atoms 𝓤) (W : Given
         forget ! 18 refl $ forget ! 16 refl $ keep ! (0 ∷ 2 ∷ 6 ∷ 5 ∷ 7 ∷ 8 ∷ 9 ∷ 10 ∷ 11 ∷ 12 ∷ 13 ∷ 14 ∷ 15 ∷ 16 ∷ 17 ∷ 18 ∷ 19 ∷ 20 ∷ 21 ∷ 22 ∷ 23 ∷ 24 ∷ 25 ∷ 26 ∷ 27 ∷ 28 ∷ 29 ∷ 30 ∷ 31 ∷ 32 ∷ []) $
         calls (ws .1 .0) r (len ∙ room) (count ∙ ap (λ (n : ℕ). length (held ys n)) room) (copied ∙ ap (λ (n : ℕ). overwrite (held ys n) zs) room ∙ ap (overwrite (held ys 2052)) made))))))))))
 
-  module _ (𝓣 : Tables 𝓤 H) (known-flat : Triple 𝓤 (𝓣 .C #rows·flatten) (Flatten 𝓤 H A at-mem run)) (known-call : Triple 𝓤 (𝓣 .C #values·value) (Value 𝓤 H A at-mem run)) where
+  module _ (𝓣 : Tables 𝓤 H) (known-flat : Triple 𝓤 (𝓣 .C #rows·flatten) (Flatten 𝓤 H A at-mem run)) (known-call : Triple 𝓤 (𝓣 .C #evaluator·value) (Value 𝓤 H A at-mem run)) where
     walk : ent 𝓤 (onEntry 𝓤 H A f.signature (κ, (κ₁, (κ₂, tt))) (q, (q₁, (q₂, tt))) x at) (WpFn 𝓤 H (𝓣 .C) (𝓣 .Λ) code.function (sr ∷ vint w64 row ∷ s₁ ∷ s₂ ∷ []) Post)
     walk =
         qed W ((‵ (flft κ q) ⊛ ‵ (flft κ₁ q₁) ⊛ ‵ (flft κ₂ q₂) ⊛ ‵ ftrue) ∷ ‵ (owns (ShrSlice (named 0) κ R ∷ usize ∷ ShrSlice (named 1) κ₁ u8 ∷ MutSlice (named 2) κ₂ u8 ∷ []) x at) ∷ []) ∵ enter ! (𝓣 .C) (𝓣 .Λ) code.function (sr ∷ vint w64 row ∷ s₁ ∷ s₂ ∷ []) _ $
@@ -299,7 +299,7 @@ module _ {M : Type 1} (𝓤 : URA M) (H : Heap 𝓤) (A : Atoms 𝓤) (W : Given
         move ! (15 ∷ 0 ∷ []) $ use2 W (‵ (fsep (feq ℕ (length zeros) 2052) (cells (mem u16) zeros l₅ 0))) (apart 𝓤 H A W 2052 l₅ zeros (arrayVal (replicate 2052 (vint w16 0)) ∷ [])) $ fsplit ! $ feqL ! (λ room.
         move ! (27 ∷ []) $ fsplit ! $ move ! (28 ∷ []) $ split ! $ keep ! (4 ∷ 0 ∷ 1 ∷ 2 ∷ 3 ∷ 5 ∷ 6 ∷ 7 ∷ 8 ∷ 9 ∷ 10 ∷ 11 ∷ 12 ∷ 13 ∷ 14 ∷ 15 ∷ 16 ∷ 17 ∷ 18 ∷ 19 ∷ 20 ∷ 21 ∷ 22 ∷ 23 ∷ 24 ∷ 25 ∷ 26 ∷ 27 ∷ 28 ∷ 29 ∷ []) $ copies 𝓣 known-flat known-call l₀ l₁ l₂ l₃ l₄ l₅ l₆ l₇ l₈ l₉ l₁₀ l₁₁ l₁₂ zeros room refl)))))))))))))))
 
-module _ {M : Type 1} (𝓤 : URA M) (H : Heap 𝓤) (A : Atoms 𝓤) (W : Given 𝓤 H A) (at-mem : Memory → SProp 𝓤) (run : Routine → Fun 𝓤) (𝓣 : Tables 𝓤 H) (known-flat : Triple 𝓤 (𝓣 .C #rows·flatten) (Flatten 𝓤 H A at-mem run)) (known-call : Triple 𝓤 (𝓣 .C #values·value) (Value 𝓤 H A at-mem run)) where
+module _ {M : Type 1} (𝓤 : URA M) (H : Heap 𝓤) (A : Atoms 𝓤) (W : Given 𝓤 H A) (at-mem : Memory → SProp 𝓤) (run : Routine → Fun 𝓤) (𝓣 : Tables 𝓤 H) (known-flat : Triple 𝓤 (𝓣 .C #rows·flatten) (Flatten 𝓤 H A at-mem run)) (known-call : Triple 𝓤 (𝓣 .C #evaluator·value) (Value 𝓤 H A at-mem run)) where
   lw-value-rows-walks : Walks 𝓤 H A f.ended stayed (WpFn 𝓤 H (𝓣 .C) (𝓣 .Λ) code.function) (f.clauses 𝓤 H A at-mem run)
   lw-value-rows-walks = walked 𝓤 H A f.ended stayed (f.clauses 𝓤 H A at-mem run) (WpFn 𝓤 H (𝓣 .C) (𝓣 .Λ) code.function) (λ κs. (slice-vals, (uint-vals w64, (slice-vals, (slice-vals, tt))))) (λ κs. (shr-slice-tells (named 0) (κs .0) R, (uint-tells w64, (shr-slice-tells (named 1) (κs .1 .0) u8, (mut-slice-tells (named 2) (κs .1 .1 .0) u8, tt)))))
       (λ κs qs bounds a g are. via 𝓤 _ (fst∗ 𝓤 _ (emp 𝓤))
@@ -315,4 +315,4 @@ lw-value-rows-spec 𝓤 H 𝓜 𝓖 𝓡 =
     (tables 𝓤 H 𝓜 𝓡 code.env .C) (tables 𝓤 H 𝓜 𝓡 code.env .Λ) #linkwords·lw-value-rows code.function (code.unfolded 𝓤 H 𝓜 𝓡)
     (lw-value-rows-meets 𝓤 H (𝓖 .A) (givenOf 𝓤 H 𝓜 𝓖) (𝓜 .mem) (𝓡 .run) (tablesOf 𝓤 H 𝓜 (tables 𝓤 H 𝓜 𝓡 code.env))
     (cited 𝓤 H (Flatten 𝓤 H (𝓖 .A) (𝓜 .mem) (𝓡 .run)) 𝓜 𝓡 code.env #rows·flatten flat-def.routine code.calls-rows·flatten (flat-thm.met 𝓤 H 𝓜 𝓖 𝓡))
-    (cited 𝓤 H (Value 𝓤 H (𝓖 .A) (𝓜 .mem) (𝓡 .run)) 𝓜 𝓡 code.env #values·value called-def.routine code.calls-values·value (called-thm.met 𝓤 H 𝓜 𝓖 𝓡)))
+    (cited 𝓤 H (Value 𝓤 H (𝓖 .A) (𝓜 .mem) (𝓡 .run)) 𝓜 𝓡 code.env #evaluator·value called-def.routine code.calls-evaluator·value (called-thm.met 𝓤 H 𝓜 𝓖 𝓡)))

@@ -52,10 +52,10 @@ use denote.Triple.Walked.{Stays, stay-none-slice, stay-slice, walkOf, goes-none-
 use denote.Exit.{yes}
 use Rattle.terms.specs.declared.Row.{Row}
 use Rattle.terms.specs.Table.{noRow}
-use Rattle.terms.specs.Calls.{overwrite}
+use Rattle.laws.specs.Buffers.{overwrite}
 use Rattle.terms.proofs.Row as T
 use Rattle.terms.proofs.Row.Laws as T′
-use Rattle.sheets.specs.Sheet.{rowNumbers}
+use Rattle.terms.specs.Table.{rowNumbers}
 use Rattle.rows.specs.Held.{fitting, putWhole}
 use Rattle.rows.proofs.Held.{fitting-rows, fitting-room, held-fitting, held-length, put-first, put-next}
 use Rattle.rows.proofs.Facts.{says-two, number-is}

@@ -1,6 +1,6 @@
 -- `copy` meets its contract: i numbers are copied. Assumes nothing.
 use Rattle.sheets.proofs.Copying.{copy-more, copy-short}
-use Rattle.terms.specs.Calls.{overwrite}
+use Rattle.laws.specs.Buffers.{overwrite}
 use denote.Ref.{now}
 use lib.ListN.{length, take}
 use native.Mathlib.Omega.{arith}

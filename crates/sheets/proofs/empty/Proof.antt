@@ -1,6 +1,6 @@
 -- `empty` meets its contract. Assumes nothing.
 use mathlib.Core.Path.{refl}
-use Rattle.terms.specs.Calls.{overwrite}
+use Rattle.laws.specs.Buffers.{overwrite}
 use Rattle.sheets.specs.Print.{lineOf}
 use Rattle.sheets.proofs.empty.Statement.{statement}
 use Rattle.sheets.proofs.empty.Tie as tie

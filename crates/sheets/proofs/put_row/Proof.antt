@@ -1,5 +1,5 @@
 -- `put_row` meets its contract. Assumes nothing.
-use Rattle.sheets.specs.Sheet.{putRow}
+use Rattle.rows.specs.Held.{putRow}
 use lib.ListN.{set}
 use Prim.Native.Nat.{ℕ, _+_, _*_}
 use mathlib.Core.List.{List}

@@ -1,6 +1,7 @@
 -- `read_rows` meets its contract. Assumes nothing.
-use Rattle.sheets.specs.Sheet.{rowNumbers, sheetFound, sheetRows}
-use Rattle.terms.specs.Calls.{overwrite}
+use Rattle.terms.specs.Table.{rowNumbers}
+use Rattle.sheets.specs.Sheet.{sheetFound, sheetRows}
+use Rattle.laws.specs.Buffers.{overwrite}
 use borrow.Author.Tests.{lt-ltb, le-ltb}
 use mathlib.Core.Path.{sym, _∙_}
 use borrow.Author.Needs.{needs}

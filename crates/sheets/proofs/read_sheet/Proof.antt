@@ -1,10 +1,10 @@
 -- `read_sheet` meets its contract: each way in which it ends has its law in proofs/Copying.antt. Assumes nothing.
 use Rattle.sheets.proofs.Copying.{stop-sheet, stop-room, sheet-read}
 use Rattle.sheets.specs.Call.{sheetNumber, sheetRow, rowCount}
-use Rattle.terms.specs.Calls.{refusal, completed, overwrite}
+use Rattle.terms.specs.Calls.{refusal, completed}
+use Rattle.laws.specs.Buffers.{overwrite}
 use denote.Ref.{now}
 use lib.ListN.{take, replicate}
-use native.Mathlib.Omega.{arith}
 use Prim.Native.Nat.{ℕ, _*_}
 use mathlib.Core.List.{List}
 use mathlib.Core.Path.{refl, sym, _∙_, ap, ap₂}

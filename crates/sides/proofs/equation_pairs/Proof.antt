@@ -3,7 +3,7 @@ use Rattle.sides.proofs.EquationPairs.{no-pairs, left-there, right-ther
 use Rattle.terms.specs.declared.Row.{Row}
 use Rattle.terms.specs.Table.{rowsOf, sourceOf}
 use Rattle.terms.specs.Faults.{absent}
-use Rattle.terms.specs.Calls.{overwrite}
+use Rattle.laws.specs.Buffers.{overwrite}
 use denote.Ref.{now}
 use lib.ListN.{length, getD}
 use native.Mathlib.Omega.{arith}

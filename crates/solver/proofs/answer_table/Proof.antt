@@ -6,10 +6,11 @@ use native.Mathlib.Omega.{arith}
 use lib.ListN.{length, getD, take, replicate}
 use lib.Seq.{take-length, length-take-le}
 use denote.Ref.{now}
-use Rattle.terms.specs.Table.{rowsOf, bitsOf, countUp}
+use Rattle.terms.specs.Table.{rowsOf, bitsOf}
+use Rattle.laws.specs.Lists.{countUp}
 use Rattle.terms.proofs.AcceptedTable.{accepted-table}
 use Rattle.terms.proofs.Faults.{totals-small}
-use Rattle.forms.proofs.Numbering.{numbers-left}
+use Rattle.forms.proofs.Numbered.{numbers-left}
 use Rattle.sides.specs.Sides.{Prepared}
 use Rattle.solver.specs.Equations.{unlinked}
 use Rattle.solver.proofs.ShortCopy.{copy-length, copy-accepted, copy-bits, copy-prepared, copy-taken}

@@ -5,7 +5,7 @@ use Prim.Native.Nat.{_≤_, _-_}
 use native.Mathlib.Omega.{arith}
 use lib.ListN.{length, replicate}
 use denote.Ref.{now}
-use Rattle.terms.specs.Calls.{overwrite}
+use Rattle.laws.specs.Buffers.{overwrite}
 use Rattle.solver.proofs.Filling.{overwrite-none, clear-more, clear-all}
 use Rattle.solver.proofs.clear.Statement.{statement}
 use Rattle.solver.proofs.clear.Tie as tie

@@ -4,8 +4,8 @@ use mathlib.Core.Path.{_≡_, refl, _∙_}
 use Prim.Native.Nat.{_≤_, _-_}
 use native.Mathlib.Omega.{arith}
 use lib.ListN.{length}
-use Rattle.terms.specs.Table.{countUp}
-use Rattle.terms.specs.Calls.{overwrite}
+use Rattle.laws.specs.Lists.{countUp}
+use Rattle.laws.specs.Buffers.{overwrite}
 use Rattle.solver.proofs.Filling.{overwrite-none, unlink-more, unlink-all}
 use Rattle.solver.proofs.unlink.Statement.{statement}
 use Rattle.solver.proofs.unlink.Tie as tie

@@ -1,0 +1,206 @@
+-- The one pass of the check: with r rows passed, the widths' buffer has their widths, the totals count them, none of
+-- them breaks a rule, and the lowest fault of the rows left is that of the table.
+use mathlib.Core.Path.{_≡_, refl, sym, _∙_, ap, ap₂}
+use mathlib.Core.Bool.{Bool, true, false, not, _||_, cond}
+use mathlib.Core.List.{List}
+use Prim.Native.Nat.{ℕ, suc, _+_, _-_, _%_, _<_, _≤_}
+use native.Mathlib.Omega.{arith}
+use native.Mathlib.Numerals.{add-one}
+use borrow.Author.Tests.{lt-ltb, le-ltb, ne-eqb, eqb-true, eqb-false}
+use borrow.Author.Count.{below-more}
+use lib.Dec.{eqb, ltb}
+use lib.ListN.{length, getD, take, set}
+use lib.Seq.{length-take-le}
+use Rattle.terms.specs.declared.Row.{Row}
+use Rattle.terms.specs.declared.Fault.{Fault}
+use Rattle.terms.specs.declared.Fault.the-variants.{Accepted, Shape}
+use Rattle.terms.specs.Table.{rowsOf, rowAt, widthIn, widthsOf, widthOf, bitsIn, bitsOf, countKind}
+use Rattle.terms.specs.Faults.{breaks11, breaks12, breaks13, breaks14, breaks15, breaks16, breaks17, breaks18, unusedColumn, misnamed, wrongWidth, wrongBounds, tooMany, unequalSides, firstRule, faultAt, isAccepted, lowestFault, firstFault, faultIn, rowsBefore, rowsPassed}
+use Rattle.laws.specs.Buffers.{overwrite}
+use Rattle.terms.proofs.RowKinds.{kind-same}
+use Rattle.laws.proofs.Bools.{or-true}
+use Rattle.terms.proofs.Rows.{rows-length}
+use Rattle.laws.proofs.Buffers.{overwrite-length, overwrite-read, overwrite-more}
+use Rattle.terms.proofs.Widths.{widths-count, width-row, width-early, widths-more, width-same, bits-more, count-more}
+use Rattle.terms.proofs.Faults.{Passed, kept, kept-names, fault-row, same-fault, concat-names, extract-names, equation-names, widths-small, totals-small, lowest-past, lowest-here}
+
+-- a table of the wrong shape, or too little room: nothing is written
+pub wrong-shape : (room : ℕ) (table ws : List ℕ) → faultIn room table ≡ Shape → ws ≡ overwrite (widthsOf (rowsPassed room table)) ws
+unfolding rowsPassed overwrite widthsOf Rattle.terms.specs.Table.byRows
+wrong-shape room table ws e = rw e
+
+pub no-room : (room : ℕ) (table : List ℕ) → room < 512 → Shape ≡ faultIn room table
+unfolding faultIn
+no-room room table h = rw (lt-ltb room 512 h)
+
+pub not-whole : (room : ℕ) (table : List ℕ) → 512 ≤ room → (length table % 4 ≡ 0 → ⊥) → Shape ≡ faultIn room table
+unfolding faultIn firstFault breaks11
+not-whole room table h l = rw (le-ltb room 512 h, ne-eqb (length table % 4) 0 l)
+
+pub too-long : (room : ℕ) (table : List ℕ) → 512 ≤ room → 2048 < length table → Shape ≡ faultIn room table
+unfolding faultIn firstFault breaks11
+too-long room table h l = go (eqb (length table % 4) 0) refl
+  where
+    go : (b : Bool) → eqb (length table % 4) 0 ≡ b → Shape ≡ faultIn room table
+    go true e =
+        let n : 512 < length (rowsOf table) = omega (arith, rows-length table, eqb-true (length table % 4) 0 e) in
+        rw (le-ltb room 512 h, lt-ltb 512 (length (rowsOf table)) n, or-true)
+    go false e = not-whole room table h (eqb-false (length table % 4) 0 e)
+
+pub whole : (room : ℕ) (table : List ℕ) → 512 ≤ room → length table ≤ 2048 → length table % 4 ≡ 0
+    → faultIn room table ≡ lowestFault (rowsOf table) 0 (length (rowsOf table))
+unfolding faultIn firstFault breaks11
+whole room table h l m = let n : length (rowsOf table) ≤ 512 = omega (arith, rows-length table) in rw (le-ltb room 512 h, m, le-ltb 512 (length (rowsOf table)) n)
+
+pub record Checking (table ws₀ ws : List ℕ) (variables bits equations r : ℕ) : Type 0 where
+  pub within : r ≤ length (rowsOf table)
+  pub widths : ws ≡ overwrite (widthsOf (take r (rowsOf table))) ws₀
+  pub n-variables : variables ≡ countKind 0 (take r (rowsOf table))
+  pub n-bits : bits ≡ bitsOf (take r (rowsOf table))
+  pub n-equations : equations ≡ countKind 4 (take r (rowsOf table))
+  pub passed : Passed (rowsOf table) r
+  pub rest : lowestFault (rowsOf table) r (length (rowsOf table) - r) ≡ lowestFault (rowsOf table) 0 (length (rowsOf table))
+
+pub checking-first : (table ws₀ : List ℕ) → Checking table ws₀ ws₀ 0 0 0 0
+unfolding overwrite widthsOf Rattle.terms.specs.Table.byRows countKind bitsOf
+checking-first table ws₀ =
+    record {
+      within = omega arith;
+      widths = refl;
+      n-variables = refl;
+      n-bits = refl;
+      n-equations = refl;
+      passed = λ i h. absurd (omega arith);
+      rest = ap (lowestFault (rowsOf table) 0) (omega arith);
+    }
+
+module _ (table ws₀ ws : List ℕ) (variables bits equations r : ℕ) (k : Checking table ws₀ ws variables bits equations r)
+    (room : 512 ≤ length ws₀) (size : length table ≤ 2048) where
+  abbrev rows : List Row
+  rows = rowsOf table
+
+  few : length rows ≤ 512
+  few = omega (arith, rows-length table)
+
+  pub checking-length : length ws ≡ length ws₀
+  checking-length = ap length (k .widths) ∙ overwrite-length (widthsOf (take r rows)) ws₀
+
+  done-count : length (widthsOf (take r rows)) ≡ r
+  done-count = widths-count (take r rows) ∙ length-take-le r rows (k .within)
+
+  -- the buffer has the widths of the rows passed
+  pub checking-read : (i : ℕ) → i < r → getD ws i 0 ≡ widthOf rows i
+  checking-read i h =
+      ap (λ (l : List ℕ). getD l i 0) (k .widths)
+      ∙ overwrite-read (widthsOf (take r rows)) ws₀ i (omega (arith, done-count)) (omega (arith, few, k .within))
+      ∙ width-early rows r i (k .within) h
+
+  pub checking-totals : (variables ≤ 64) × (bits ≤ 4096) × (equations ≤ 64)
+  checking-totals = let s = totals-small rows r (k .passed) in (omega (arith, s .0, k .n-variables), omega (arith, s .1, k .n-bits), omega (arith, s .2, k .n-equations))
+
+  module _ (l : r < length rows) where
+    -- a row's width from the buffer
+    width-read : misnamed rows r (rowAt rows r) ≡ false → widthIn ws (rowAt rows r) ≡ widthOf rows r
+    width-read m =
+        let row = rowAt rows r in
+        width-same ws (widthsOf (take r rows)) row
+        (λ e.
+        let names = concat-names rows r row m e in
+        ap₂ _+_ (checking-read (row .a) (names .0 .earlier) ∙ sym (width-early rows r (row .a) (k .within) (names .0 .earlier)))
+        (checking-read (row .b) (names .1 .earlier) ∙ sym (width-early rows r (row .b) (k .within) (names .1 .earlier))))
+        ∙ sym (width-row rows r l)
+
+    bounds-read : misnamed rows r (rowAt rows r) ≡ false
+        → wrongBounds (rowAt rows r) (getD ws (rowAt rows r .a) 0) ≡ wrongBounds (rowAt rows r) (widthOf rows (rowAt rows r .a))
+    unfolding wrongBounds
+    bounds-read m =
+        let row = rowAt rows r in
+        kind-same (row .kind) (λ e. refl) (λ e. refl) (λ e. refl)
+        (λ e. ap (λ (w : ℕ). not (ltb (row .b) w) || ltb (row .b) (row .c)) (checking-read (row .a) (extract-names rows r row m e .earlier)))
+        (λ e. refl)
+
+    sides-read : misnamed rows r (rowAt rows r) ≡ false
+        → unequalSides (rowAt rows r) (getD ws (rowAt rows r .a) 0) (getD ws (rowAt rows r .b) 0)
+        ≡ unequalSides (rowAt rows r) (widthOf rows (rowAt rows r .a)) (widthOf rows (rowAt rows r .b))
+    unfolding unequalSides
+    sides-read m =
+        let row = rowAt rows r in
+        kind-same (row .kind) (λ e. refl) (λ e. refl) (λ e. refl) (λ e. refl)
+        (λ e.
+        let names = equation-names rows r row m e in
+        ap₂ (λ (v w : ℕ). not (eqb v w)) (checking-read (row .a) (names .0 .earlier)) (checking-read (row .b) (names .1 .earlier)))
+
+    totals-are : tooMany (variables + cond (eqb (rowAt rows r .kind) 0) 1 0) (bits + bitsIn (rowAt rows r)) (equations + cond (eqb (rowAt rows r .kind) 4) 1 0) ≡ breaks17 rows r
+    unfolding breaks17
+    totals-are = rw (k .n-variables, k .n-bits, k .n-equations, count-more 0 rows r l, bits-more rows r l, count-more 4 rows r l)
+
+    -- what the code asks of row r is the row's fault
+    pub checking-fault : firstRule r (ltb 4 (rowAt rows r .kind)) (unusedColumn (rowAt rows r)) (misnamed rows r (rowAt rows r))
+        (wrongWidth (rowAt rows r) (widthIn ws (rowAt rows r)))
+        (wrongBounds (rowAt rows r) (getD ws (rowAt rows r .a) 0))
+        (tooMany (variables + cond (eqb (rowAt rows r .kind) 0) 1 0) (bits + bitsIn (rowAt rows r)) (equations + cond (eqb (rowAt rows r .kind) 4) 1 0))
+        (unequalSides (rowAt rows r) (getD ws (rowAt rows r .a) 0) (getD ws (rowAt rows r .b) 0))
+        ≡ faultAt rows r
+    unfolding faultAt breaks12 breaks13 breaks14 breaks15 breaks16 breaks18
+    checking-fault =
+        same-fault r (breaks12 rows r) (breaks13 rows r) (breaks14 rows r) _ _ _ _ (breaks15 rows r) (breaks16 rows r) (breaks18 rows r)
+        (λ m. ap (wrongWidth (rowAt rows r)) (width-read m)) bounds-read sides-read
+        ∙ ap (λ (b : Bool). firstRule r (breaks12 rows r) (breaks13 rows r) (breaks14 rows r) (breaks15 rows r) (breaks16 rows r) b (breaks18 rows r)) totals-are
+
+    pub checking-answer : (row : Row) (v b e : ℕ) (f : Fault) → row ≡ rowAt rows r
+        → v ≡ variables + cond (eqb (row .kind) 0) 1 0 → b ≡ bits + bitsIn row → e ≡ equations + cond (eqb (row .kind) 4) 1 0
+        → f ≡ firstRule (r % 65536) (ltb 4 (row .kind)) (unusedColumn row) (misnamed rows r row) (wrongWidth row (widthIn ws row))
+        (wrongBounds row (getD ws (row .a) 0)) (tooMany v b e) (unequalSides row (getD ws (row .a) 0) (getD ws (row .b) 0))
+        → f ≡ faultAt rows r
+    checking-answer row v b e f er ev eb ee ef = let small : r % 65536 ≡ r = omega (arith, few) in ef ∙ rw (small, ev, eb, ee, er) checking-fault
+
+    -- one more row passed
+    pub checking-more : isAccepted (faultAt rows r) ≡ true → (row : Row) (v b e w : ℕ) → row ≡ rowAt rows r
+        → v ≡ variables + cond (eqb (row .kind) 0) 1 0 → b ≡ bits + bitsIn row → e ≡ equations + cond (eqb (row .kind) 4) 1 0
+        → w ≡ widthIn ws row % 65536
+        → Checking table ws₀ (set ws r w) v b e (r + 1)
+    checking-more a row v b e w er ev eb ee ew =
+        let ev′ = rw er at ev in
+        let eb′ = rw er at eb in
+        let ee′ = rw er at ee in
+        let ew′ = rw er at ew in
+        let now-passed : Passed rows (suc r) = λ i h. below-more (λ (j : ℕ). isAccepted (faultAt rows j) ≡ true) r (k .passed) a i (omega arith) in
+        let m = kept-names rows r (kept rows r a) in
+        let w-is : w ≡ widthOf rows r = omega (arith, widths-small rows (suc r) l now-passed r (omega arith), width-read m) in
+        rw add-one
+        (record {
+          within = l;
+          widths =
+              ap₂ (λ (o : List ℕ) (x : ℕ). set o r x) (k .widths) (w-is ∙ width-row rows r l)
+              ∙ overwrite-more (widthsOf (take r rows)) ws₀ (widthIn (widthsOf (take r rows)) (rowAt rows r)) r done-count
+              ∙ ap (λ (n : List ℕ). overwrite n ws₀) (sym (widths-more rows r l));
+          n-variables = omega (arith, count-more 0 rows r l, k .n-variables);
+          n-bits = omega (arith, bits-more rows r l, k .n-bits);
+          n-equations = omega (arith, count-more 4 rows r l, k .n-equations);
+          passed = now-passed;
+          rest = sym (ap (lowestFault rows r) (omega arith) ∙ lowest-past rows r (length rows - suc r) a) ∙ k .rest;
+        })
+
+    -- a row that breaks a rule ends the check
+    pub checking-ends : isAccepted (faultAt rows r) ≡ false → lowestFault rows 0 (length rows) ≡ faultAt rows r
+    checking-ends a = sym (k .rest) ∙ ap (lowestFault rows r) {x = length rows - r} {y = suc (length rows - suc r)} (omega arith) ∙ lowest-here rows r (length rows - suc r) a
+
+    pub checking-written : isAccepted (faultAt rows r) ≡ false → faultIn (length ws₀) table ≡ faultAt rows r
+        → ws ≡ overwrite (widthsOf (rowsPassed (length ws₀) table)) ws₀
+    unfolding rowsPassed faultAt
+    checking-written a e =
+        k .widths
+        ∙ ap (λ (n : ℕ). overwrite (widthsOf (take n rows)) ws₀)
+        (sym (ap (λ (f : Fault). rowsBefore f (length rows)) e
+        ∙ fault-row r (length rows) (breaks12 rows r) (breaks13 rows r) (breaks14 rows r) (breaks15 rows r) (breaks16 rows r) (breaks17 rows r) (breaks18 rows r) a))
+
+  -- no row left
+  pub checking-accepts : length rows ≤ r → lowestFault rows 0 (length rows) ≡ Accepted
+  unfolding lowestFault
+  checking-accepts h = sym (k .rest) ∙ ap (lowestFault rows r) {x = length rows - r} {y = 0} (omega arith)
+
+  pub checking-all : length rows ≤ r → faultIn (length ws₀) table ≡ Accepted → ws ≡ overwrite (widthsOf (rowsPassed (length ws₀) table)) ws₀
+  unfolding rowsPassed
+  checking-all h e =
+      k .widths
+      ∙ ap (λ (n : ℕ). overwrite (widthsOf (take n rows)) ws₀) (let same : r ≡ length rows = omega (arith, k .within) in same ∙ sym (ap (λ (f : Fault). rowsBefore f (length rows)) e))

@@ -1,0 +1,28 @@
+-- `bad_sides` meets its contract: rule 18, kind by kind. Assumes nothing.
+use Rattle.terms.specs.Faults.{unequalSides}
+use Rattle.terms.proofs.RowKinds.{each-kind}
+use mathlib.Core.Path.{refl}
+use native.Mathlib.Omega.{arith}
+use borrow.Author.Tests.{eq-eqb, ne-eqb}
+use Rattle.checker.proofs.bad_sides.Statement.{statement}
+use Rattle.checker.proofs.bad_sides.Tie as tie
+
+-- src/lib.rt:253:9
+returns : tie.Need-returns
+unfolding unequalSides
+returns c = each-kind _ _ (λ h. refl) (λ h. refl) (λ h. refl) (λ h. refl) (λ h. absurd (omega arith))
+
+-- src/lib.rt:256:9
+returns-2 : tie.Need-returns-2
+unfolding unequalSides
+returns-2 c =
+    each-kind _ _ (λ h. absurd (omega arith)) (λ h. absurd (omega arith)) (λ h. absurd (omega arith)) (λ h. absurd (omega arith))
+    (λ h. rw (ne-eqb _ _ (c .if2 .taken)))
+
+-- src/lib.rt:248:1
+returns-3 : tie.Need-returns-3
+unfolding unequalSides
+returns-3 c = each-kind _ _ (λ h. refl) (λ h. refl) (λ h. refl) (λ h. refl) (λ h. rw (eq-eqb _ _ (c .if2 .left)))
+
+pub bad-sides-spec : {M : Type 1} → statement M
+bad-sides-spec = tie.close (tie.spec returns returns-2 returns-3)

@@ -1,0 +1,182 @@
+-- `row_fault` meets its contract: the rules are asked in document 01's order. Assumes nothing.
+use mathlib.Core.Path.{_≡_, sym, _∙_, ap, ap₂}
+use mathlib.Core.Bool.{false}
+use lib.Dec.{ltb}
+use lib.ListN.{getD}
+use denote.Ref.{now}
+use borrow.Author.Tests.{lt-ltb, le-ltb}
+use Rattle.terms.specs.declared.Fault.the-variants.{Kind, Unused, Named, Width, Bounds, Count, Sides}
+use Rattle.terms.specs.Table.{rowsOf, widthIn}
+use Rattle.terms.specs.Faults.{unusedColumn, misnamed, wrongWidth, wrongBounds, tooMany, unequalSides, firstRule}
+use borrow.Author.Needs.{needs}
+use Rattle.checker.proofs.row_fault.Statement.{statement}
+use Rattle.checker.proofs.row_fault.Tie as tie
+
+-- what the answer of each rule says of the row
+kept-12 : (d : tie.Else1) → ltb 4 (d .before .before .before .before .args .row .kind) ≡ false
+kept-12 d = le-ltb _ _ (d .if1 .left)
+
+said-13 : (d : tie.After-unused) → unusedColumn (d .before .before .before .before .before .args .row) ≡ d .unused .result
+said-13 d = sym (d .unused .ensures)
+
+said-14 : (d : tie.After-bad-names) → misnamed (rowsOf (now (d .before .before .before .before .before .before .before .args .table))) (d .before .before .before .before .before .before .before .args .r) (d .before .before .before .before .before .before .before .args .row) ≡ d .bad-names .result
+said-14 d = sym (d .bad-names .ensures)
+
+said-15 : (d : tie.After-bad-width)
+    → wrongWidth (d .before .before .before .before .before .before .before .before .before .before .args .row) (widthIn (now (d .before .before .before .before .before .before .before .before .before .before .args .widths)) (d .before .before .before .before .before .before .before .before .before .before .args .row)) ≡ d .bad-width .result
+said-15 d = ap (wrongWidth (d .before .before .before .before .before .before .before .before .before .before .args .row)) (sym (d .before .row-width .ensures .0)) ∙ sym (d .bad-width .ensures)
+
+said-16 : (d : tie.After-bad-bounds)
+    → wrongBounds (d .before .before .before .before .before .before .before .before .before .before .before .before .before .args .row) (getD (now (d .before .before .before .before .before .before .before .before .before .before .before .before .before .args .widths)) (d .before .before .before .before .before .before .before .before .before .before .before .before .before .args .row .a) 0) ≡ d .bad-bounds .result
+said-16 d = ap (wrongBounds (d .before .before .before .before .before .before .before .before .before .before .before .before .before .args .row)) (sym (d .before .width-at .ensures .0)) ∙ sym (d .bad-bounds .ensures)
+
+said-17 : (d : tie.After-too-many) → tooMany (d .before .before .before .before .before .before .before .before .before .before .before .before .before .before .before .args .variables) (d .before .before .before .before .before .before .before .before .before .before .before .before .before .before .before .args .bits) (d .before .before .before .before .before .before .before .before .before .before .before .before .before .before .before .args .equations) ≡ d .too-many .result
+said-17 d = sym (d .too-many .ensures)
+
+said-18 : (d : tie.After-bad-sides)
+    → unequalSides (d .before .before .before .before .before .before .before .before .before .before .before .before .before .before .before .before .before .before .args .row) (getD (now (d .before .before .before .before .before .before .before .before .before .before .before .before .before .before .before .before .before .before .args .widths)) (d .before .before .before .before .before .before .before .before .before .before .before .before .before .before .before .before .before .before .args .row .a) 0) (getD (now (d .before .before .before .before .before .before .before .before .before .before .before .before .before .before .before .before .before .before .args .widths)) (d .before .before .before .before .before .before .before .before .before .before .before .before .before .before .before .before .before .before .args .row .b) 0)
+    ≡ d .bad-sides .result
+said-18 d =
+    ap₂ (unequalSides (d .before .before .before .before .before .before .before .before .before .before .before .before .before .before .before .before .before .before .args .row)) (sym (d .before .before .before .before .before .before .width-at .ensures .0)) (sym (d .before .width-at2 .ensures .0))
+    ∙ sym (d .bad-sides .ensures)
+
+narrow-requires : tie.Need-narrow-requires
+narrow-requires c κs = tt
+
+unused-requires : tie.Need-unused-requires
+unused-requires c κs = search needs
+
+bad-names-requires : tie.Need-bad-names-requires
+bad-names-requires c κs = search needs
+
+row-width-requires : tie.Need-row-width-requires
+row-width-requires c κs = search needs
+
+bad-width-requires : tie.Need-bad-width-requires
+bad-width-requires c κs = search needs
+
+width-at-requires : tie.Need-width-at-requires
+width-at-requires c κs = search needs
+
+bad-bounds-requires : tie.Need-bad-bounds-requires
+bad-bounds-requires c κs = search needs
+
+too-many-requires : tie.Need-too-many-requires
+too-many-requires c κs = search needs
+
+width-at-requires-2 : tie.Need-width-at-requires-2
+width-at-requires-2 c κs = search needs
+
+bad-sides-requires : tie.Need-bad-sides-requires
+bad-sides-requires c κs = search needs
+
+returns : tie.Need-returns
+unfolding firstRule
+returns c =
+    rw (lt-ltb _ _ (c .if1 .taken))
+    (ap Kind (c .before .narrow .ensures))
+
+returns-2 : tie.Need-returns-2
+unfolding firstRule
+returns-2 c =
+    rw (
+      kept-12 (c .before .before),
+      said-13 (c .before) ∙ (c) .if2 .taken,
+    )
+    (ap Unused (c .before .before .before .narrow .ensures))
+
+returns-3 : tie.Need-returns-3
+unfolding firstRule
+returns-3 c =
+    rw (
+      kept-12 (c .before .before .before .before),
+      said-13 (c .before .before .before) ∙ (c .before .before) .if2 .left,
+      said-14 (c .before) ∙ (c) .if3 .taken,
+    )
+    (ap Named (c .before .before .before .before .before .narrow .ensures))
+
+returns-4 : tie.Need-returns-4
+unfolding firstRule
+returns-4 c =
+    rw (
+      kept-12 (c .before .before .before .before .before .before .before),
+      said-13 (c .before .before .before .before .before .before) ∙ (c .before .before .before .before .before) .if2 .left,
+      said-14 (c .before .before .before .before) ∙ (c .before .before .before) .if3 .left,
+      said-15 (c .before) ∙ (c) .if4 .taken,
+    )
+    (ap Width (c .before .before .before .before .before .before .before .before .narrow .ensures))
+
+returns-5 : tie.Need-returns-5
+unfolding firstRule
+returns-5 c =
+    rw (
+      kept-12 (c .before .before .before .before .before .before .before .before .before .before),
+      said-13 (c .before .before .before .before .before .before .before .before .before) ∙ (c .before .before .before .before .before .before .before .before) .if2 .left,
+      said-14 (c .before .before .before .before .before .before .before) ∙ (c .before .before .before .before .before .before) .if3 .left,
+      said-15 (c .before .before .before .before) ∙ (c .before .before .before) .if4 .left,
+      said-16 (c .before) ∙ (c) .if5 .taken,
+    )
+    (ap Bounds (c .before .before .before .before .before .before .before .before .before .before .before .narrow .ensures))
+
+returns-6 : tie.Need-returns-6
+unfolding firstRule
+returns-6 c =
+    rw (
+      kept-12 (c .before .before .before .before .before .before .before .before .before .before .before .before),
+      said-13 (c .before .before .before .before .before .before .before .before .before .before .before) ∙ (c .before .before .before .before .before .before .before .before .before .before) .if2 .left,
+      said-14 (c .before .before .before .before .before .before .before .before .before) ∙ (c .before .before .before .before .before .before .before .before) .if3 .left,
+      said-15 (c .before .before .before .before .before .before) ∙ (c .before .before .before .before .before) .if4 .left,
+      said-16 (c .before .before .before) ∙ (c .before .before) .if5 .left,
+      said-17 (c .before) ∙ (c) .if6 .taken,
+    )
+    (ap Count (c .before .before .before .before .before .before .before .before .before .before .before .before .before .narrow .ensures))
+
+returns-7 : tie.Need-returns-7
+unfolding firstRule
+returns-7 c =
+    rw (
+      kept-12 (c .before .before .before .before .before .before .before .before .before .before .before .before .before .before .before),
+      said-13 (c .before .before .before .before .before .before .before .before .before .before .before .before .before .before) ∙ (c .before .before .before .before .before .before .before .before .before .before .before .before .before) .if2 .left,
+      said-14 (c .before .before .before .before .before .before .before .before .before .before .before .before) ∙ (c .before .before .before .before .before .before .before .before .before .before .before) .if3 .left,
+      said-15 (c .before .before .before .before .before .before .before .before .before) ∙ (c .before .before .before .before .before .before .before .before) .if4 .left,
+      said-16 (c .before .before .before .before .before .before) ∙ (c .before .before .before .before .before) .if5 .left,
+      said-17 (c .before .before .before .before) ∙ (c .before .before .before) .if6 .left,
+      said-18 (c .before) ∙ (c) .if7 .taken,
+    )
+    (ap Sides (c .before .before .before .before .before .before .before .before .before .before .before .before .before .before .before .before .narrow .ensures))
+
+returns-8 : tie.Need-returns-8
+unfolding firstRule
+returns-8 c =
+    rw (
+      kept-12 (c .before .before .before .before .before .before .before .before .before .before .before .before .before .before .before),
+      said-13 (c .before .before .before .before .before .before .before .before .before .before .before .before .before .before) ∙ (c .before .before .before .before .before .before .before .before .before .before .before .before .before) .if2 .left,
+      said-14 (c .before .before .before .before .before .before .before .before .before .before .before .before) ∙ (c .before .before .before .before .before .before .before .before .before .before .before) .if3 .left,
+      said-15 (c .before .before .before .before .before .before .before .before .before) ∙ (c .before .before .before .before .before .before .before .before) .if4 .left,
+      said-16 (c .before .before .before .before .before .before) ∙ (c .before .before .before .before .before) .if5 .left,
+      said-17 (c .before .before .before .before) ∙ (c .before .before .before) .if6 .left,
+      said-18 (c .before) ∙ (c) .if7 .left,
+    )
+
+pub row-fault-spec : {M : Type 1} → statement M
+row-fault-spec =
+    tie.close
+    (tie.spec
+    narrow-requires
+    returns
+    unused-requires
+    returns-2
+    bad-names-requires
+    returns-3
+    row-width-requires
+    bad-width-requires
+    returns-4
+    width-at-requires
+    bad-bounds-requires
+    returns-5
+    too-many-requires
+    returns-6
+    width-at-requires-2
+    bad-sides-requires
+    returns-7
+    returns-8)

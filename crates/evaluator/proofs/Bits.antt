@@ -1,0 +1,139 @@
+-- One bit of a row's value, kind by kind: where it stands in the pattern, or which bit of an earlier row it is.
+use mathlib.Core.Path.{_≡_, sym, _∙_, ap}
+use mathlib.Core.Bool.{false}
+use mathlib.Core.List.{List, _++_}
+use Prim.Native.Nat.{ℕ, _+_, _-_, _<_, _≤_}
+use native.Mathlib.Omega.{arith}
+use lib.ListN.{length, getD, take, drop, getD-replicate, List·getD-append}
+use lib.Seq.{getD-take, getD-drop, getD-append-add}
+use Rattle.terms.specs.declared.Row.{Row}
+use Rattle.terms.specs.Table.{rowsOf, rowAt, widthOf, bitsOf, valueOf}
+use Rattle.terms.proofs.AcceptedTable.{Table, accepted-table}
+use Rattle.terms.proofs.Faults.{Term, Kept, kept, kept-names, kept-kind, kept-bit, kept-bounds, concat-names, extract-names, equation-names}
+use Rattle.terms.proofs.RowKinds.{KindOf, is-variable, is-constant, is-concat, is-extract, is-equation, kind-of}
+use Rattle.terms.specs.Faults.{misnamed}
+use Rattle.terms.proofs.Values.{value-length, value-variable, value-constant, value-concat, value-extract, width-variable, width-constant, width-concat, width-extract, variable-fits}
+use Rattle.terms.proofs.Words.{extract-bit}
+use Rattle.evaluator.specs.Ready.{Ready, IsTerm}
+
+module _ (table widths starts pattern : List ℕ) (ready : Ready table widths starts pattern) (row : ℕ) (is : IsTerm table row) where
+  abbrev rows : List Row
+  rows = rowsOf table
+
+  abbrev at : Row
+  at = rowAt (rowsOf table) row
+
+  sound : Table table
+  sound = accepted-table table (ready .accepted)
+
+  row-kept : Kept rows row
+  row-kept = kept rows row (sound .sound row (is .there))
+
+  term-named : (x : ℕ) → Term rows row x → IsTerm table x
+  term-named x named = record { there = omega (arith, is .there, named .earlier); no-equation = named .no-equation }
+
+  lengths : (x : ℕ) → x < length rows → length (valueOf rows pattern x) ≡ widthOf rows x
+  lengths x h = value-length rows pattern (sound .sound) (ready .whole) x h
+
+  pub value-wide : length (valueOf rows pattern row) ≡ widthOf rows row
+  value-wide = lengths row (is .there)
+
+  pub row-small : row < 512
+  row-small = omega (arith, is .there, sound .few)
+
+  -- a concatenation and an extraction name an earlier row first
+  pub first-lower : (at .kind ≡ 0 → ⊥) → (at .kind ≡ 1 → ⊥) → at .a < row
+  first-lower h₀ h₁ = go (kind-of (at .kind))
+    where
+      m : misnamed rows row at ≡ false
+      m = kept-names rows row row-kept
+
+      go : KindOf (at .kind) → at .a < row
+      go (is-variable e) = absurd (h₀ e)
+      go (is-constant e) = absurd (h₁ e)
+      go (is-concat e) = concat-names rows row at m e .0 .earlier
+      go (is-extract e) = extract-names rows row at m e .earlier
+      go (is-equation e) = equation-names rows row at m e .0 .earlier
+
+  pub extract-left-over : (at .kind ≡ 0 → ⊥) → (at .kind ≡ 1 → ⊥) → (at .kind ≡ 2 → ⊥) → at .kind ≡ 3
+  extract-left-over h₀ h₁ h₂ = omega (arith, kept-kind rows row row-kept, is .no-equation)
+
+  module _ (i : ℕ) (inside : i < widthOf rows row) where
+    pub variable-within : at .kind ≡ 0 → bitsOf (take row rows) + i < length pattern
+    variable-within e = omega (arith, ready .whole, variable-fits rows row (is .there) e, width-variable rows row (is .there) e)
+
+    pub variable-bit : at .kind ≡ 0 → getD pattern (bitsOf (take row rows) + i) 0 ≡ getD (valueOf rows pattern row) i 0
+    variable-bit e =
+        sym
+        (ap (λ (v : List ℕ). getD v i 0) (value-variable rows pattern row (is .there) e)
+        ∙ getD-take (at .a) (drop (bitsOf (take row rows)) pattern) i 0 (omega (arith, width-variable rows row (is .there) e))
+        ∙ getD-drop (bitsOf (take row rows)) pattern i 0)
+
+    pub constant-small : at .kind ≡ 1 → at .a ≤ 1
+    constant-small e = kept-bit rows row row-kept e
+
+    pub constant-bit : at .kind ≡ 1 → at .a ≡ getD (valueOf rows pattern row) i 0
+    constant-bit e =
+        sym
+        (ap (λ (v : List ℕ). getD v i 0) (value-constant rows pattern row (is .there) e)
+        ∙ getD-replicate (at .b) i (at .a) 0 (omega (arith, width-constant rows row (is .there) e)))
+
+    module _ (e : at .kind ≡ 2) where
+      names : Term rows row (at .a) × Term rows row (at .b)
+      names = concat-names rows row at (kept-names rows row row-kept) e
+
+      pub left-term : IsTerm table (at .a)
+      left-term = term-named (at .a) (names .0)
+
+      pub right-term : IsTerm table (at .b)
+      right-term = term-named (at .b) (names .1)
+
+      pub left-lower : at .a < row
+      left-lower = names .0 .earlier
+
+      pub right-lower : at .b < row
+      right-lower = names .1 .earlier
+
+      sides : valueOf rows pattern row ≡ valueOf rows pattern (at .a) ++ valueOf rows pattern (at .b)
+      sides = value-concat rows pattern row (is .there) row-kept e
+
+      pub left-bit : i < widthOf rows (at .a) → getD (valueOf rows pattern (at .a)) i 0 ≡ getD (valueOf rows pattern row) i 0
+      left-bit l =
+          sym
+          (ap (λ (v : List ℕ). getD v i 0) sides
+          ∙ List·getD-append (valueOf rows pattern (at .a)) (valueOf rows pattern (at .b)) 0 i (omega (arith, lengths (at .a) (left-term .there))))
+
+      pub right-within : widthOf rows (at .a) ≤ i → i - widthOf rows (at .a) < widthOf rows (at .b)
+      right-within l = omega (arith, width-concat rows row (is .there) row-kept e)
+
+      pub right-bit : widthOf rows (at .a) ≤ i → getD (valueOf rows pattern (at .b)) (i - widthOf rows (at .a)) 0 ≡ getD (valueOf rows pattern row) i 0
+      right-bit l =
+          let n : i ≡ length (valueOf rows pattern (at .a)) + (i - widthOf rows (at .a)) = omega (arith, lengths (at .a) (left-term .there)) in
+          sym
+          (ap (λ (v : List ℕ). getD v i 0) sides
+          ∙ ap (λ (k : ℕ). getD (valueOf rows pattern (at .a) ++ valueOf rows pattern (at .b)) k 0) n
+          ∙ getD-append-add (valueOf rows pattern (at .a)) (valueOf rows pattern (at .b)) (i - widthOf rows (at .a)) 0)
+
+    module _ (e : at .kind ≡ 3) where
+      named : Term rows row (at .a)
+      named = extract-names rows row at (kept-names rows row row-kept) e
+
+      pub cut-term : IsTerm table (at .a)
+      cut-term = term-named (at .a) named
+
+      pub cut-lower : at .a < row
+      cut-lower = named .earlier
+
+      pub cut-within : (at .b + 1 ≤ widthOf rows (at .a)) × (widthOf rows (at .a) - (at .b + 1) + i < widthOf rows (at .a))
+      cut-within =
+          let bounds = kept-bounds rows row row-kept e in
+          (omega (arith, bounds .0), omega (arith, bounds .0, width-extract rows row (is .there) e))
+
+      pub cut-bit : getD (valueOf rows pattern (at .a)) (widthOf rows (at .a) - (at .b + 1) + i) 0 ≡ getD (valueOf rows pattern row) i 0
+      cut-bit =
+          let bounds = kept-bounds rows row row-kept e in
+          let n = lengths (at .a) (cut-term .there) in
+          sym
+          (ap (λ (v : List ℕ). getD v i 0) (value-extract rows pattern row (is .there) row-kept e)
+          ∙ extract-bit (valueOf rows pattern (at .a)) (at .b) (at .c) i (omega (arith, width-extract rows row (is .there) e)) (omega (arith, n, bounds .0))
+          ∙ ap (λ (k : ℕ). getD (valueOf rows pattern (at .a)) (k - (at .b + 1) + i) 0) n)

@@ -1,0 +1,90 @@
+// A row's value under a pattern (document 01, "a join sets two values side by side, a cut keeps bits").
+// Each bit is found by recursion into earlier rows: a concatenation passes the bit on to one of its sides, an
+// extraction to the row that it is cut from, until a variable or a constant is met.
+ghost use mathlib.Core.Path.{_≡_};
+ghost use Prim.Native.Nat.{_<_, _≤_};
+ghost use lib.ListN.{getD, length};
+ghost use Rattle.terms.specs.Table.{rowsOf, widthOf, valueOf};
+ghost use Rattle.laws.specs.Buffers.{overwrite};
+ghost use Rattle.terms.specs.Value.{valueRecord, valueAfter};
+ghost use Rattle.evaluator.specs.Ready.{Ready, IsTerm};
+use terms::Record;
+
+// Bit i of a row's value, counted from its high end.
+fn bit(table: &[u16], widths: &[u16], starts: &[u32], pattern: &[u8], row: usize, i: usize) -> u8
+    requires { ⌜ Ready (now table) (now widths) (now starts) (now pattern) ⌝ }
+    requires { ⌜ IsTerm (now table) row ⌝ }
+    requires { ⌜ i < widthOf (rowsOf (now table)) row ⌝ }
+    ensures { λ b. ⌜ b ≡ getD (valueOf (rowsOf (now (table .entry))) (now (pattern .entry)) row) i 0 ⌝ }
+{
+    let r = rows::row_at(table, row);
+    let kind = r.kind;
+    let a = numbers::wide(r.a);
+    let b = numbers::wide(r.b);
+    if kind == terms::VARIABLE {
+        let start = starts[row] as usize;
+        return pattern[start + i];
+    }
+    if kind == terms::CONSTANT {
+        return a as u8;
+    }
+    let width = numbers::wide(widths[a]);
+    if kind == terms::CONCAT {
+        if i < width {
+            return bit(table, widths, starts, pattern, a, i);
+        }
+        return bit(table, widths, starts, pattern, b, i - width);
+    }
+    bit(table, widths, starts, pattern, a, width - (b + 1) + i)
+}
+
+// Writes the row's value to the beginning of the output.
+fn write_value(
+    table: &[u16],
+    widths: &[u16],
+    starts: &[u32],
+    pattern: &[u8],
+    row: usize,
+    output: &mut [u8],
+)
+    requires { ⌜ Ready (now table) (now widths) (now starts) (now pattern) ⌝ }
+    requires { ⌜ IsTerm (now table) row ⌝ }
+    requires { ⌜ widthOf (rowsOf (now table)) row ≤ length (now output) ⌝ }
+    ensures { λ _. ⌜ now (output .exit) ≡ overwrite (valueOf (rowsOf (now (table .entry))) (now (pattern .entry)) row) (now (output .entry)) ⌝ }
+{
+    let width = numbers::wide(widths[row]);
+    let mut i = 0;
+    while i < width {
+        output[i] = bit(table, widths, starts, pattern, row, i);
+        i += 1;
+    }
+}
+
+// A row's value under a pattern, as bytes 0 and 1, high bit first.
+pub fn value(table: &[u16], row: usize, pattern: &[u8], output: &mut [u8]) -> Record
+    ensures record { λ r. ⌜ r ≡ valueRecord (now (table .entry)) row (now (pattern .entry)) (length (now (output .entry))) ⌝ }
+    ensures output { λ r. ⌜ now (output .exit) ≡ valueAfter (now (table .entry)) row (now (pattern .entry)) (now (output .entry)) ⌝ }
+{
+    let mut widths = [0u16; 512];
+    let fault = checker::check(table, &mut widths[..]);
+    if !records::accepted(fault) {
+        return records::fault_record(fault);
+    }
+    if checker::not_term(table, table.len() / 4, row) {
+        return records::refuse(30, 0);
+    }
+    let mut starts = [0u32; 512];
+    let bits = checker::place(table, &mut starts[..]);
+    if bits != pattern.len() {
+        return records::refuse(31, 0);
+    }
+    if !numbers::all_bits(pattern) {
+        return records::refuse(31, 0);
+    }
+    let width = widths[row] as u32;
+    if output.len() < width as usize {
+        return records::refuse(32, 0);
+    }
+    write_value(table, &widths[..], &starts[..], pattern, row, output);
+    records::complete(0, width)
+}

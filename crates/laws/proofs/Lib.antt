@@ -1,0 +1,6 @@
+pub mod AllBits
+pub mod Bools
+pub mod Buffers
+pub mod Lists
+pub mod Numbers
+pub mod Tallies

@@ -1,0 +1,150 @@
+-- What is known of the state when fine rows are passed, and that the test of the next row by this state is the form's.
+use mathlib.Core.Path.{_≡_, refl, sym, ap, ap₂, _∙_}
+use mathlib.Core.Logic.{_⊎_, inl, inr}
+use mathlib.Core.Bool.{Bool, true, false, not, _&&_, _||_, cond, and-true, and-false}
+use mathlib.Core.List.{List, []}
+use Prim.Native.Nat.{ℕ, zero, suc, _≤_, _<_}
+use native.Mathlib.Omega.{arith}
+use lib.Dec.{eqb, ltb}
+use lib.ListN.{length, getD}
+use borrow.Author.Tests.{eqb-true, ne-eqb, lt-ltb, le-ltb}
+use Rattle.terms.specs.declared.Row.{Row}
+use Rattle.answers.specs.Answer.{AnswerRow, isFresh, freshNumbers, freshWidth, freshStart}
+use Rattle.laws.specs.Lists.{member}
+use Rattle.answers.proofs.Agreement.{dec-lt}
+use Rattle.laws.proofs.Bools.{and-second}
+use Rattle.maker.specs.declared.Progress.{Progress}
+use Rattle.assignments.specs.Form.{variableFine, kindFine, widthFine, widthIn, variableWide, patternBits, patternWide, fillFine, neighboursFine, lowestUnseen, freshFine, rowFine}
+use Rattle.maker.specs.Making.{answerRow, answerRowAt, widthBefore, variableIn, widthsIn, fillIn, freshIn, fineIn}
+use Rattle.maker.proofs.OneMore.{neighbours-fresh, least-is}
+
+-- A row's fresh piece was seen, with the row's width.
+pub record Piece (before : List AnswerRow) (pieces : ℕ) (r : AnswerRow) : Type 0 where
+  pub known : r .fresh < pieces
+  pub wide : freshWidth before (r .fresh) ≡ r .width
+
+-- Rows were passed, all of them fine: what the state, the widths and the starts say of them.
+pub record Passed (before : List AnswerRow) (p : Progress) (widths starts : List ℕ) : Type 0 where
+  pub variable-is : (r : AnswerRow) → variableFine before r ≡ ltb (r .variable) 64 && (eqb (r .variable) (p .variable) || eqb (r .variable) (p .next))
+  pub rising : p .variable ≤ p .next
+  pub neighbours-are : (r : AnswerRow) → r .kind < 2 → neighboursFine before r ≡ not (eqb (r .variable) (p .variable) && eqb (r .kind) (p .kind))
+  pub width-is : (v : ℕ) → p .variable ≤ v → widthIn before v ≡ widthBefore p v
+  pub bits-are : p .bits ≡ patternBits before
+  pub few-bits : p .bits ≤ 4096
+  pub few-rows : length before ≤ p .bits
+  pub few-pieces : p .pieces ≤ length before
+  pub seen : (k : ℕ) → member k (freshNumbers before) ≡ ltb k (p .pieces)
+  pub widths-are : (k : ℕ) → k < p .pieces → getD widths k 0 ≡ freshWidth before k
+  pub starts-are : (k : ℕ) → k < p .pieces → getD starts k 0 ≡ freshStart before k
+  pub free-is : p .free ≡ freshStart before (p .pieces)
+  pub few-free : p .free ≤ p .bits
+  pub pieces-are : (j : ℕ) → j < length before → isFresh (answerRowAt before j) ≡ true → Piece before (p .pieces) (answerRowAt before j)
+
+-- eight tests in another order
+gather : (v k w x y f n r : Bool) → v && k && w && x && y && f && n && r ≡ (v && (w && x && y)) && (k && (f && n && r))
+gather false k w x y f n r = refl
+gather true false w x y f n r = sym (and-false (w && x && y))
+gather true true w x y f n r = go (w && x && y)
+  where
+    go : (a : Bool) → a && f && n && r ≡ a && (f && n && r)
+    go true = refl
+    go false = refl
+
+-- no row is passed
+abbrev pub atFirst : Progress
+atFirst = record { variable = 0; next = 0; kind = 2; width = 0; bits = 0; pieces = 0; free = 0 }
+
+-- the first variable is 0
+first-variable : (v : ℕ) → eqb v 0 ≡ ltb v 64 && (eqb v 0 || eqb v 0)
+first-variable zero = refl
+first-variable (suc v) = rw (ne-eqb (suc v) 0 (omega arith)) (sym (and-false (ltb (suc v) 64)))
+
+same-either : (t : Bool) → cond {A = ℕ} t 0 0 ≡ 0
+same-either true = refl
+same-either false = refl
+
+pub passed-none : (widths starts : List ℕ) → Passed [] atFirst widths starts
+unfolding variableFine neighboursFine widthIn widthBefore patternBits freshNumbers member freshStart
+passed-none widths starts = record {
+  variable-is = λ r. first-variable (r .variable);
+  rising = omega arith;
+  neighbours-are = λ r l. rw (ne-eqb (r .kind) 2 (omega arith), and-false (eqb (r .variable) 0));
+  width-is = λ v l. sym (same-either (eqb v 0));
+  bits-are = refl;
+  few-bits = omega arith;
+  few-rows = omega arith;
+  few-pieces = omega arith;
+  seen = λ k. sym (le-ltb k 0 (omega arith));
+  widths-are = λ k l. absurd (omega arith);
+  starts-are = λ k l. absurd (omega arith);
+  free-is = refl;
+  few-free = omega arith;
+  pieces-are = λ j l f. absurd (omega arith);
+}
+
+module _ (before : List AnswerRow) (p : Progress) (widths starts : List ℕ) (k : Passed before p widths starts) where
+  pub lowest-is : lowestUnseen before ≡ p .pieces
+  unfolding lowestUnseen
+  lowest-is =
+      least-is (λ x. not (member x (freshNumbers before))) (length before) 0 (p .pieces) (omega arith) (omega (arith, k .few-pieces))
+      (rw (k .seen (p .pieces), le-ltb (p .pieces) (p .pieces) (omega arith)))
+      (λ j l. rw (k .seen j, lt-ltb j (p .pieces) l))
+
+  module _ (r : Row) where
+    abbrev s : AnswerRow
+    s = answerRow r
+
+    variable-reaches : variableIn p r ≡ true → p .variable ≤ r .kind
+    unfolding variableIn
+    variable-reaches h = go (eqb (r .kind) (p .variable)) refl (and-second (ltb (r .kind) 64) (eqb (r .kind) (p .variable) || eqb (r .kind) (p .next)) h)
+      where
+        go : (t : Bool) → eqb (r .kind) (p .variable) ≡ t → t || eqb (r .kind) (p .next) ≡ true → p .variable ≤ r .kind
+        go true e w = omega (arith, eqb-true (r .kind) (p .variable) e)
+        go false e w = omega (arith, eqb-true (r .kind) (p .next) w, k .rising)
+
+    fresh-is : 2 ≤ r .a → freshFine before (answerRow r) ≡ cond (ltb (r .c) (p .pieces)) (eqb (getD widths (r .c) 0) (r .b)) (eqb (r .c) (p .pieces))
+    unfolding freshFine
+    fresh-is l = rw (le-ltb (r .a) 2 l, lowest-is, k .seen (r .c)) (go (dec-lt (r .c) (p .pieces)))
+      where
+        or-none : (b : Bool) → b || false ≡ b
+        or-none true = refl
+        or-none false = refl
+
+        go : (r .c < p .pieces) ⊎ (p .pieces ≤ r .c)
+            → (ltb (r .c) (p .pieces) && eqb (freshWidth before (r .c)) (r .b)) || eqb (r .c) (p .pieces)
+            ≡ cond (ltb (r .c) (p .pieces)) (eqb (getD widths (r .c) 0) (r .b)) (eqb (r .c) (p .pieces))
+        go (inl q) = rw (lt-ltb (r .c) (p .pieces) q, ne-eqb (r .c) (p .pieces) (omega arith), k .widths-are (r .c) q) (or-none (eqb (freshWidth before (r .c)) (r .b)))
+        go (inr q) = rw (le-ltb (r .c) (p .pieces) q)
+
+    -- what is asked of a fill, or of a fresh piece
+    last-is : kindFine (answerRow r) && (fillFine (answerRow r) && neighboursFine before (answerRow r) && freshFine before (answerRow r))
+        ≡ cond (ltb (r .a) 2) (fillIn p r) (freshIn p r (getD widths (r .c) 0))
+    unfolding kindFine fillFine
+    last-is = go (dec-lt (r .a) 2)
+      where
+        go : (r .a < 2) ⊎ (2 ≤ r .a)
+            → ltb (r .a) 3 && ((isFresh s || eqb (r .c) 0) && neighboursFine before s && freshFine before s) ≡ cond (ltb (r .a) 2) (fillIn p r) (freshIn p r (getD widths (r .c) 0))
+        go (inl l) =
+            unfold fillIn freshFine in
+            rw (lt-ltb (r .a) 3 (omega arith), lt-ltb (r .a) 2 l, k .neighbours-are s l) (and-true (eqb (r .c) 0 && not (eqb (r .kind) (p .variable) && eqb (r .a) (p .kind))))
+        go (inr l) = unfold freshIn in (rw (le-ltb (r .a) 2 l, neighbours-fresh before s l) (ap (λ (t : Bool). ltb (r .a) 3 && t) (fresh-is l)))
+
+    -- the test by the state is the form's
+    pub row-is : rowFine before (answerRow r) ≡ fineIn p r (getD widths (r .c) 0)
+    unfolding rowFine fineIn
+    row-is =
+        rw variables
+        (gather (variableIn p r) (kindFine s) (widthFine s) (variableWide before s) (patternWide before s) (fillFine s) (neighboursFine before s) (freshFine before s)
+        ∙ go (variableIn p r) refl)
+      where
+        variables : variableFine before (answerRow r) ≡ variableIn p r
+        variables = unfold variableIn in (k .variable-is s)
+
+        wide-is : variableIn p r ≡ true → widthFine (answerRow r) && variableWide before (answerRow r) && patternWide before (answerRow r) ≡ widthsIn p r
+        wide-is h = unfold widthFine variableWide patternWide widthsIn in rw (k .width-is (r .kind) (variable-reaches h), ← k .bits-are)
+
+        go : (t : Bool) → variableIn p r ≡ t
+            → (t && (widthFine s && variableWide before s && patternWide before s)) && (kindFine s && (fillFine s && neighboursFine before s && freshFine before s))
+            ≡ t && widthsIn p r && cond (ltb (r .a) 2) (fillIn p r) (freshIn p r (getD widths (r .c) 0))
+        go false e = refl
+        go true e = ap₂ _&&_ (wide-is e) last-is

@@ -1,0 +1,142 @@
+-- The pass of `read_form`: with i rows passed, all of them fine, the state is that of these rows.
+use mathlib.Core.Path.{_≡_, refl, sym, ap, _∙_}
+use mathlib.Core.Bool.{Bool, true, false, _&&_, and-true, and-false}
+use mathlib.Core.List.{List, [], _∷_, _++_}
+use Prim.Native.Nat.{ℕ, zero, suc, _+_, _/_, _%_, _≤_, _<_}
+use native.Mathlib.Omega.{arith}
+use native.Mathlib.Numerals.{add-one}
+use lib.Dec.{eqb}
+use lib.ListN.{length, getD, set, take, drop, length-set, drop-of-length-le}
+use lib.Seq.{take-suc, take-all, drop-cons}
+use borrow.Author.Tests.{ltb-true, lt-ltb}
+use Rattle.terms.specs.declared.Row.{Row}
+use Rattle.terms.specs.Table.{rowsOf, rowAt}
+use Rattle.answers.specs.Answer.{AnswerRow, freshNumbers, freshPieces, freshStart, freeBits}
+use Rattle.answers.proofs.Instantiating.{distinct-is}
+use Rattle.maker.specs.declared.Progress.{Progress}
+use Rattle.assignments.specs.Form.{answerRowsOf, rowsFine, hasForm}
+use Rattle.maker.specs.Making.{answerRow, answerRowAt, noAnswerRow, fineIn, advanced, Shaped, ReadsForm}
+use Rattle.maker.proofs.OneMore.{starts-rise}
+use Rattle.maker.proofs.Passed.{Passed, atFirst, passed-none, row-is}
+use Rattle.maker.proofs.Passing.{passed-more}
+
+-- the rows of a run of numbers: how many, and each one by its four numbers
+pub answer-length : (t : List ℕ) → length (answerRowsOf t) ≡ length t / 4
+unfolding answerRowsOf
+answer-length [] = refl
+answer-length (v ∷ []) = refl
+answer-length (v ∷ k ∷ []) = refl
+answer-length (v ∷ k ∷ w ∷ []) = refl
+answer-length (v ∷ k ∷ w ∷ f ∷ t) = omega (arith, answer-length t)
+
+pub answer-row : (t : List ℕ) (i : ℕ) → answerRow (rowAt (rowsOf t) i) ≡ answerRowAt (answerRowsOf t) i
+unfolding answerRowsOf rowsOf
+answer-row [] i = refl
+answer-row (v ∷ []) i = refl
+answer-row (v ∷ k ∷ []) i = refl
+answer-row (v ∷ k ∷ w ∷ []) i = refl
+answer-row (v ∷ k ∷ w ∷ f ∷ t) zero = refl
+answer-row (v ∷ k ∷ w ∷ f ∷ t) (suc i) = answer-row t i
+
+-- with every row passed, the counts and the starts are the table's
+module _ (rows : List AnswerRow) (p : Progress) (widths starts : List ℕ) (k : Passed rows p widths starts) where
+  pieces-are : freshPieces rows ≡ p .pieces
+  unfolding freshPieces
+  pieces-are =
+      distinct-is (p .pieces) (freshNumbers rows) (λ x m. ltb-true x (p .pieces) (sym (k .seen x) ∙ m)) (λ j l. k .seen j ∙ lt-ltb j (p .pieces) l)
+
+  free-are : freshStart rows (p .pieces) ≡ freeBits rows
+  unfolding freeBits
+  free-are = ap (freshStart rows) (sym pieces-are)
+
+  pub shaped : Shaped rows starts (p .bits) (p .free)
+  shaped = record {
+    bits-are = k .bits-are;
+    free-are = k .free-is ∙ free-are;
+    starts-are = λ j l f. k .starts-are (answerRowAt rows j .fresh) (k .pieces-are j l f .known);
+    pieces-in =
+        λ j l f.
+        let P = k .pieces-are j l f in
+        omega (arith, starts-rise rows (answerRowAt rows j .fresh) (p .pieces) (P .known), P .wide, free-are);
+  }
+
+-- the state with the first i rows passed
+pub record Going (rows : List AnswerRow) (widths starts : List ℕ) (p : Progress) (i : ℕ) : Type 0 where
+  pub same : rowsFine [] rows ≡ rowsFine (take i rows) (drop i rows)
+  pub passed : Passed (take i rows) p widths starts
+
+-- the pass over the rows, whatever they are
+pub record Reading (answer widths₀ starts₀ widths starts : List ℕ) (p : Progress) (i : ℕ) : Type 0 where
+  pub within : i ≤ length answer / 4
+  pub widths-len : length widths ≡ length widths₀
+  pub starts-len : length starts ≡ length starts₀
+  pub going : 4096 ≤ length widths₀ → 4096 ≤ length starts₀ → Going (answerRowsOf answer) widths starts p i
+
+pub reading-first : (answer widths starts : List ℕ) → Reading answer widths starts widths starts atFirst 0
+reading-first answer widths starts = record {
+  within = omega arith;
+  widths-len = refl;
+  starts-len = refl;
+  going = λ room space. record { same = refl; passed = passed-none widths starts };
+}
+
+module _ (answer widths₀ starts₀ widths starts : List ℕ) (p : Progress) (i : ℕ) (k : Reading answer widths₀ starts₀ widths starts p i) where
+  abbrev rows : List AnswerRow
+  rows = answerRowsOf answer
+
+  module _ (l : i < length answer / 4) (r : Row) (er : r ≡ rowAt (rowsOf answer) i) (number : ℕ) (en : number ≡ r .c) (w : ℕ) (found : w ≡ getD widths number 0) where
+    ew : w ≡ getD widths (r .c) 0
+    ew = found ∙ ap (λ (x : ℕ). getD widths x 0) en
+
+    there : i < length rows
+    there = omega (arith, answer-length answer)
+
+    row-here : answerRowAt rows i ≡ answerRow r
+    row-here = sym (answer-row answer i) ∙ ap answerRow (sym er)
+
+    next-rows : take (suc i) rows ≡ take i rows ++ (answerRow r ∷ [])
+    next-rows = take-suc rows i noAnswerRow there ∙ ap (λ (s : AnswerRow). take i rows ++ (s ∷ [])) row-here
+
+    tested : Passed (take i rows) p widths starts → rowsFine (take i rows) (drop i rows) ≡ fineIn p r w && rowsFine (take (suc i) rows) (drop (suc i) rows)
+    unfolding rowsFine
+    tested q =
+        rw (drop-cons rows i noAnswerRow there, row-here, next-rows)
+        (ap (λ (t : Bool). t && rowsFine (take i rows ++ (answerRow r ∷ [])) (drop (suc i) rows)) (row-is (take i rows) p widths starts q r ∙ ap (fineIn p r) (sym ew)))
+
+    pub reading-more : fineIn p r w ≡ true → (place : ℕ) (widths′ starts′ : List ℕ) (q : Progress) → place ≡ p .pieces → widths′ ≡ set widths place (r .b)
+        → starts′ ≡ set starts place (p .free) → q ≡ advanced p r → Reading answer widths₀ starts₀ widths′ starts′ q (i + 1)
+    reading-more fine place widths′ starts′ q ep ws ss eq =
+        rw (add-one)
+        (record {
+          within = omega arith;
+          widths-len = ap length ws ∙ length-set widths place (r .b) ∙ k .widths-len;
+          starts-len = ap length ss ∙ length-set starts place (p .free) ∙ k .starts-len;
+          going = λ room space. one-more (k .going room space) (omega (arith, k .widths-len)) (omega (arith, k .starts-len));
+        })
+      where
+        one-more : Going (answerRowsOf answer) widths starts p i → 4096 ≤ length widths → 4096 ≤ length starts → Going (answerRowsOf answer) widths′ starts′ q (suc i)
+        one-more g room space = record {
+          same = g .same ∙ tested (g .passed) ∙ rw fine;
+          passed = rw (ws, ss, eq, ep, next-rows) (passed-more (take i rows) p widths starts (g .passed) r (ap (fineIn p r) (sym ew) ∙ fine) room space);
+        }
+
+    pub reading-bad : fineIn p r w ≡ false → ReadsForm answer widths₀ starts₀ starts (record { fine = false; bits = 0; free = 0 })
+    unfolding hasForm
+    reading-bad bad room space =
+        let g = k .going room space in
+        let e : hasForm answer ≡ false =
+        unfold hasForm in (ap (λ (t : Bool). eqb (length answer % 4) 0 && t) (g .same ∙ tested (g .passed) ∙ rw bad) ∙ and-false (eqb (length answer % 4) 0)) in
+        record { fine-is = sym e; shaped = λ h. absurd (never (sym e ∙ h)) }
+      where
+        never : false ≡ true → ⊥
+        never e = let z : _≡_ {A = ℕ} 0 1 = cc in omega arith
+
+  pub reading-done : length answer / 4 ≤ i → ReadsForm answer widths₀ starts₀ starts (record { fine = eqb (length answer % 4) 0; bits = p .bits; free = p .free })
+  unfolding hasForm rowsFine
+  reading-done l room space =
+      let g = k .going room space in
+      let n = answer-length answer in
+      record {
+        fine-is = sym (ap (λ (t : Bool). eqb (length answer % 4) 0 && t) (g .same ∙ rw (drop-of-length-le rows {i = i} (omega arith))) ∙ and-true (eqb (length answer % 4) 0));
+        shaped = λ h. rw (take-all i rows (omega arith)) at (shaped (take i rows) p widths starts (g .passed));
+      }

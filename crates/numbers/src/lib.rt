@@ -1,0 +1,110 @@
+// Numbers: read and written where they are there, added and compared within their widths.
+ghost use mathlib.Core.Path.{_≡_};
+ghost use mathlib.Core.Bool.{cond};
+ghost use Prim.Native.Nat.{_+_, _-_, _%_, _≤_, min};
+ghost use lib.Dec.{eqb};
+ghost use lib.ListN.{getD, set};
+ghost use Rattle.laws.specs.Lists.{allBits};
+
+// x as an index.
+pub fn wide(x: u16) -> usize
+    ensures { λ r. ⌜ (r ≡ x) × (r ≤ 65535) ⌝ }
+{
+    x as usize
+}
+
+// x in 16 bits.
+pub fn narrow(x: usize) -> u16
+    ensures { λ r. ⌜ r ≡ x % 65536 ⌝ }
+{
+    (x % 65536) as u16
+}
+
+// x + y, wrapped.
+pub fn plus(x: u16, y: u16) -> u16
+    ensures { λ r. ⌜ r ≡ (x + y) % 65536 ⌝ }
+{
+    narrow(wide(x) + wide(y))
+}
+
+// x - y, or 0, in 16 bits.
+pub fn difference(x: u16, y: u16) -> u16
+    ensures { λ r. ⌜ r ≡ x - y ⌝ }
+{
+    if x < y {
+        return 0;
+    }
+    x - y
+}
+
+// x - y, or 0.
+pub fn minus(x: usize, y: usize) -> usize
+    ensures { λ r. ⌜ r ≡ x - y ⌝ }
+{
+    if x < y {
+        return 0;
+    }
+    x - y
+}
+
+// The lesser of two numbers.
+pub fn lesser(a: usize, b: usize) -> usize
+    ensures { λ r. ⌜ (r ≡ min a b) × (r ≤ b) ⌝ }
+{
+    if a < b {
+        return a;
+    }
+    b
+}
+
+// A number of a list, 0 past its end.
+pub fn load(numbers: &[u16], i: usize) -> u16
+    ensures { λ r. ⌜ r ≡ getD (now (numbers .entry)) i 0 ⌝ }
+{
+    if i < numbers.len() {
+        return numbers[i];
+    }
+    0
+}
+
+// Writes one number, if there is room.
+pub fn store(buffer: &mut [u16], i: usize, x: u16)
+    ensures { λ _. ⌜ now (buffer .exit) ≡ set (now (buffer .entry)) i x ⌝ }
+{
+    if i < buffer.len() {
+        buffer[i] = x;
+    }
+}
+
+// The same for wider numbers.
+pub fn put(buffer: &mut [u32], i: usize, x: u32)
+    ensures { λ _. ⌜ now (buffer .exit) ≡ set (now (buffer .entry)) i x ⌝ }
+{
+    if i < buffer.len() {
+        buffer[i] = x;
+    }
+}
+
+// 1 if a row has the kind that is counted.
+pub fn one_if(kind: u16, wanted: u16) -> usize
+    ensures { λ r. ⌜ (r ≡ cond (eqb kind wanted) 1 0) × (r ≤ 1) ⌝ }
+{
+    if kind == wanted {
+        return 1;
+    }
+    0
+}
+
+// Whether each byte is 0 or 1.
+pub fn all_bits(pattern: &[u8]) -> bool
+    ensures { λ r. ⌜ r ≡ allBits (now (pattern .entry)) ⌝ }
+{
+    let mut i = 0;
+    while i < pattern.len() {
+        if 1 < pattern[i] {
+            return false;
+        }
+        i += 1;
+    }
+    true
+}
