@@ -11,7 +11,7 @@ use Rattle.terms.specs.declared.Record.{Record}
 use Rattle.terms.specs.declared.Fault.the-variants.{Accepted}
 use Rattle.terms.specs.Assignments.{every, count}
 use Rattle.terms.proofs.Assignments.{every-of}
-use Rattle.terms.specs.Faults.{firstFault, breaks11, lowestFault, faultAt, firstRule, breaks12, breaks13, breaks14, breaks15, breaks16, breaks17, breaks18, unusedColumn, misnamed, notTerm, wrongWidth, outside, wrongBounds, tooMany, unequalSides}
+use Rattle.terms.specs.Faults.{firstFault, breaks11, lowestFault, faultAt, firstRule, rulesAt, breaks12, breaks13, breaks14, breaks15, breaks16, breaks17, breaks18, unusedColumn, misnamed, notTerm, wrongWidth, outside, wrongBounds, tooMany, unequalSides}
 use Rattle.terms.specs.Table.{rowsOf, byKind, byRows, widthIn, widthsOf, bitsIn, bitsOf, countKind, extract, valueIn, valuesOf, sourcesOf, sameWord, sidesAgree, allRows, satisfies}
 use Rattle.laws.specs.Lists.{countUp}
 use Rattle.answers.specs.Pairs.{paired, pairsOf, pairsIn, ties}
@@ -29,7 +29,7 @@ unfoldable pub case1 : List ℕ
 case1 = 0 ∷ 8 ∷ 0 ∷ 0 ∷ 3 ∷ 0 ∷ 6 ∷ 3 ∷ 3 ∷ 0 ∷ 4 ∷ 1 ∷ 4 ∷ 1 ∷ 2 ∷ 0 ∷ []
 
 pub accepted1 : firstFault case1 ≡ Accepted
-unfolding case1 firstFault breaks11 lowestFault faultAt firstRule breaks12 breaks13 breaks14 breaks15 breaks16 breaks17 breaks18 unusedColumn misnamed notTerm wrongWidth outside wrongBounds tooMany unequalSides rowsOf byKind byRows widthIn widthsOf bitsIn bitsOf countKind
+unfolding case1 firstFault breaks11 lowestFault faultAt firstRule rulesAt breaks12 breaks13 breaks14 breaks15 breaks16 breaks17 breaks18 unusedColumn misnamed notTerm wrongWidth outside wrongBounds tooMany unequalSides rowsOf byKind byRows widthIn widthsOf bitsIn bitsOf countKind
 accepted1 = refl
 
 stop1 : conflictAt (countUp 0 (suc (suc (bitsOf (rowsOf case1))))) (pairsIn (rowsOf case1) (rowsOf case1)) ≡ length (rowsOf case1)
@@ -71,7 +71,7 @@ unfoldable pub case2 : List ℕ
 case2 = 0 ∷ 9 ∷ 0 ∷ 0 ∷ 3 ∷ 0 ∷ 7 ∷ 3 ∷ 3 ∷ 0 ∷ 5 ∷ 1 ∷ 4 ∷ 1 ∷ 2 ∷ 0 ∷ []
 
 pub accepted2 : firstFault case2 ≡ Accepted
-unfolding case2 firstFault breaks11 lowestFault faultAt firstRule breaks12 breaks13 breaks14 breaks15 breaks16 breaks17 breaks18 unusedColumn misnamed notTerm wrongWidth outside wrongBounds tooMany unequalSides rowsOf byKind byRows widthIn widthsOf bitsIn bitsOf countKind
+unfolding case2 firstFault breaks11 lowestFault faultAt firstRule rulesAt breaks12 breaks13 breaks14 breaks15 breaks16 breaks17 breaks18 unusedColumn misnamed notTerm wrongWidth outside wrongBounds tooMany unequalSides rowsOf byKind byRows widthIn widthsOf bitsIn bitsOf countKind
 accepted2 = refl
 
 stop2 : conflictAt (countUp 0 (suc (suc (bitsOf (rowsOf case2))))) (pairsIn (rowsOf case2) (rowsOf case2)) ≡ length (rowsOf case2)
@@ -113,7 +113,7 @@ unfoldable pub case3 : List ℕ
 case3 = 0 ∷ 4 ∷ 0 ∷ 0 ∷ 4 ∷ 0 ∷ 0 ∷ 0 ∷ []
 
 pub accepted3 : firstFault case3 ≡ Accepted
-unfolding case3 firstFault breaks11 lowestFault faultAt firstRule breaks12 breaks13 breaks14 breaks15 breaks16 breaks17 breaks18 unusedColumn misnamed notTerm wrongWidth outside wrongBounds tooMany unequalSides rowsOf byKind byRows widthIn widthsOf bitsIn bitsOf countKind
+unfolding case3 firstFault breaks11 lowestFault faultAt firstRule rulesAt breaks12 breaks13 breaks14 breaks15 breaks16 breaks17 breaks18 unusedColumn misnamed notTerm wrongWidth outside wrongBounds tooMany unequalSides rowsOf byKind byRows widthIn widthsOf bitsIn bitsOf countKind
 accepted3 = refl
 
 stop3 : conflictAt (countUp 0 (suc (suc (bitsOf (rowsOf case3))))) (pairsIn (rowsOf case3) (rowsOf case3)) ≡ length (rowsOf case3)
@@ -136,7 +136,7 @@ unfoldable pub case4 : List ℕ
 case4 = 1 ∷ 0 ∷ 1 ∷ 0 ∷ 1 ∷ 1 ∷ 1 ∷ 0 ∷ 4 ∷ 0 ∷ 1 ∷ 0 ∷ []
 
 pub accepted4 : firstFault case4 ≡ Accepted
-unfolding case4 firstFault breaks11 lowestFault faultAt firstRule breaks12 breaks13 breaks14 breaks15 breaks16 breaks17 breaks18 unusedColumn misnamed notTerm wrongWidth outside wrongBounds tooMany unequalSides rowsOf byKind byRows widthIn widthsOf bitsIn bitsOf countKind
+unfolding case4 firstFault breaks11 lowestFault faultAt firstRule rulesAt breaks12 breaks13 breaks14 breaks15 breaks16 breaks17 breaks18 unusedColumn misnamed notTerm wrongWidth outside wrongBounds tooMany unequalSides rowsOf byKind byRows widthIn widthsOf bitsIn bitsOf countKind
 accepted4 = refl
 
 stop4 : conflictAt (countUp 0 (suc (suc (bitsOf (rowsOf case4))))) (pairsIn (rowsOf case4) (rowsOf case4)) ≡ 2
@@ -159,7 +159,7 @@ unfoldable pub case5 : List ℕ
 case5 = 0 ∷ 1 ∷ 0 ∷ 0 ∷ 0 ∷ 1 ∷ 0 ∷ 0 ∷ 1 ∷ 0 ∷ 1 ∷ 0 ∷ 1 ∷ 1 ∷ 1 ∷ 0 ∷ 4 ∷ 0 ∷ 1 ∷ 0 ∷ 4 ∷ 1 ∷ 2 ∷ 0 ∷ 4 ∷ 0 ∷ 3 ∷ 0 ∷ []
 
 pub accepted5 : firstFault case5 ≡ Accepted
-unfolding case5 firstFault breaks11 lowestFault faultAt firstRule breaks12 breaks13 breaks14 breaks15 breaks16 breaks17 breaks18 unusedColumn misnamed notTerm wrongWidth outside wrongBounds tooMany unequalSides rowsOf byKind byRows widthIn widthsOf bitsIn bitsOf countKind
+unfolding case5 firstFault breaks11 lowestFault faultAt firstRule rulesAt breaks12 breaks13 breaks14 breaks15 breaks16 breaks17 breaks18 unusedColumn misnamed notTerm wrongWidth outside wrongBounds tooMany unequalSides rowsOf byKind byRows widthIn widthsOf bitsIn bitsOf countKind
 accepted5 = refl
 
 stop5 : conflictAt (countUp 0 (suc (suc (bitsOf (rowsOf case5))))) (pairsIn (rowsOf case5) (rowsOf case5)) ≡ 6
@@ -182,7 +182,7 @@ unfoldable pub case6 : List ℕ
 case6 = []
 
 pub accepted6 : firstFault case6 ≡ Accepted
-unfolding case6 firstFault breaks11 lowestFault faultAt firstRule breaks12 breaks13 breaks14 breaks15 breaks16 breaks17 breaks18 unusedColumn misnamed notTerm wrongWidth outside wrongBounds tooMany unequalSides rowsOf byKind byRows widthIn widthsOf bitsIn bitsOf countKind
+unfolding case6 firstFault breaks11 lowestFault faultAt firstRule rulesAt breaks12 breaks13 breaks14 breaks15 breaks16 breaks17 breaks18 unusedColumn misnamed notTerm wrongWidth outside wrongBounds tooMany unequalSides rowsOf byKind byRows widthIn widthsOf bitsIn bitsOf countKind
 accepted6 = refl
 
 stop6 : conflictAt (countUp 0 (suc (suc (bitsOf (rowsOf case6))))) (pairsIn (rowsOf case6) (rowsOf case6)) ≡ length (rowsOf case6)

@@ -10,7 +10,7 @@ use lib.Seq.{take-all}
 use borrow.Author.Tests.{le-ltb, lt-ltb, eq-eqb, ne-eqb}
 use Rattle.terms.specs.declared.Fault.the-variants.{Accepted}
 use Rattle.terms.specs.Calls.{faultRecord}
-use Rattle.terms.specs.Faults.{absent, isAccepted, firstFault, breaks11, lowestFault, faultAt, firstRule, breaks12, breaks13, breaks14, breaks15, breaks16, breaks17, breaks18, unusedColumn, misnamed, notTerm, wrongWidth, outside, wrongBounds, tooMany, unequalSides}
+use Rattle.terms.specs.Faults.{absent, isAccepted, firstFault, breaks11, lowestFault, faultAt, firstRule, rulesAt, breaks12, breaks13, breaks14, breaks15, breaks16, breaks17, breaks18, unusedColumn, misnamed, notTerm, wrongWidth, outside, wrongBounds, tooMany, unequalSides}
 use Rattle.terms.specs.Table.{rowsOf, byKind, byRows, widthIn, widthsOf, bitsIn, bitsOf, countKind, extract, valueIn, valuesOf, sameWord, sidesAgree, allRows, satisfies}
 use Rattle.terms.proofs.Assignments.{assignment-length}
 use Rattle.terms.proofs.Bounds.{variable-accepted, variable-refused, cut-accepted, cut-refused}
@@ -39,15 +39,15 @@ joined w k = row 0 w 0 0 ++ row 3 0 (w - 1) k ++ row 3 0 (k - 1) 0 ++ row 2 1 2 
 module _ (w : ℕ) (least : 1 ≤ w) (most : w ≤ 1024) where
   -- these tables break no rule
   itself-accepted : firstFault (row 0 w 0 0 ++ row 4 0 0 0) ≡ Accepted
-  unfolding rowsOf byKind byRows widthIn widthsOf bitsIn bitsOf countKind breaks11 breaks12 breaks13 breaks14 breaks15 breaks16 breaks17 breaks18 unusedColumn notTerm misnamed outside wrongWidth wrongBounds tooMany unequalSides firstRule faultAt lowestFault firstFault
+  unfolding rowsOf byKind byRows widthIn widthsOf bitsIn bitsOf countKind breaks11 breaks12 breaks13 breaks14 breaks15 breaks16 breaks17 breaks18 unusedColumn notTerm misnamed outside wrongWidth wrongBounds tooMany unequalSides firstRule rulesAt faultAt lowestFault firstFault
   itself-accepted = rw (ne-eqb w 0 (λ e. omega arith), le-ltb 1024 w most, le-ltb 4096 (w + 0) (omega arith), eq-eqb w w refl)
 
   fills-accepted : firstFault (row 1 0 w 0 ++ row 1 1 w 0 ++ row 4 0 1 0) ≡ Accepted
-  unfolding rowsOf byKind byRows widthIn widthsOf bitsIn bitsOf countKind breaks11 breaks12 breaks13 breaks14 breaks15 breaks16 breaks17 breaks18 unusedColumn notTerm misnamed outside wrongWidth wrongBounds tooMany unequalSides firstRule faultAt lowestFault firstFault
+  unfolding rowsOf byKind byRows widthIn widthsOf bitsIn bitsOf countKind breaks11 breaks12 breaks13 breaks14 breaks15 breaks16 breaks17 breaks18 unusedColumn notTerm misnamed outside wrongWidth wrongBounds tooMany unequalSides firstRule rulesAt faultAt lowestFault firstFault
   fills-accepted = rw (ne-eqb w 0 (λ e. omega arith), le-ltb 1024 w most, eq-eqb w w refl)
 
   filled-accepted : firstFault (filled w) ≡ Accepted
-  unfolding rowsOf byKind byRows widthIn widthsOf bitsIn bitsOf countKind breaks11 breaks12 breaks13 breaks14 breaks15 breaks16 breaks17 breaks18 unusedColumn notTerm misnamed outside wrongWidth wrongBounds tooMany unequalSides firstRule faultAt lowestFault firstFault
+  unfolding rowsOf byKind byRows widthIn widthsOf bitsIn bitsOf countKind breaks11 breaks12 breaks13 breaks14 breaks15 breaks16 breaks17 breaks18 unusedColumn notTerm misnamed outside wrongWidth wrongBounds tooMany unequalSides firstRule rulesAt faultAt lowestFault firstFault
   filled-accepted = rw (ne-eqb w 0 (λ e. omega arith), le-ltb 1024 w most, le-ltb 4096 (w + 0) (omega arith), eq-eqb w w refl)
 
   bits-are : w + 0 ≡ w
@@ -89,7 +89,7 @@ module _ (w : ℕ) (least : 1 ≤ w) (most : w ≤ 1024) where
   -- A variable with each bit equal to the next: a pattern's bits but the last against its bits but the first.
   module _ (two : 2 ≤ w) where
     chained-accepted : firstFault (chained w) ≡ Accepted
-    unfolding rowsOf byKind byRows widthIn widthsOf bitsIn bitsOf countKind breaks11 breaks12 breaks13 breaks14 breaks15 breaks16 breaks17 breaks18 unusedColumn notTerm misnamed outside wrongWidth wrongBounds tooMany unequalSides firstRule faultAt lowestFault firstFault
+    unfolding rowsOf byKind byRows widthIn widthsOf bitsIn bitsOf countKind breaks11 breaks12 breaks13 breaks14 breaks15 breaks16 breaks17 breaks18 unusedColumn notTerm misnamed outside wrongWidth wrongBounds tooMany unequalSides firstRule rulesAt faultAt lowestFault firstFault
     chained-accepted =
         let sides : w - 1 + 1 - 1 ≡ w - 2 + 1 - 0 = omega arith in
         rw (
@@ -155,7 +155,7 @@ module _ (w : ℕ) (least : 1 ≤ w) (most : w ≤ 1024) where
   -- Case 9: a variable cut in two and joined again.
   module _ (k : ℕ) (low : 1 ≤ k) (high : k < w) where
     joined-accepted : firstFault (joined w k) ≡ Accepted
-    unfolding rowsOf byKind byRows widthIn widthsOf bitsIn bitsOf countKind breaks11 breaks12 breaks13 breaks14 breaks15 breaks16 breaks17 breaks18 unusedColumn notTerm misnamed outside wrongWidth wrongBounds tooMany unequalSides firstRule faultAt lowestFault firstFault
+    unfolding rowsOf byKind byRows widthIn widthsOf bitsIn bitsOf countKind breaks11 breaks12 breaks13 breaks14 breaks15 breaks16 breaks17 breaks18 unusedColumn notTerm misnamed outside wrongWidth wrongBounds tooMany unequalSides firstRule rulesAt faultAt lowestFault firstFault
     joined-accepted =
         let all : w - 1 + 1 - k + (k - 1 + 1 - 0) ≡ w = omega arith in
         rw (

@@ -2,7 +2,7 @@
 -- them breaks a rule, and the lowest fault of the rows left is that of the table.
 use mathlib.Core.Path.{_≡_, refl, sym, _∙_, ap, ap₂}
 use mathlib.Core.Bool.{Bool, true, false, not, _||_, cond}
-use mathlib.Core.List.{List}
+use mathlib.Core.List.{List, [], _∷_}
 use Prim.Native.Nat.{ℕ, suc, _+_, _-_, _%_, _<_, _≤_}
 use native.Mathlib.Omega.{arith}
 use native.Mathlib.Numerals.{add-one}
@@ -10,19 +10,21 @@ use borrow.Author.Tests.{lt-ltb, le-ltb, ne-eqb, eqb-true, eqb-false}
 use borrow.Author.Count.{below-more}
 use lib.Dec.{eqb, ltb}
 use lib.ListN.{length, getD, take, set}
-use lib.Seq.{length-take-le}
+use lib.Seq.{length-take-le, take-all}
 use Rattle.terms.specs.declared.Row.{Row}
 use Rattle.terms.specs.declared.Fault.{Fault}
 use Rattle.terms.specs.declared.Fault.the-variants.{Accepted, Shape}
 use Rattle.terms.specs.Table.{rowsOf, rowAt, widthIn, widthsOf, widthOf, bitsIn, bitsOf, countKind}
-use Rattle.terms.specs.Faults.{breaks11, breaks12, breaks13, breaks14, breaks15, breaks16, breaks17, breaks18, unusedColumn, misnamed, wrongWidth, wrongBounds, tooMany, unequalSides, firstRule, faultAt, isAccepted, lowestFault, firstFault, faultIn, rowsBefore, rowsPassed}
+use Rattle.terms.specs.Faults.{breaks11, breaks12, breaks13, breaks14, breaks15, breaks16, breaks17, breaks18, misnamed, wrongWidth, wrongBounds, tooMany, unequalSides, firstRule, rulesAt, faultAt, isAccepted, lowestFault, firstFault}
+use Rattle.checker.specs.Check.{faultIn, rowsBefore, rowsPassed, rulesIn}
 use Rattle.laws.specs.Buffers.{overwrite}
 use Rattle.terms.proofs.RowKinds.{kind-same}
-use Rattle.laws.proofs.Bools.{or-true}
+use Rattle.laws.proofs.Bools.{or-true, not-both}
 use Rattle.terms.proofs.Rows.{rows-length}
 use Rattle.laws.proofs.Buffers.{overwrite-length, overwrite-read, overwrite-more}
 use Rattle.terms.proofs.Widths.{widths-count, width-row, width-early, widths-more, width-same, bits-more, count-more}
-use Rattle.terms.proofs.Faults.{Passed, kept, kept-names, fault-row, same-fault, concat-names, extract-names, equation-names, widths-small, totals-small, lowest-past, lowest-here}
+use Rattle.terms.proofs.Faults.{Passed, kept, kept-names, same-first, concat-names, extract-names, equation-names, widths-small, totals-small, lowest-past, lowest-here}
+use Rattle.terms.proofs.AcceptedTable.{accepted-table}
 
 -- a table of the wrong shape, or too little room: nothing is written
 pub wrong-shape : (room : ℕ) (table ws : List ℕ) → faultIn room table ≡ Shape → ws ≡ overwrite (widthsOf (rowsPassed room table)) ws
@@ -51,6 +53,25 @@ pub whole : (room : ℕ) (table : List ℕ) → 512 ≤ room → length table �
     → faultIn room table ≡ lowestFault (rowsOf table) 0 (length (rowsOf table))
 unfolding faultIn firstFault breaks11
 whole room table h l m = let n : length (rowsOf table) ≤ 512 = omega (arith, rows-length table) in rw (le-ltb room 512 h, m, le-ltb 512 (length (rowsOf table)) n)
+
+-- a fault's row: each rule of a row has a fault at it
+abbrev AllAt : ℕ → ℕ → List (Bool × Fault) → Type 0
+AllAt r n [] = Unit {0}
+AllAt r n (s ∷ rules) = (rowsBefore (s .1) n ≡ r) × AllAt r n rules
+
+first-row : (r n : ℕ) (rules : List (Bool × Fault)) → AllAt r n rules → isAccepted (firstRule rules) ≡ false → rowsBefore (firstRule rules) n ≡ r
+unfolding firstRule
+first-row r n [] all h = absurd (not-both refl h)
+first-row r n (s ∷ rules) all h = go (s .0) (first-row r n rules (all .1)) h
+  where
+    go : (b : Bool) → (isAccepted (firstRule rules) ≡ false → rowsBefore (firstRule rules) n ≡ r)
+        → isAccepted (cond b (s .1) (firstRule rules)) ≡ false → rowsBefore (cond b (s .1) (firstRule rules)) n ≡ r
+    go true rest h = all .0
+    go false rest h = rest h
+
+fault-row : (t : List Row) (r n : ℕ) → isAccepted (faultAt t r) ≡ false → rowsBefore (faultAt t r) n ≡ r
+unfolding faultAt rulesAt
+fault-row t r n h = first-row r n (rulesAt t r) (refl, (refl, (refl, (refl, (refl, (refl, (refl, tt))))))) h
 
 pub record Checking (table ws₀ ws : List ℕ) (variables bits equations r : ℕ) : Type 0 where
   pub within : r ≤ length (rowsOf table)
@@ -135,24 +156,24 @@ module _ (table ws₀ ws : List ℕ) (variables bits equations r : ℕ) (k : Che
     totals-are = rw (k .n-variables, k .n-bits, k .n-equations, count-more 0 rows r l, bits-more rows r l, count-more 4 rows r l)
 
     -- what the code asks of row r is the row's fault
-    pub checking-fault : firstRule r (ltb 4 (rowAt rows r .kind)) (unusedColumn (rowAt rows r)) (misnamed rows r (rowAt rows r))
-        (wrongWidth (rowAt rows r) (widthIn ws (rowAt rows r)))
-        (wrongBounds (rowAt rows r) (getD ws (rowAt rows r .a) 0))
-        (tooMany (variables + cond (eqb (rowAt rows r .kind) 0) 1 0) (bits + bitsIn (rowAt rows r)) (equations + cond (eqb (rowAt rows r .kind) 4) 1 0))
-        (unequalSides (rowAt rows r) (getD ws (rowAt rows r .a) 0) (getD ws (rowAt rows r .b) 0))
+    pub checking-fault : firstRule (rulesIn rows ws r (rowAt rows r) (variables + cond (eqb (rowAt rows r .kind) 0) 1 0) (bits + bitsIn (rowAt rows r)) (equations + cond (eqb (rowAt rows r .kind) 4) 1 0))
         ≡ faultAt rows r
-    unfolding faultAt breaks12 breaks13 breaks14 breaks15 breaks16 breaks18
+    unfolding rulesIn faultAt rulesAt breaks12 breaks13 breaks14 breaks15 breaks16 breaks18
     checking-fault =
-        same-fault r (breaks12 rows r) (breaks13 rows r) (breaks14 rows r) _ _ _ _ (breaks15 rows r) (breaks16 rows r) (breaks18 rows r)
-        (λ m. ap (wrongWidth (rowAt rows r)) (width-read m)) bounds-read sides-read
-        ∙ ap (λ (b : Bool). firstRule r (breaks12 rows r) (breaks13 rows r) (breaks14 rows r) (breaks15 rows r) (breaks16 rows r) b (breaks18 rows r)) totals-are
+        let small : r % 65536 ≡ r = omega (arith, few) in
+        rw small
+        (same-first _ _ _ _ _ refl (λ _.
+        same-first _ _ _ _ _ refl (λ _.
+        same-first _ _ _ _ _ refl (λ m.
+        same-first _ _ _ _ _ (ap (wrongWidth (rowAt rows r)) (width-read m)) (λ _.
+        same-first _ _ _ _ _ (bounds-read m) (λ _.
+        same-first _ _ _ _ _ totals-are (λ _.
+        same-first _ _ _ _ _ (sides-read m) (λ _. refl))))))))
 
     pub checking-answer : (row : Row) (v b e : ℕ) (f : Fault) → row ≡ rowAt rows r
         → v ≡ variables + cond (eqb (row .kind) 0) 1 0 → b ≡ bits + bitsIn row → e ≡ equations + cond (eqb (row .kind) 4) 1 0
-        → f ≡ firstRule (r % 65536) (ltb 4 (row .kind)) (unusedColumn row) (misnamed rows r row) (wrongWidth row (widthIn ws row))
-        (wrongBounds row (getD ws (row .a) 0)) (tooMany v b e) (unequalSides row (getD ws (row .a) 0) (getD ws (row .b) 0))
-        → f ≡ faultAt rows r
-    checking-answer row v b e f er ev eb ee ef = let small : r % 65536 ≡ r = omega (arith, few) in ef ∙ rw (small, ev, eb, ee, er) checking-fault
+        → f ≡ firstRule (rulesIn rows ws r row v b e) → f ≡ faultAt rows r
+    checking-answer row v b e f er ev eb ee ef = ef ∙ rw (ev, eb, ee, er) checking-fault
 
     -- one more row passed
     pub checking-more : isAccepted (faultAt rows r) ≡ true → (row : Row) (v b e w : ℕ) → row ≡ rowAt rows r
@@ -187,12 +208,12 @@ module _ (table ws₀ ws : List ℕ) (variables bits equations r : ℕ) (k : Che
 
     pub checking-written : isAccepted (faultAt rows r) ≡ false → faultIn (length ws₀) table ≡ faultAt rows r
         → ws ≡ overwrite (widthsOf (rowsPassed (length ws₀) table)) ws₀
-    unfolding rowsPassed faultAt
+    unfolding rowsPassed
     checking-written a e =
         k .widths
         ∙ ap (λ (n : ℕ). overwrite (widthsOf (take n rows)) ws₀)
         (sym (ap (λ (f : Fault). rowsBefore f (length rows)) e
-        ∙ fault-row r (length rows) (breaks12 rows r) (breaks13 rows r) (breaks14 rows r) (breaks15 rows r) (breaks16 rows r) (breaks17 rows r) (breaks18 rows r) a))
+        ∙ fault-row rows r (length rows) a))
 
   -- no row left
   pub checking-accepts : length rows ≤ r → lowestFault rows 0 (length rows) ≡ Accepted
@@ -204,3 +225,20 @@ module _ (table ws₀ ws : List ℕ) (variables bits equations r : ℕ) (k : Che
   checking-all h e =
       k .widths
       ∙ ap (λ (n : ℕ). overwrite (widthsOf (take n rows)) ws₀) (let same : r ≡ length rows = omega (arith, k .within) in same ∙ sym (ap (λ (f : Fault). rowsBefore f (length rows)) e))
+
+-- the check with room for 512 widths
+pub fault-found : (room : ℕ) (table : List ℕ) → room ≡ 512 → faultIn room table ≡ firstFault table
+unfolding faultIn
+fault-found room table e = rw e
+
+-- the widths that an accepted table leaves
+pub widths-left : (table old : List ℕ) → length old ≡ 512 → firstFault table ≡ Accepted → (r : ℕ) → r < length (rowsOf table)
+    → getD (overwrite (widthsOf (rowsPassed (length old) table)) old) r 0 ≡ widthOf (rowsOf table) r
+unfolding rowsPassed
+widths-left table old n f r h =
+    let t = accepted-table table f in
+    let all : take (rowsBefore (faultIn (length old) table) (length (rowsOf table))) (rowsOf table) ≡ rowsOf table =
+    ap (λ (g : Fault). take (rowsBefore g (length (rowsOf table))) (rowsOf table)) (fault-found (length old) table n ∙ f)
+    ∙ take-all (length (rowsOf table)) (rowsOf table) (omega arith) in
+    ap (λ (l : List Row). getD (overwrite (widthsOf l) old) r 0) all
+    ∙ overwrite-read (widthsOf (rowsOf table)) old r (omega (arith, widths-count (rowsOf table))) (omega (arith, t .few))

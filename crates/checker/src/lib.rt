@@ -2,10 +2,10 @@
 // pass: a row's rules ask only for the kinds and widths of earlier rows and for three running totals.
 ghost use mathlib.Core.Path.{_≡_};
 ghost use Prim.Native.Nat.{_+_, _-_, _%_, _≤_};
-ghost use lib.Dec.{ltb};
 ghost use lib.ListN.{getD, length, take};
 ghost use Rattle.terms.specs.Table.{rowsOf, widthIn, widthsOf, bitsIn, bitsOf, startsOf};
-ghost use Rattle.terms.specs.Faults.{unusedColumn, notTerm, misnamed, wrongWidth, wrongBounds, tooMany, unequalSides, firstRule, faultIn, rowsPassed};
+ghost use Rattle.terms.specs.Faults.{unusedColumn, notTerm, misnamed, wrongWidth, wrongBounds, tooMany, unequalSides, firstRule};
+ghost use Rattle.checker.specs.Check.{rulesIn, faultIn, rowsPassed};
 ghost use Rattle.laws.specs.Buffers.{overwrite};
 use terms::Fault;
 use terms::Row;
@@ -181,14 +181,7 @@ fn row_fault(
     bits: usize,
     equations: usize,
 ) -> Fault
-    ensures { λ f. ⌜ f ≡ firstRule (r % 65536)
-        (ltb 4 (row .kind))
-        (unusedColumn row)
-        (misnamed (rowsOf (now (table .entry))) r row)
-        (wrongWidth row (widthIn (now (widths .entry)) row))
-        (wrongBounds row (getD (now (widths .entry)) (row .a) 0))
-        (tooMany variables bits equations)
-        (unequalSides row (getD (now (widths .entry)) (row .a) 0) (getD (now (widths .entry)) (row .b) 0)) ⌝ }
+    ensures { λ f. ⌜ f ≡ firstRule (rulesIn (rowsOf (now (table .entry))) (now (widths .entry)) r row variables bits equations) ⌝ }
 {
     let at = numbers::narrow(r);
     let kind = row.kind;

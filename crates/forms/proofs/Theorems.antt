@@ -9,7 +9,7 @@ use Rattle.terms.specs.declared.Row.{Row}
 use Rattle.terms.specs.declared.Fault.the-variants.{Accepted}
 use Rattle.terms.specs.Table.{rowsOf, rowAt, byKind, byRows, widthIn, widthsOf, widthOf, bitsIn, bitsOf, countKind, extract, sourcesOf, sourceOf, valueIn, valuesOf, valueOf}
 use Rattle.laws.specs.Lists.{countUp}
-use Rattle.terms.specs.Faults.{firstFault, breaks11, lowestFault, faultAt, firstRule, breaks12, breaks13, breaks14, breaks15, breaks16, breaks17, breaks18, unusedColumn, misnamed, notTerm, wrongWidth, outside, wrongBounds, tooMany, unequalSides}
+use Rattle.terms.specs.Faults.{firstFault, breaks11, lowestFault, faultAt, firstRule, rulesAt, breaks12, breaks13, breaks14, breaks15, breaks16, breaks17, breaks18, unusedColumn, misnamed, notTerm, wrongWidth, outside, wrongBounds, tooMany, unequalSides}
 use Rattle.terms.specs.Assignments.{Assignment}
 use Rattle.terms.proofs.AcceptedTable.{accepted-table, term-present}
 use Rattle.terms.proofs.Assignments.{assignment-length}
@@ -172,5 +172,5 @@ abbrev pub case-9-table : List ℕ
 case-9-table = 0 ∷ 8 ∷ 0 ∷ 0 ∷ 3 ∷ 0 ∷ 7 ∷ 4 ∷ 3 ∷ 0 ∷ 3 ∷ 0 ∷ 2 ∷ 1 ∷ 2 ∷ 0 ∷ []
 
 pub case-9 : (firstFault case-9-table ≡ Accepted) × (formOf (rowsOf case-9-table) 3 ≡ part 0 7 0 ∷ [])
-unfolding firstFault breaks11 lowestFault faultAt firstRule breaks12 breaks13 breaks14 breaks15 breaks16 breaks17 breaks18 unusedColumn misnamed notTerm wrongWidth outside wrongBounds tooMany unequalSides rowsOf byKind byRows widthIn widthsOf countKind bitsIn bitsOf formOf formFrom group addAll add meets merged pieceOf placePieces bitsUp sourcesOf valuesOf valueIn extract countUp
+unfolding firstFault breaks11 lowestFault faultAt firstRule rulesAt breaks12 breaks13 breaks14 breaks15 breaks16 breaks17 breaks18 unusedColumn misnamed notTerm wrongWidth outside wrongBounds tooMany unequalSides rowsOf byKind byRows widthIn widthsOf countKind bitsIn bitsOf formOf formFrom group addAll add meets merged pieceOf placePieces bitsUp sourcesOf valuesOf valueIn extract countUp
 case-9 = (refl, refl)

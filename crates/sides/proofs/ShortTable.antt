@@ -12,27 +12,17 @@ use Rattle.terms.specs.declared.Row.{Row}
 use Rattle.terms.specs.declared.Fault.the-variants.{Accepted}
 use Rattle.terms.specs.Table.{rowsOf, rowAt, byKind, widthIn, widthsOf, widthOf, bitsOf, extract, valuesOf, valueOf, sourcesOf}
 use Rattle.laws.specs.Lists.{countUp}
-use Rattle.terms.specs.Faults.{breaks11, breaks12, breaks13, breaks14, breaks15, breaks16, breaks17, breaks18, unusedColumn, notTerm, misnamed, wrongWidth, wrongBounds, unequalSides, firstRule, faultAt, isAccepted, lowestFault, firstFault}
+use Rattle.terms.specs.Faults.{breaks11, breaks12, breaks13, breaks14, breaks15, breaks16, breaks17, breaks18, unusedColumn, notTerm, misnamed, wrongWidth, wrongBounds, unequalSides, faultAt, isAccepted, lowestFault, firstFault}
 use Rattle.terms.proofs.RowKinds.{KindOf, is-variable, is-constant, is-concat, is-extract, is-equation, kind-of}
 use Rattle.laws.proofs.Numbers.{by-strong}
 use Rattle.terms.proofs.Widths.{width-row, width-early, width-same, widths-count}
-use Rattle.terms.proofs.Faults.{AllKept, Term, Kept, kept, kept-names, concat-names}
+use Rattle.terms.proofs.Faults.{Term, Kept, kept, unbroken, kept-names, concat-names}
 use Rattle.terms.proofs.Values.{Sound, values-count, value-variable, value-constant, value-concat, value-extract, value-equation, width-extract}
 use Rattle.terms.proofs.Sources.{count-up}
 use Rattle.answers.specs.Pairs.{pairsIn}
 use Rattle.sides.specs.Shortened.{shortened}
 use Rattle.sides.proofs.Alike.{AlikeRow, Alike, alike-kinds, alike-take, alike-bits, alike-count, alike-pairs, same-pairs}
 use Rattle.sides.proofs.Shortened.{short-count, short-same, CutOf, short-cut}
-
--- a row whose tests all fail breaks no rule
-none-broken : (r : ℕ) (b12 b13 b14 b15 b16 b17 b18 : Bool) → AllKept b12 b13 b14 b15 b16 b17 b18
-    → isAccepted (firstRule r b12 b13 b14 b15 b16 b17 b18) ≡ true
-unfolding firstRule
-none-broken r b12 b13 b14 b15 b16 b17 b18 k = rw (k .kept12, k .kept13, k .kept14, k .kept15, k .kept16, k .kept17, k .kept18)
-
-unbroken : (t : List Row) (r : ℕ) → Kept t r → isAccepted (faultAt t r) ≡ true
-unfolding faultAt
-unbroken t r k = none-broken r (breaks12 t r) (breaks13 t r) (breaks14 t r) (breaks15 t r) (breaks16 t r) (breaks17 t r) (breaks18 t r) (k .row-kept)
 
 -- a table no row of which breaks a rule has no lowest fault
 none-lowest : (t : List Row) (r n : ℕ) → ((i : ℕ) → r ≤ i → i < r + n → isAccepted (faultAt t i) ≡ true) → lowestFault t r n ≡ Accepted
@@ -115,15 +105,13 @@ module _ (t : List Row) (sound : Sound t) where
   unfolding breaks13 breaks14 breaks15 breaks16 breaks18
   kept-same r e k =
       record {
-        row-kept = record {
-          kept12 = kinds-same r ∙ k .row-kept .kept12;
-          kept13 = rw e (k .row-kept .kept13);
-          kept14 = rw e (names-same r (rowAt t r) ∙ k .row-kept .kept14);
-          kept15 = rw (e, short-widths) (k .row-kept .kept15);
-          kept16 = rw (e, short-widths) (k .row-kept .kept16);
-          kept17 = totals-same r ∙ k .row-kept .kept17;
-          kept18 = rw (e, short-widths) (k .row-kept .kept18);
-        };
+        kept12 = kinds-same r ∙ k .kept12;
+        kept13 = rw e (k .kept13);
+        kept14 = rw e (names-same r (rowAt t r) ∙ k .kept14);
+        kept15 = rw (e, short-widths) (k .kept15);
+        kept16 = rw (e, short-widths) (k .kept16);
+        kept17 = totals-same r ∙ k .kept17;
+        kept18 = rw (e, short-widths) (k .kept18);
       }
 
   term-same : (r x : ℕ) → Term t r x → notTerm t r x ≡ false
@@ -135,16 +123,14 @@ module _ (t : List Row) (sound : Sound t) where
   unfolding breaks13 breaks14 breaks15 breaks16 breaks18 unusedColumn misnamed wrongWidth wrongBounds unequalSides byKind
   kept-cut r cut k =
       record {
-        row-kept = record {
-          kept12 = kinds-same r ∙ k .row-kept .kept12;
-          kept13 = rw (cut .is-cut);
-          kept14 = rw (cut .is-cut) (terms-same r (rowAt s r .a) ∙ term-same r (rowAt s r .a) (cut .names));
-          kept15 = rw (cut .is-cut);
-          kept16 =
-              rw (cut .is-cut, short-widths, lt-ltb (rowAt s r .b) (widthOf t (rowAt s r .a)) (cut .below), le-ltb (rowAt s r .b) (rowAt s r .c) (cut .order));
-          kept17 = totals-same r ∙ k .row-kept .kept17;
-          kept18 = rw (cut .is-cut);
-        };
+        kept12 = kinds-same r ∙ k .kept12;
+        kept13 = rw (cut .is-cut);
+        kept14 = rw (cut .is-cut) (terms-same r (rowAt s r .a) ∙ term-same r (rowAt s r .a) (cut .names));
+        kept15 = rw (cut .is-cut);
+        kept16 =
+            rw (cut .is-cut, short-widths, lt-ltb (rowAt s r .b) (widthOf t (rowAt s r .a)) (cut .below), le-ltb (rowAt s r .b) (rowAt s r .c) (cut .order));
+        kept17 = totals-same r ∙ k .kept17;
+        kept18 = rw (cut .is-cut);
       }
 
   short-kept : (r : ℕ) → r < length t → Kept s r

@@ -1,25 +1,21 @@
 -- What an accepted table is: at most 512 whole rows, none of which breaks a rule.
-use mathlib.Core.Path.{_≡_, refl, _∙_, ap}
+use mathlib.Core.Path.{_≡_, refl, ap}
 use mathlib.Core.Bool.{Bool, true, false, cond}
 use mathlib.Core.List.{List}
 use Prim.Native.Nat.{ℕ, _%_, _<_, _≤_}
 use native.Mathlib.Omega.{arith}
 use lib.Dec.{eqb, ltb}
-use lib.ListN.{length, getD, take}
-use lib.Seq.{take-all}
+use lib.ListN.{length}
 use borrow.Author.Tests.{ltb-false, eqb-true, not-false, lt-ltb, ne-eqb}
 use Rattle.terms.specs.declared.Row.{Row}
 use Rattle.terms.specs.declared.Fault.{Fault}
 use Rattle.terms.specs.declared.Fault.the-variants.{Accepted, Shape, Kind, Unused, Named, Width, Bounds, Count, Sides}
-use Rattle.terms.specs.Table.{rowsOf, rowAt, widthsOf, widthOf}
+use Rattle.terms.specs.Table.{rowsOf, rowAt}
 use Rattle.terms.specs.Calls.{faultNumber}
-use Rattle.laws.specs.Buffers.{overwrite}
-use Rattle.terms.specs.Faults.{nonzero, breaks11, isAccepted, lowestFault, firstFault, faultIn, rowsBefore, rowsPassed, notTerm, absent}
+use Rattle.terms.specs.Faults.{nonzero, breaks11, isAccepted, lowestFault, firstFault, notTerm, absent}
 use Rattle.laws.proofs.Bools.{not-both, or-first, or-second}
 use Rattle.terms.proofs.Faults.{passed-from, term, Term}
 use Rattle.terms.proofs.Values.{Sound}
-use Rattle.laws.proofs.Buffers.{overwrite-read}
-use Rattle.terms.proofs.Widths.{widths-count}
 
 pub fault-none : (f : Fault) → isAccepted f ≡ true → f ≡ Accepted
 fault-none Accepted h = refl
@@ -70,23 +66,6 @@ fault-numbered (Width r) h = refl
 fault-numbered (Bounds r) h = refl
 fault-numbered (Count r) h = refl
 fault-numbered (Sides r) h = refl
-
--- the check with room for 512 widths
-pub fault-found : (room : ℕ) (table : List ℕ) → room ≡ 512 → faultIn room table ≡ firstFault table
-unfolding faultIn
-fault-found room table e = rw e
-
--- the widths that an accepted table leaves
-pub widths-left : (table old : List ℕ) → length old ≡ 512 → firstFault table ≡ Accepted → (r : ℕ) → r < length (rowsOf table)
-    → getD (overwrite (widthsOf (rowsPassed (length old) table)) old) r 0 ≡ widthOf (rowsOf table) r
-unfolding rowsPassed
-widths-left table old n f r h =
-    let t = accepted-table table f in
-    let all : take (rowsBefore (faultIn (length old) table) (length (rowsOf table))) (rowsOf table) ≡ rowsOf table =
-    ap (λ (g : Fault). take (rowsBefore g (length (rowsOf table))) (rowsOf table)) (fault-found (length old) table n ∙ f)
-    ∙ take-all (length (rowsOf table)) (rowsOf table) (omega arith) in
-    ap (λ (l : List Row). getD (overwrite (widthsOf l) old) r 0) all
-    ∙ overwrite-read (widthsOf (rowsOf table)) old r (omega (arith, widths-count (rowsOf table))) (omega (arith, t .few))
 
 -- a row that is not absent is a term
 pub term-there : (t : List Row) (row : ℕ) → absent t row ≡ false → Term t (length t) row

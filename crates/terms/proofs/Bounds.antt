@@ -10,18 +10,18 @@ use lib.Dec.{ltb}
 use borrow.Author.Tests.{lt-ltb, le-ltb, ne-eqb}
 use Rattle.terms.specs.declared.Fault.the-variants.{Accepted, Width, Bounds}
 use Rattle.terms.specs.Table.{rowsOf, byKind, byRows, widthIn, widthsOf, bitsIn, bitsOf, countKind}
-use Rattle.terms.specs.Faults.{breaks11, breaks12, breaks13, breaks14, breaks15, breaks16, breaks17, breaks18, unusedColumn, notTerm, misnamed, outside, wrongWidth, wrongBounds, tooMany, unequalSides, firstRule, faultAt, isAccepted, lowestFault, firstFault}
+use Rattle.terms.specs.Faults.{breaks11, breaks12, breaks13, breaks14, breaks15, breaks16, breaks17, breaks18, unusedColumn, notTerm, misnamed, outside, wrongWidth, wrongBounds, tooMany, unequalSides, firstRule, rulesAt, faultAt, isAccepted, lowestFault, firstFault}
 use Rattle.terms.specs.Calls.{refusal, faultRecord}
 use Rattle.laws.proofs.Bools.{or-true}
 
 -- A variable of 1 to 1,024 bits is accepted.
 pub variable-accepted : (w : ℕ) → 1 ≤ w → w ≤ 1024 → firstFault (0 ∷ w ∷ 0 ∷ 0 ∷ []) ≡ Accepted
-unfolding rowsOf byKind byRows widthIn widthsOf bitsIn bitsOf countKind breaks11 breaks12 breaks13 breaks14 breaks15 breaks16 breaks17 breaks18 unusedColumn notTerm misnamed outside wrongWidth wrongBounds tooMany unequalSides firstRule faultAt lowestFault firstFault
+unfolding rowsOf byKind byRows widthIn widthsOf bitsIn bitsOf countKind breaks11 breaks12 breaks13 breaks14 breaks15 breaks16 breaks17 breaks18 unusedColumn notTerm misnamed outside wrongWidth wrongBounds tooMany unequalSides firstRule rulesAt faultAt lowestFault firstFault
 variable-accepted w l h = rw (ne-eqb w 0 (λ e. omega arith), le-ltb 1024 w h, le-ltb 4096 (w + 0) (omega arith))
 
 -- A variable of no bits, or of more than 1,024, is refused at its row for its width.
 pub variable-refused : (w : ℕ) → (w ≡ 0) ⊎ (1024 < w) → firstFault (0 ∷ w ∷ 0 ∷ 0 ∷ []) ≡ Width 0
-unfolding rowsOf byKind byRows widthIn widthsOf bitsIn bitsOf countKind breaks11 breaks12 breaks13 breaks14 breaks15 breaks16 breaks17 breaks18 unusedColumn notTerm misnamed outside wrongWidth wrongBounds tooMany unequalSides firstRule faultAt lowestFault firstFault
+unfolding rowsOf byKind byRows widthIn widthsOf bitsIn bitsOf countKind breaks11 breaks12 breaks13 breaks14 breaks15 breaks16 breaks17 breaks18 unusedColumn notTerm misnamed outside wrongWidth wrongBounds tooMany unequalSides firstRule rulesAt faultAt lowestFault firstFault
 variable-refused w (inl e) = rw e
 variable-refused w (inr h) = rw (lt-ltb 1024 w h, or-true)
 
@@ -32,7 +32,7 @@ last-row false = refl
 -- an extraction of bits b down to c from a variable: the bounds' test decides
 cut-fault : (w b c : ℕ) → 1 ≤ w → w ≤ 1024
     → firstFault (0 ∷ w ∷ 0 ∷ 0 ∷ 3 ∷ 0 ∷ b ∷ c ∷ []) ≡ cond (not (ltb b w) || ltb b c) (Bounds 1) Accepted
-unfolding rowsOf byKind byRows widthIn widthsOf bitsIn bitsOf countKind breaks11 breaks12 breaks13 breaks14 breaks15 breaks16 breaks17 breaks18 unusedColumn notTerm misnamed outside wrongWidth wrongBounds tooMany unequalSides firstRule faultAt lowestFault firstFault
+unfolding rowsOf byKind byRows widthIn widthsOf bitsIn bitsOf countKind breaks11 breaks12 breaks13 breaks14 breaks15 breaks16 breaks17 breaks18 unusedColumn notTerm misnamed outside wrongWidth wrongBounds tooMany unequalSides firstRule rulesAt faultAt lowestFault firstFault
 cut-fault w b c l h = rw (ne-eqb w 0 (λ e. omega arith), le-ltb 1024 w h, le-ltb 4096 (w + 0) (omega arith)) (last-row (not (ltb b w) || ltb b c))
 
 -- An extraction from a variable is accepted where its bounds are in order and below the width.

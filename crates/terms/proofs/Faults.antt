@@ -1,7 +1,7 @@
 -- What holds of a row that breaks no rule, and of a table in which no row breaks one.
 use mathlib.Core.Path.{_≡_, refl, sym, _∙_, ap}
 use mathlib.Core.Bool.{Bool, true, false, not, _||_}
-use mathlib.Core.List.{List}
+use mathlib.Core.List.{List, _∷_}
 use mathlib.Core.Logic.{_⊎_, inl, inr, ⊎-elim}
 use Prim.Native.Nat.{ℕ, zero, suc, _+_, _-_, _<_, _≤_}
 use native.Mathlib.Omega.{arith}
@@ -10,58 +10,29 @@ use lib.ListN.{length, take}
 use borrow.Author.Tests.{ltb-true, ltb-false, eqb-true, eqb-false, not-false}
 use Rattle.terms.specs.declared.Row.{Row}
 use Rattle.terms.specs.declared.Fault.{Fault}
-use Rattle.terms.specs.declared.Fault.the-variants.{Accepted}
+use Rattle.terms.specs.declared.Fault.the-variants.{Accepted, Kind, Unused, Named, Width, Bounds, Count, Sides}
 use Rattle.terms.specs.Table.{rowAt, byKind, widthIn, widthOf, bitsOf, countKind}
-use Rattle.terms.specs.Faults.{breaks12, breaks13, breaks14, breaks15, breaks16, breaks17, breaks18, notTerm, misnamed, outside, wrongWidth, wrongBounds, tooMany, unequalSides, firstRule, faultAt, isAccepted, lowestFault, rowsBefore}
+use Rattle.terms.specs.Faults.{breaks12, breaks13, breaks14, breaks15, breaks16, breaks17, breaks18, notTerm, misnamed, outside, wrongWidth, wrongBounds, tooMany, unequalSides, firstRule, rulesAt, faultAt, isAccepted, lowestFault}
 use Rattle.terms.proofs.RowKinds.{else-kind, KindOf, is-variable, is-constant, is-concat, is-extract, is-equation, kind-of}
 use Rattle.laws.proofs.Bools.{not-both, or-first, or-second}
 use Rattle.laws.proofs.Numbers.{lt-or-le}
 use Rattle.terms.proofs.Widths.{width-row}
 
-pub record AllKept (b12 b13 b14 b15 b16 b17 b18 : Bool) : Type 0 where
-  pub kept12 : b12 ≡ false
-  pub kept13 : b13 ≡ false
-  pub kept14 : b14 ≡ false
-  pub kept15 : b15 ≡ false
-  pub kept16 : b16 ≡ false
-  pub kept17 : b17 ≡ false
-  pub kept18 : b18 ≡ false
+-- ---- rules read from the top
 
-pub all-kept : (r : ℕ) (b12 b13 b14 b15 b16 b17 b18 : Bool) → isAccepted (firstRule r b12 b13 b14 b15 b16 b17 b18) ≡ true
-    → AllKept b12 b13 b14 b15 b16 b17 b18
+-- a rule that is kept, and those behind it
+pub kept-first : (b : Bool) (f : Fault) (rules : List (Bool × Fault)) → isAccepted f ≡ false → isAccepted (firstRule ((b, f) ∷ rules)) ≡ true
+    → (b ≡ false) × (isAccepted (firstRule rules) ≡ true)
 unfolding firstRule
-all-kept r true b13 b14 b15 b16 b17 b18 h = absurd (not-both h refl)
-all-kept r false true b14 b15 b16 b17 b18 h = absurd (not-both h refl)
-all-kept r false false true b15 b16 b17 b18 h = absurd (not-both h refl)
-all-kept r false false false true b16 b17 b18 h = absurd (not-both h refl)
-all-kept r false false false false true b17 b18 h = absurd (not-both h refl)
-all-kept r false false false false false true b18 h = absurd (not-both h refl)
-all-kept r false false false false false false true h = absurd (not-both h refl)
-all-kept r false false false false false false false h =
-    record { kept12 = refl; kept13 = refl; kept14 = refl; kept15 = refl; kept16 = refl; kept17 = refl; kept18 = refl }
+kept-first true f rules n h = absurd (not-both h n)
+kept-first false f rules n h = (refl, h)
 
--- a fault's row
-pub fault-row : (r n : ℕ) (b12 b13 b14 b15 b16 b17 b18 : Bool) → isAccepted (firstRule r b12 b13 b14 b15 b16 b17 b18) ≡ false
-    → rowsBefore (firstRule r b12 b13 b14 b15 b16 b17 b18) n ≡ r
+-- what is asked behind a rule matters only where that one is kept
+pub same-first : (b c : Bool) (f : Fault) (rules others : List (Bool × Fault)) → b ≡ c → (b ≡ false → firstRule rules ≡ firstRule others)
+    → firstRule ((b, f) ∷ rules) ≡ firstRule ((c, f) ∷ others)
 unfolding firstRule
-fault-row r n true b13 b14 b15 b16 b17 b18 h = refl
-fault-row r n false true b14 b15 b16 b17 b18 h = refl
-fault-row r n false false true b15 b16 b17 b18 h = refl
-fault-row r n false false false true b16 b17 b18 h = refl
-fault-row r n false false false false true b17 b18 h = refl
-fault-row r n false false false false false true b18 h = refl
-fault-row r n false false false false false false true h = refl
-fault-row r n false false false false false false false h = absurd (not-both refl h)
-
--- the tests behind a broken rule do not matter
-pub same-fault : (r : ℕ) (b12 b13 b14 b15 b16 b17 b18 c15 c16 c18 : Bool)
-    → (b14 ≡ false → b15 ≡ c15) → (b14 ≡ false → b16 ≡ c16) → (b14 ≡ false → b18 ≡ c18)
-    → firstRule r b12 b13 b14 b15 b16 b17 b18 ≡ firstRule r b12 b13 b14 c15 c16 b17 c18
-unfolding firstRule
-same-fault r true b13 b14 b15 b16 b17 b18 c15 c16 c18 h₅ h₆ h₈ = refl
-same-fault r false true b14 b15 b16 b17 b18 c15 c16 c18 h₅ h₆ h₈ = refl
-same-fault r false false true b15 b16 b17 b18 c15 c16 c18 h₅ h₆ h₈ = refl
-same-fault r false false false b15 b16 b17 b18 c15 c16 c18 h₅ h₆ h₈ = rw (h₅ refl, h₆ refl, h₈ refl)
+same-first true c f rules others e h = rw (← e)
+same-first false c f rules others e h = rw (← e) (h refl)
 
 -- x names a term before row r
 pub record Term (t : List Row) (r x : ℕ) : Type 0 where
@@ -99,34 +70,52 @@ inside w h =
 
 -- row r breaks no rule
 pub record Kept (t : List Row) (r : ℕ) : Type 0 where
-  pub row-kept : AllKept (breaks12 t r) (breaks13 t r) (breaks14 t r) (breaks15 t r) (breaks16 t r) (breaks17 t r) (breaks18 t r)
+  pub kept12 : breaks12 t r ≡ false
+  pub kept13 : breaks13 t r ≡ false
+  pub kept14 : breaks14 t r ≡ false
+  pub kept15 : breaks15 t r ≡ false
+  pub kept16 : breaks16 t r ≡ false
+  pub kept17 : breaks17 t r ≡ false
+  pub kept18 : breaks18 t r ≡ false
 
 pub kept : (t : List Row) (r : ℕ) → isAccepted (faultAt t r) ≡ true → Kept t r
-unfolding faultAt
+unfolding faultAt rulesAt
 kept t r h =
-    record { row-kept = all-kept r (breaks12 t r) (breaks13 t r) (breaks14 t r) (breaks15 t r) (breaks16 t r) (breaks17 t r) (breaks18 t r) h }
+    let k12 = kept-first (breaks12 t r) (Kind r) _ refl h in
+    let k13 = kept-first (breaks13 t r) (Unused r) _ refl (k12 .1) in
+    let k14 = kept-first (breaks14 t r) (Named r) _ refl (k13 .1) in
+    let k15 = kept-first (breaks15 t r) (Width r) _ refl (k14 .1) in
+    let k16 = kept-first (breaks16 t r) (Bounds r) _ refl (k15 .1) in
+    let k17 = kept-first (breaks17 t r) (Count r) _ refl (k16 .1) in
+    let k18 = kept-first (breaks18 t r) (Sides r) _ refl (k17 .1) in
+    record { kept12 = k12 .0; kept13 = k13 .0; kept14 = k14 .0; kept15 = k15 .0; kept16 = k16 .0; kept17 = k17 .0; kept18 = k18 .0 }
+
+-- and a row that breaks none is accepted
+pub unbroken : (t : List Row) (r : ℕ) → Kept t r → isAccepted (faultAt t r) ≡ true
+unfolding faultAt rulesAt firstRule
+unbroken t r k = rw (k .kept12, k .kept13, k .kept14, k .kept15, k .kept16, k .kept17, k .kept18)
 
 module _ (t : List Row) (r : ℕ) (k : Kept t r) where
   pub kept-kind : rowAt t r .kind ≤ 4
   unfolding breaks12
-  kept-kind = ltb-false 4 (rowAt t r .kind) (k .row-kept .kept12)
+  kept-kind = ltb-false 4 (rowAt t r .kind) (k .kept12)
 
   pub kept-names : misnamed t r (rowAt t r) ≡ false
   unfolding breaks14
-  kept-names = k .row-kept .kept14
+  kept-names = k .kept14
 
   pub kept-bit : rowAt t r .kind ≡ 1 → rowAt t r .a ≤ 1
   unfolding breaks15 wrongWidth byKind
-  kept-bit e = ltb-false 1 (rowAt t r .a) (or-second (outside (widthOf t r)) (ltb 1 (rowAt t r .a)) (rw e at (k .row-kept .kept15)))
+  kept-bit e = ltb-false 1 (rowAt t r .a) (or-second (outside (widthOf t r)) (ltb 1 (rowAt t r .a)) (rw e at (k .kept15)))
 
   pub kept-width : rowAt t r .kind ≤ 2 → (1 ≤ widthOf t r) × (widthOf t r ≤ 1024)
   unfolding breaks15 wrongWidth byKind
   kept-width l = inside (widthOf t r) (go (kind-of (rowAt t r .kind)))
     where
       go : KindOf (rowAt t r .kind) → outside (widthOf t r) ≡ false
-      go (is-variable e) = rw e at (k .row-kept .kept15)
-      go (is-constant e) = or-first (outside (widthOf t r)) (ltb 1 (rowAt t r .a)) (rw e at (k .row-kept .kept15))
-      go (is-concat e) = rw e at (k .row-kept .kept15)
+      go (is-variable e) = rw e at (k .kept15)
+      go (is-constant e) = or-first (outside (widthOf t r)) (ltb 1 (rowAt t r .a)) (rw e at (k .kept15))
+      go (is-concat e) = rw e at (k .kept15)
       go (is-extract e) = absurd (omega arith)
       go (is-equation e) = absurd (omega arith)
 
@@ -134,7 +123,7 @@ module _ (t : List Row) (r : ℕ) (k : Kept t r) where
   unfolding breaks16 wrongBounds byKind
   kept-bounds e =
       let row = rowAt t r in
-      let h : not (ltb (row .b) (widthOf t (row .a))) || ltb (row .b) (row .c) ≡ false = rw e at (k .row-kept .kept16) in (
+      let h : not (ltb (row .b) (widthOf t (row .a))) || ltb (row .b) (row .c) ≡ false = rw e at (k .kept16) in (
         ltb-true (row .b) (widthOf t (row .a)) (not-false (ltb (row .b) (widthOf t (row .a))) (or-first (not (ltb (row .b) (widthOf t (row .a)))) (ltb (row .b) (row .c)) h)),
         ltb-false (row .b) (row .c) (or-second (not (ltb (row .b) (widthOf t (row .a)))) (ltb (row .b) (row .c)) h),
       )
@@ -145,7 +134,7 @@ module _ (t : List Row) (r : ℕ) (k : Kept t r) where
       let v = ltb 64 (countKind 0 (take (suc r) t)) in
       let b = ltb 4096 (bitsOf (take (suc r) t)) in
       let e = ltb 64 (countKind 4 (take (suc r) t)) in
-      let h : v || b || e ≡ false = k .row-kept .kept17 in
+      let h : v || b || e ≡ false = k .kept17 in
       let vb : v || b ≡ false = or-first (v || b) e h in (
         ltb-false 64 (countKind 0 (take (suc r) t)) (or-first v b vb),
         ltb-false 4096 (bitsOf (take (suc r) t)) (or-second v b vb),
@@ -156,7 +145,7 @@ module _ (t : List Row) (r : ℕ) (k : Kept t r) where
   unfolding breaks18 unequalSides
   kept-sides l =
       eqb-true (widthOf t (rowAt t r .a)) (widthOf t (rowAt t r .b))
-      (not-false (eqb (widthOf t (rowAt t r .a)) (widthOf t (rowAt t r .b))) (rw else-kind at (k .row-kept .kept18)))
+      (not-false (eqb (widthOf t (rowAt t r .a)) (widthOf t (rowAt t r .b))) (rw else-kind at (k .kept18)))
 
 -- rows 0 to r - 1 break no rule
 abbrev pub Passed : List Row → ℕ → Type 0

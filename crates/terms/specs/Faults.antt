@@ -1,7 +1,7 @@
 -- Which rule of document 01's table ("Where a call stops", numbers 11 to 18) a term table breaks first.
 -- Each number is one definition, over the rows t of the table and the number r of a row.
 use mathlib.Core.Bool.{Bool, true, false, not, _||_, cond}
-use mathlib.Core.List.{List}
+use mathlib.Core.List.{List, [], _∷_}
 use Prim.Native.Nat.{ℕ, zero, suc, _%_}
 use lib.Dec.{eqb, ltb}
 use lib.ListN.{length, take}
@@ -93,28 +93,25 @@ unequalSides row left right = byKind (row .kind) false false false false (not (e
 unfoldable pub breaks18 : List Row → ℕ → Bool
 breaks18 t r = unequalSides (rowAt t r) (widthOf t (rowAt t r .a)) (widthOf t (rowAt t r .b))
 
--- The fault of row r, in document 01's order, where each test says whether the row breaks that rule.
-unfoldable pub firstRule : ℕ → Bool → Bool → Bool → Bool → Bool → Bool → Bool → Fault
-firstRule r b12 b13 b14 b15 b16 b17 b18 =
-    cond b12 (Kind r)
-    (cond b13 (Unused r)
-    (cond b14 (Named r)
-    (cond b15 (Width r)
-    (cond b16 (Bounds r)
-    (cond b17 (Count r)
-    (cond b18 (Sides r)
-    Accepted))))))
+-- The fault of the first rule that is broken, where each test says whether its rule is; without one, the row is accepted.
+unfoldable pub firstRule : List (Bool × Fault) → Fault
+firstRule [] = Accepted
+firstRule (s ∷ rules) = cond (s .0) (s .1) (firstRule rules)
+
+-- The rules of row r, in document 01's order, each with its fault.
+unfoldable pub rulesAt : List Row → ℕ → List (Bool × Fault)
+rulesAt t r =
+    (breaks12 t r, Kind r)
+    ∷ (breaks13 t r, Unused r)
+    ∷ (breaks14 t r, Named r)
+    ∷ (breaks15 t r, Width r)
+    ∷ (breaks16 t r, Bounds r)
+    ∷ (breaks17 t r, Count r)
+    ∷ (breaks18 t r, Sides r)
+    ∷ []
 
 unfoldable pub faultAt : List Row → ℕ → Fault
-faultAt t r =
-    firstRule r
-    (breaks12 t r)
-    (breaks13 t r)
-    (breaks14 t r)
-    (breaks15 t r)
-    (breaks16 t r)
-    (breaks17 t r)
-    (breaks18 t r)
+faultAt t r = firstRule (rulesAt t r)
 
 abbrev pub isAccepted : Fault → Bool
 isAccepted Accepted = true
@@ -135,26 +132,6 @@ lowestFault t r (suc n) = cond (isAccepted (faultAt t r)) (lowestFault t (suc r)
 -- The first fault of a table: 11, else that of the lowest row that breaks a rule.
 unfoldable pub firstFault : List ℕ → Fault
 firstFault numbers = cond (breaks11 numbers) Shape (lowestFault (rowsOf numbers) 0 (length (rowsOf numbers)))
-
--- What the check finds with room for so many widths: below 512 it takes no table.
-unfoldable pub faultIn : ℕ → List ℕ → Fault
-faultIn room numbers = cond (ltb room 512) Shape (firstFault numbers)
-
--- How many of n rows stand before a fault. A table of the wrong shape has none.
-abbrev pub rowsBefore : Fault → ℕ → ℕ
-rowsBefore Accepted n = n
-rowsBefore Shape n = 0
-rowsBefore (Kind r) n = r
-rowsBefore (Unused r) n = r
-rowsBefore (Named r) n = r
-rowsBefore (Width r) n = r
-rowsBefore (Bounds r) n = r
-rowsBefore (Count r) n = r
-rowsBefore (Sides r) n = r
-
--- The rows that the check passes: all of them, or those before the fault.
-unfoldable pub rowsPassed : ℕ → List ℕ → List Row
-rowsPassed room numbers = take (rowsBefore (faultIn room numbers) (length (rowsOf numbers))) (rowsOf numbers)
 
 -- 30: row absent or an equation
 unfoldable pub absent : List Row → ℕ → Bool

@@ -4,7 +4,8 @@ use borrow.Author.Tests.{not-true, not-false}
 -- `check` meets its contract: the invariant is `Checking`, of proofs/Checking.antt. Assumes nothing.
 use Rattle.checker.proofs.Checking.{Checking, wrong-shape, no-room, too-long, not-whole, whole, checking-first, checking-length, checking-totals, checking-answer, checking-more, checking-ends, checking-written, checking-accepts, checking-all}
 use Rattle.terms.proofs.Rows.{rows-length}
-use Rattle.terms.specs.Faults.{faultAt, isAccepted, faultIn}
+use Rattle.terms.specs.Faults.{faultAt, isAccepted}
+use Rattle.checker.specs.Check.{faultIn}
 use Rattle.terms.specs.Table.{rowsOf}
 use denote.Ref.{now}
 use lib.ListN.{length}

@@ -8,6 +8,7 @@ use borrow.Author.Tests.{lt-ltb, le-ltb}
 use Rattle.terms.specs.declared.Fault.the-variants.{Kind, Unused, Named, Width, Bounds, Count, Sides}
 use Rattle.terms.specs.Table.{rowsOf, widthIn}
 use Rattle.terms.specs.Faults.{unusedColumn, misnamed, wrongWidth, wrongBounds, tooMany, unequalSides, firstRule}
+use Rattle.checker.specs.Check.{rulesIn}
 use borrow.Author.Needs.{needs}
 use Rattle.checker.proofs.row_fault.Statement.{statement}
 use Rattle.checker.proofs.row_fault.Tie as tie
@@ -71,13 +72,13 @@ bad-sides-requires : tie.Need-bad-sides-requires
 bad-sides-requires c κs = search needs
 
 returns : tie.Need-returns
-unfolding firstRule
+unfolding firstRule rulesIn
 returns c =
     rw (lt-ltb _ _ (c .if1 .taken))
     (ap Kind (c .before .narrow .ensures))
 
 returns-2 : tie.Need-returns-2
-unfolding firstRule
+unfolding firstRule rulesIn
 returns-2 c =
     rw (
       kept-12 (c .before .before),
@@ -86,7 +87,7 @@ returns-2 c =
     (ap Unused (c .before .before .before .narrow .ensures))
 
 returns-3 : tie.Need-returns-3
-unfolding firstRule
+unfolding firstRule rulesIn
 returns-3 c =
     rw (
       kept-12 (c .before .before .before .before),
@@ -96,7 +97,7 @@ returns-3 c =
     (ap Named (c .before .before .before .before .before .narrow .ensures))
 
 returns-4 : tie.Need-returns-4
-unfolding firstRule
+unfolding firstRule rulesIn
 returns-4 c =
     rw (
       kept-12 (c .before .before .before .before .before .before .before),
@@ -107,7 +108,7 @@ returns-4 c =
     (ap Width (c .before .before .before .before .before .before .before .before .narrow .ensures))
 
 returns-5 : tie.Need-returns-5
-unfolding firstRule
+unfolding firstRule rulesIn
 returns-5 c =
     rw (
       kept-12 (c .before .before .before .before .before .before .before .before .before .before),
@@ -119,7 +120,7 @@ returns-5 c =
     (ap Bounds (c .before .before .before .before .before .before .before .before .before .before .before .narrow .ensures))
 
 returns-6 : tie.Need-returns-6
-unfolding firstRule
+unfolding firstRule rulesIn
 returns-6 c =
     rw (
       kept-12 (c .before .before .before .before .before .before .before .before .before .before .before .before),
@@ -132,7 +133,7 @@ returns-6 c =
     (ap Count (c .before .before .before .before .before .before .before .before .before .before .before .before .before .narrow .ensures))
 
 returns-7 : tie.Need-returns-7
-unfolding firstRule
+unfolding firstRule rulesIn
 returns-7 c =
     rw (
       kept-12 (c .before .before .before .before .before .before .before .before .before .before .before .before .before .before .before),
@@ -146,7 +147,7 @@ returns-7 c =
     (ap Sides (c .before .before .before .before .before .before .before .before .before .before .before .before .before .before .before .before .narrow .ensures))
 
 returns-8 : tie.Need-returns-8
-unfolding firstRule
+unfolding firstRule rulesIn
 returns-8 c =
     rw (
       kept-12 (c .before .before .before .before .before .before .before .before .before .before .before .before .before .before .before),

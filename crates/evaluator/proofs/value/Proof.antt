@@ -11,7 +11,8 @@ use Rattle.terms.specs.Table.{rowsOf, widthOf, bitsOf}
 use Rattle.terms.specs.declared.Fault.the-variants.{Accepted}
 use Rattle.terms.specs.Faults.{absent, isAccepted, firstFault, notTerm}
 use Rattle.terms.specs.Calls.{faultRecord, completed}
-use Rattle.terms.proofs.AcceptedTable.{fault-none, accepted-table, fault-found, widths-left}
+use Rattle.terms.proofs.AcceptedTable.{fault-none, accepted-table}
+use Rattle.checker.proofs.Checking.{fault-found, widths-left}
 use Rattle.terms.proofs.Faults.{widths-small}
 use Rattle.terms.proofs.Rows.{rows-length}
 use Rattle.terms.specs.Value.{wrongPattern}

@@ -12,7 +12,8 @@ use Rattle.terms.specs.Table.{rowsOf, widthOf}
 use Rattle.terms.specs.Faults.{absent, isAccepted, firstFault, notTerm}
 use Rattle.terms.specs.Calls.{faultRecord, completed}
 use Rattle.laws.specs.Buffers.{overwrite}
-use Rattle.terms.proofs.AcceptedTable.{fault-none, fault-found, widths-left, accepted-table, term-there}
+use Rattle.terms.proofs.AcceptedTable.{fault-none, accepted-table, term-there}
+use Rattle.checker.proofs.Checking.{fault-found, widths-left}
 use Rattle.terms.proofs.Rows.{rows-length}
 use Rattle.forms.specs.Form.{formOf, numbersOf}
 use Rattle.forms.specs.Numbered.{Numbered}

@@ -10,7 +10,8 @@ use borrow.Author.Tests.{not-true, not-false}
 use Rattle.terms.specs.Table.{rowsOf, widthOf}
 use Rattle.terms.specs.Faults.{isAccepted, firstFault}
 use Rattle.terms.specs.Calls.{faultRecord}
-use Rattle.terms.proofs.AcceptedTable.{fault-none, fault-found, widths-left}
+use Rattle.terms.proofs.AcceptedTable.{fault-none}
+use Rattle.checker.proofs.Checking.{fault-found, widths-left}
 use Rattle.solver.proofs.Stops.{stop-answer, stop-work, stop-fault, stop-accepted}
 use Rattle.solver.proofs.solve.Statement.{statement}
 use Rattle.solver.proofs.solve.Tie as tie

@@ -1,0 +1,43 @@
+-- What the check of a table promises: the rules as it asks them of a row, what it finds, and the rows that it passes.
+use mathlib.Core.Bool.{Bool, cond}
+use mathlib.Core.List.{List, [], _∷_}
+use Prim.Native.Nat.{ℕ, _%_}
+use lib.Dec.{ltb}
+use lib.ListN.{length, getD, take}
+use Rattle.terms.specs.declared.Row.{Row}
+use Rattle.terms.specs.declared.Fault.{Fault}
+use Rattle.terms.specs.declared.Fault.the-variants.{Accepted, Shape, Kind, Unused, Named, Width, Bounds, Count, Sides}
+use Rattle.terms.specs.Table.{rowsOf, widthIn}
+use Rattle.terms.specs.Faults.{unusedColumn, misnamed, wrongWidth, wrongBounds, tooMany, unequalSides, firstFault}
+
+-- The rules of row r as they are asked of it: ws has the widths of the rows before it, and the totals count it too.
+unfoldable pub rulesIn : List Row → List ℕ → ℕ → Row → ℕ → ℕ → ℕ → List (Bool × Fault)
+rulesIn t ws r row variables bits equations =
+    (ltb 4 (row .kind), Kind (r % 65536))
+    ∷ (unusedColumn row, Unused (r % 65536))
+    ∷ (misnamed t r row, Named (r % 65536))
+    ∷ (wrongWidth row (widthIn ws row), Width (r % 65536))
+    ∷ (wrongBounds row (getD ws (row .a) 0), Bounds (r % 65536))
+    ∷ (tooMany variables bits equations, Count (r % 65536))
+    ∷ (unequalSides row (getD ws (row .a) 0) (getD ws (row .b) 0), Sides (r % 65536))
+    ∷ []
+
+-- What the check finds with room for so many widths: below 512 it takes no table.
+unfoldable pub faultIn : ℕ → List ℕ → Fault
+faultIn room numbers = cond (ltb room 512) Shape (firstFault numbers)
+
+-- How many of n rows stand before a fault. A table of the wrong shape has none.
+abbrev pub rowsBefore : Fault → ℕ → ℕ
+rowsBefore Accepted n = n
+rowsBefore Shape n = 0
+rowsBefore (Kind r) n = r
+rowsBefore (Unused r) n = r
+rowsBefore (Named r) n = r
+rowsBefore (Width r) n = r
+rowsBefore (Bounds r) n = r
+rowsBefore (Count r) n = r
+rowsBefore (Sides r) n = r
+
+-- The rows that the check passes: all of them, or those before the fault.
+unfoldable pub rowsPassed : ℕ → List ℕ → List Row
+rowsPassed room numbers = take (rowsBefore (faultIn room numbers) (length (rowsOf numbers))) (rowsOf numbers)
