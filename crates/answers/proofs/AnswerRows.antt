@@ -11,7 +11,8 @@ use borrow.Author.Tests.{eqb-true, eq-eqb, ne-eqb, le-leb, not-true}
 use Rattle.answers.specs.Pairs.{Pair}
 use Rattle.answers.specs.Classes.{rep, inClass}
 use Rattle.laws.specs.Lists.{tally, member}
-use Rattle.answers.specs.Answer.{begins, unfixed, goesOn, lowest, appears, AnswerRow, placeRow, widened, placed, rowsTo, isFresh, freshNumbers}
+use Rattle.answers.specs.Answer.{begins, unfixed, goesOn, lowest, appears, placeRow, widened, placed, rowsTo, isFresh, freshNumbers}
+use Rattle.answers.specs.declared.AnswerRow.{AnswerRow}
 use Rattle.laws.proofs.Bools.{and-second}
 use Rattle.answers.proofs.Agreement.{Represents, dec-lt}
 use Rattle.laws.proofs.Tallies.{tally-mono}

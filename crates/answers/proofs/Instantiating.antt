@@ -15,7 +15,8 @@ use Rattle.terms.proofs.Assignments.{assignment-length, assignment-bit, assignm
 use Rattle.answers.specs.Pairs.{Pair, satisfiesPairs}
 use Rattle.answers.specs.Classes.{rep, inClass}
 use Rattle.laws.specs.Lists.{tally, member, distinct}
-use Rattle.answers.specs.Answer.{begins, AnswerRow, rowsTo, answerRows, isFresh, freshNumbers, freshPieces, freshWidth, freshStart, freeBits, rowBits, bitsOfRows, instantiate}
+use Rattle.answers.specs.Answer.{begins, rowsTo, answerRows, isFresh, freshNumbers, freshPieces, freshWidth, freshStart, freeBits, rowBits, bitsOfRows, instantiate}
+use Rattle.answers.specs.declared.AnswerRow.{AnswerRow}
 use Rattle.laws.proofs.Numbers.{dec-eq}
 use Rattle.answers.proofs.Agreement.{Represents, dec-lt}
 use Rattle.laws.proofs.Tallies.{pigeon, tally-none, select}

@@ -14,7 +14,8 @@ use Rattle.terms.specs.Table.{rowsOf, bitsOf, satisfies}
 use Rattle.terms.proofs.AcceptedTable.{accepted-table}
 use Rattle.laws.proofs.Buffers.{overwrite-fits}
 use Rattle.terms.proofs.Faults.{totals-small}
-use Rattle.answers.specs.Answer.{AnswerRow, equalUnder, variableWidths, answerNumbers}
+use Rattle.answers.specs.declared.AnswerRow.{AnswerRow}
+use Rattle.answers.specs.Answer.{equalUnder, variableWidths, answerNumbers}
 use Rattle.answers.specs.Solve.{solvedRows, answerRecord, solveRecord, answerAfter, workAfter}
 use Rattle.answers.proofs.Tables.{rows-few}
 use Rattle.answers.proofs.Demands.{demand-3}

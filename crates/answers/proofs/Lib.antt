@@ -24,3 +24,6 @@ pub mod WorkedCases
 pub mod Lent
 pub mod RowSides
 pub mod OurSystem
+pub mod AnswerNumbers
+pub mod RightSide
+pub mod Runs

@@ -15,7 +15,8 @@ use Rattle.terms.specs.Table.{rowsOf, bitsOf, satisfies}
 use Rattle.terms.proofs.Assignments.{assignment-length, assignment-bit}
 use Rattle.answers.specs.Pairs.{Pair, pairsIn, satisfiesPairs}
 use Rattle.answers.specs.Classes.{rep, inClass}
-use Rattle.answers.specs.Answer.{variableWidths, begins, AnswerRow, rowsTo, answerRows, isFresh, freshPieces}
+use Rattle.answers.specs.Answer.{variableWidths, begins, rowsTo, answerRows, isFresh, freshPieces}
+use Rattle.answers.specs.declared.AnswerRow.{AnswerRow}
 use Rattle.laws.specs.Lists.{distinct}
 use Rattle.answers.specs.Systems.{fill as fillPart, fresh as freshPart, FinePart, SolvedSystem, labelsOf, freshCount, pieceBits, partBits, sideBits, systemBits, Filling, Gives}
 use Rattle.answers.specs.Solve.{valid, unsatisfiable, pairsTogether, solvedRows, answerRecord}

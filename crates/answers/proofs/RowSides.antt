@@ -10,7 +10,8 @@ use lib.Dec.{eqb, ltb}
 use lib.ListN.{length, getD}
 use borrow.Author.Tests.{eq-eqb, ne-eqb, lt-ltb, le-ltb, not-true}
 use Rattle.laws.specs.Lists.{tally}
-use Rattle.answers.specs.Answer.{begins, variableAt, contiguous, fixedAlike, goesOn, AnswerRow, placeRow, widened, placed, rowsTo, answerRows, isFresh, freshNumbers}
+use Rattle.answers.specs.Answer.{begins, variableAt, contiguous, fixedAlike, goesOn, placeRow, widened, placed, rowsTo, answerRows, isFresh, freshNumbers}
+use Rattle.answers.specs.declared.AnswerRow.{AnswerRow}
 use Rattle.answers.specs.Systems.{Part, fill, fresh, partWidth, sideWidth, FinePart, FineSide, FineSides, labelsOf, allLabels, partBits, sideBits, systemBits}
 use Rattle.laws.proofs.Bools.{and-first}
 use Rattle.laws.proofs.Numbers.{dec-eq}

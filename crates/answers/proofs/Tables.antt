@@ -21,7 +21,8 @@ use Rattle.terms.proofs.Values.{Sound}
 use Rattle.answers.specs.Pairs.{Pair, pairsOf, pairsIn, satisfiesPairs, satisfiesAll, allPairs, equals, ties, noneSatisfies, unsatAt, tiesBefore}
 use Rattle.laws.specs.Lists.{least}
 use Rattle.answers.specs.Classes.{rep, inClass, classesOf, runAll, roots, conflictAt, linksBefore}
-use Rattle.answers.specs.Answer.{placed, placeRow, goesOn, rowsTo, AnswerRow, equalUnder, variableWidths, answerRows}
+use Rattle.answers.specs.Answer.{placed, placeRow, goesOn, rowsTo, equalUnder, variableWidths, answerRows}
+use Rattle.answers.specs.declared.AnswerRow.{AnswerRow}
 use Rattle.answers.specs.Solve.{valid, unsatisfiable, satisfiesTo, unsatRow, pairsTogether, tiesTo, solvedRows, alwaysRecord, neverRecord, solvedRecord, answerRecord}
 use Rattle.answers.proofs.Agreement.{Represents, classes-represent, satisfies-reverse}
 use Rattle.laws.proofs.Bools.{same-test}

@@ -4,8 +4,9 @@ use mathlib.Core.Bool.{Bool, true, false, not, _&&_, _||_, cond}
 use mathlib.Core.List.{List, [], _∷_, _++_, reverse}
 use Prim.Native.Nat.{ℕ, zero, suc, _+_, _-_, pred}
 use lib.Dec.{eqb, ltb}
-use lib.ListN.{take, drop, replicate}
+use lib.ListN.{getD, take, drop, replicate}
 use Rattle.terms.specs.declared.Row.{Row}
+use Rattle.answers.specs.declared.AnswerRow.{AnswerRow}
 use Rattle.terms.specs.Assignments.{every}
 use Rattle.terms.specs.Table.{bitOf, byKind}
 use Rattle.laws.specs.Lists.{least, below, tally, distinct}
@@ -70,13 +71,6 @@ lowest same i = least (tied same i) 0 i
 unfoldable pub appears : ℕ → List ℕ → (ℕ → ℕ → Bool) → ℕ → Bool
 appears n ws same i = eqb (lowest same i) i && (unfixed same i && not (goesOn n ws same i))
 
--- A row of the answer table.
-pub record AnswerRow : Type 0 where
-  pub variable : ℕ
-  pub kind : ℕ
-  pub width : ℕ
-  pub fresh : ℕ
-
 -- A place as a row of one bit: 0 or 1 a fill, 2 a fresh piece. The number of a fresh piece that begins there is how many appear
 -- before it does for the first time.
 unfoldable pub placeRow : ℕ → List ℕ → (ℕ → ℕ → Bool) → ℕ → AnswerRow
@@ -105,10 +99,28 @@ rowsTo n ws same (suc i) = placed (goesOn n ws same i) (placeRow n ws same i) (r
 unfoldable pub answerRows : ℕ → List ℕ → (ℕ → ℕ → Bool) → List AnswerRow
 answerRows n ws same = reverse (rowsTo n ws same n)
 
--- An answer table as it is written: four numbers for each row.
+-- An answer table as it is written: so many numbers for each row, in the order variable, kind, width, fresh number.
+abbrev pub answerRowLength : ℕ
+answerRowLength = 4
+
 unfoldable pub answerNumbers : List AnswerRow → List ℕ
 answerNumbers [] = []
 answerNumbers (r ∷ rows) = r .variable ∷ r .kind ∷ r .width ∷ r .fresh ∷ answerNumbers rows
+
+-- The numbers of an answer table as rows.
+unfoldable pub answerRowsOf : List ℕ → List AnswerRow
+answerRowsOf [] = []
+answerRowsOf (v ∷ []) = []
+answerRowsOf (v ∷ k ∷ []) = []
+answerRowsOf (v ∷ k ∷ w ∷ []) = []
+answerRowsOf (v ∷ k ∷ w ∷ f ∷ numbers) = record { variable = v; kind = k; width = w; fresh = f } ∷ answerRowsOf numbers
+
+-- What is read past the end of an answer table, and row j of it.
+abbrev pub noAnswerRow : AnswerRow
+noAnswerRow = record { variable = 0; kind = 0; width = 0; fresh = 0 }
+
+abbrev pub answerRowAt : List AnswerRow → ℕ → AnswerRow
+answerRowAt rows j = getD rows j noAnswerRow
 
 -- The fresh numbers in a table's rows; how many fresh pieces it has; the width of fresh piece k, from its first row; where its bits
 -- begin among the fresh bits (fresh piece 0 first); and how many fresh bits there are, each piece once.

@@ -1,18 +1,14 @@
--- The right side of one variable as a part of the caller's answer table (document 01, "The solver's answer"). A row is four numbers,
--- the first of them its variable.
+-- The right side of one variable as a part of the caller's answer table (document 01, "The solver's answer").
 use mathlib.Core.Bool.{cond}
-use mathlib.Core.List.{List, [], _∷_}
+use mathlib.Core.List.{List, [], _∷_, map}
 use Prim.Native.Nat.{ℕ, suc, _*_}
 use lib.Dec.{eqb, ltb}
 use lib.ListN.{length, take, drop}
+use Rattle.answers.specs.Answer.{answerRowLength, answerRowsOf}
 
 -- The variable of each of the whole rows lent.
 unfoldable pub rowVariables : List ℕ → List ℕ
-rowVariables [] = []
-rowVariables (v ∷ []) = []
-rowVariables (v ∷ k ∷ []) = []
-rowVariables (v ∷ k ∷ w ∷ []) = []
-rowVariables (v ∷ k ∷ w ∷ f ∷ answer) = v ∷ rowVariables answer
+rowVariables answer = map (λ r. r .variable) (answerRowsOf answer)
 
 -- The variables of the rows in use; none if these exceed the whole rows lent.
 unfoldable pub variablesInUse : List ℕ → ℕ → List ℕ
@@ -32,14 +28,14 @@ rowsOn variable (v ∷ vs) = cond (eqb v variable) (suc (rowsOn variable vs)) 0
 unfoldable pub runRows : ℕ → List ℕ → ℕ
 runRows variable vs = rowsOn variable (drop (rowsBefore variable vs) vs)
 
--- How many numbers the right side has: four for each row.
+-- How many numbers the right side has: those of its rows.
 unfoldable pub rightSideLength : List ℕ → ℕ → ℕ → ℕ
-rightSideLength answer rows variable = 4 * runRows variable (variablesInUse answer rows)
+rightSideLength answer rows variable = answerRowLength * runRows variable (variablesInUse answer rows)
 
 -- Where it starts; an empty one starts at 0.
 unfoldable pub rightSideStart : List ℕ → ℕ → ℕ → ℕ
 rightSideStart answer rows variable =
-    cond (eqb (rightSideLength answer rows variable) 0) 0 (4 * rowsBefore variable (variablesInUse answer rows))
+    cond (eqb (rightSideLength answer rows variable) 0) 0 (answerRowLength * rowsBefore variable (variablesInUse answer rows))
 
 -- The right side of a variable, where so many rows of the answer table are in use.
 unfoldable pub rightSide : List ℕ → ℕ → ℕ → List ℕ

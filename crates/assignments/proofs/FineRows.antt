@@ -12,7 +12,8 @@ use borrow.Author.Tests.{eq-eqb, ne-eqb, lt-leb}
 use Rattle.answers.specs.Pairs.{Pair}
 use Rattle.answers.specs.Classes.{rep, inClass}
 use Rattle.laws.specs.Lists.{tally, member}
-use Rattle.answers.specs.Answer.{begins, variableAt, fixedTo, unfixed, goesOn, AnswerRow, placeRow, widened, placed, rowsTo, answerRows, isFresh, freshNumbers}
+use Rattle.answers.specs.Answer.{begins, variableAt, fixedTo, unfixed, goesOn, placeRow, widened, placed, rowsTo, answerRows, isFresh, freshNumbers}
+use Rattle.answers.specs.declared.AnswerRow.{AnswerRow}
 use Rattle.laws.proofs.Numbers.{dec-eq}
 use Rattle.answers.proofs.Agreement.{Represents, dec-lt}
 use Rattle.laws.proofs.Tallies.{tally-mono}

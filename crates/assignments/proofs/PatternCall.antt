@@ -11,8 +11,10 @@ use Rattle.terms.specs.declared.Record.{Record}
 use Rattle.terms.specs.Calls.{refusal, completed, stopAt}
 use Rattle.laws.specs.Buffers.{overwrite}
 use Rattle.laws.specs.Lists.{allBits}
-use Rattle.answers.specs.Answer.{AnswerRow, freeBits, instantiate}
-use Rattle.assignments.specs.Form.{answerRowsOf, patternBits, hasForm}
+use Rattle.answers.specs.declared.AnswerRow.{AnswerRow}
+use Rattle.answers.specs.Answer.{freeBits, instantiate}
+use Rattle.answers.specs.Answer.{answerRowsOf}
+use Rattle.assignments.specs.Form.{patternBits, hasForm}
 use Rattle.assignments.specs.Call.{wrongFresh, patternRecord, patternAfter}
 
 module _ (answer fresh old : List ℕ) where

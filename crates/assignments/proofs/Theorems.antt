@@ -18,14 +18,16 @@ use Rattle.terms.specs.Table.{rowsOf, bitsOf, satisfies}
 use Rattle.terms.proofs.Assignments.{assignment-length}
 use Rattle.laws.proofs.Buffers.{overwrite-fits}
 use Rattle.laws.specs.Lists.{allBits}
-use Rattle.answers.specs.Answer.{AnswerRow, variableWidths, begins, answerNumbers, freeBits, instantiate}
+use Rattle.answers.specs.declared.AnswerRow.{AnswerRow}
+use Rattle.answers.specs.Answer.{variableWidths, begins, answerNumbers, freeBits, instantiate}
 use Rattle.answers.specs.Solve.{unsatisfiable, pairsTogether, solvedRows, answerRecord}
 use Rattle.answers.specs.Pairs.{pairsIn}
 use Rattle.answers.proofs.Variables.{widths-sum, begins-first, begins-behind}
 use Rattle.answers.proofs.Tables.{tableClasses, represent, apart-one, solved-rows}
 use Rattle.answers.proofs.Demands.{demand-2, demand-3}
 use Rattle.answers.proofs.OurSystem.{some-left}
-use Rattle.assignments.specs.Form.{answerRowsOf, patternBits, rowsFine, hasForm}
+use Rattle.answers.specs.Answer.{answerRowsOf}
+use Rattle.assignments.specs.Form.{patternBits, rowsFine, hasForm}
 use Rattle.assignments.specs.Call.{wrongFresh, patternRecord, patternAfter}
 use Rattle.assignments.proofs.Places.{table-sized, table-variables, table-bits}
 use Rattle.assignments.proofs.FineRows.{answer-fine, answer-bits}

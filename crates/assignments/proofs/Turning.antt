@@ -9,7 +9,8 @@ use lib.Dec.{eqb, ltb}
 use lib.ListN.{length}
 use borrow.Author.Tests.{eqb-true, eq-eqb, lt-ltb}
 use Rattle.laws.specs.Lists.{least}
-use Rattle.answers.specs.Answer.{AnswerRow, isFresh, freshNumbers, freshWidth}
+use Rattle.answers.specs.declared.AnswerRow.{AnswerRow}
+use Rattle.answers.specs.Answer.{isFresh, freshNumbers, freshWidth}
 use Rattle.laws.specs.Lists.{member, distinct}
 use Rattle.laws.proofs.Bools.{and-both}
 use Rattle.answers.proofs.Agreement.{dec-lt}

@@ -9,7 +9,8 @@ use Rattle.terms.specs.Calls.{refusal, completed, stopAt}
 use Rattle.laws.specs.Buffers.{overwrite}
 use Rattle.laws.specs.Lists.{allBits}
 use Rattle.answers.specs.Answer.{freeBits, instantiate}
-use Rattle.assignments.specs.Form.{answerRowsOf, patternBits, hasForm}
+use Rattle.answers.specs.Answer.{answerRowsOf}
+use Rattle.assignments.specs.Form.{patternBits, hasForm}
 
 -- 34: fresh bytes not as many as fresh bits, or one above 1
 unfoldable pub wrongFresh : List ℕ → List ℕ → Bool

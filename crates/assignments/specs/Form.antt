@@ -6,16 +6,9 @@ use Prim.Native.Nat.{ℕ, suc, _+_, _%_}
 use lib.Dec.{eqb, ltb}
 use lib.ListN.{length}
 use Rattle.laws.specs.Lists.{least}
-use Rattle.answers.specs.Answer.{AnswerRow, isFresh, freshNumbers, freshWidth}
+use Rattle.answers.specs.declared.AnswerRow.{AnswerRow}
+use Rattle.answers.specs.Answer.{isFresh, freshNumbers, freshWidth, answerRowLength, answerRowsOf}
 use Rattle.laws.specs.Lists.{member}
-
--- The numbers of an answer table as rows of variable, kind, width and fresh number.
-unfoldable pub answerRowsOf : List ℕ → List AnswerRow
-answerRowsOf [] = []
-answerRowsOf (v ∷ []) = []
-answerRowsOf (v ∷ k ∷ []) = []
-answerRowsOf (v ∷ k ∷ w ∷ []) = []
-answerRowsOf (v ∷ k ∷ w ∷ f ∷ numbers) = record { variable = v; kind = k; width = w; fresh = f } ∷ answerRowsOf numbers
 
 -- "Variables start at 0 and stay or rise by one, up to 63"
 unfoldable pub variableFine : List AnswerRow → AnswerRow → Bool
@@ -85,4 +78,4 @@ rowsFine before (r ∷ rows) = rowFine before r && rowsFine (before ++ (r ∷ []
 
 -- "The table lent to it is whole rows, all in use."
 unfoldable pub hasForm : List ℕ → Bool
-hasForm numbers = eqb (length numbers % 4) 0 && rowsFine [] (answerRowsOf numbers)
+hasForm numbers = eqb (length numbers % answerRowLength) 0 && rowsFine [] (answerRowsOf numbers)

@@ -15,7 +15,8 @@ use Rattle.laws.proofs.Bools.{not-both}
 use Rattle.answers.specs.Pairs.{Pair}
 use Rattle.answers.specs.Classes.{rep, inClass}
 use Rattle.laws.specs.Lists.{tally}
-use Rattle.answers.specs.Answer.{begins, variableAt, fixedTo, unfixed, goesOn, lowest, appears, AnswerRow, placeRow, widened, placed, rowsTo, answerRows, answerNumbers}
+use Rattle.answers.specs.Answer.{begins, variableAt, fixedTo, unfixed, goesOn, lowest, appears, placeRow, widened, placed, rowsTo, answerRows, answerNumbers}
+use Rattle.answers.specs.declared.AnswerRow.{AnswerRow}
 use Rattle.laws.proofs.Bools.{same-test}
 use Rattle.laws.proofs.Numbers.{dec-eq}
 use Rattle.answers.proofs.Agreement.{dec-lt}
@@ -23,7 +24,8 @@ use Rattle.answers.proofs.Relation.{fixed-is, unfixed-is, lowest-is}
 use Rattle.borders.specs.declared.Progress.{Progress}
 use Rattle.borders.specs.Borders.{numberIn, stepIn, rowWritten, Bordered, PutsPlaces}
 use Rattle.borders.proofs.Neighbours.{goes-is}
-use Rattle.borders.proofs.RowNumbers.{rowOf, row-next, row-anew}
+use Rattle.borders.specs.Borders.{rowOf}
+use Rattle.borders.proofs.RowNumbers.{row-next, row-anew}
 
 one-most : (t : Bool) → cond {A = ℕ} t 1 0 ≤ 1
 one-most true = omega arith

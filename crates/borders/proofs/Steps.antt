@@ -3,14 +3,14 @@ use mathlib.Core.Path.{_≡_, sym, ap, ap₂, _∙_}
 use mathlib.Core.Logic.{_≢_}
 use mathlib.Core.Bool.{true, false, cond}
 use mathlib.Core.List.{List}
-use Prim.Native.Nat.{ℕ, suc, _+_, _-_, _*_, _%_, _≤_, _<_, min}
+use Prim.Native.Nat.{ℕ, suc, _+_, _-_, _%_, _≤_, _<_, min}
 use native.Mathlib.Omega.{arith}
 use lib.Dec.{eqb}
 use lib.ListN.{getD, set}
 use borrow.Author.Tests.{eq-eqb, ne-eqb, lt-ltb, le-ltb}
 use Rattle.answers.specs.Classes.{rep}
 use Rattle.borders.specs.declared.Progress.{Progress}
-use Rattle.borders.specs.Borders.{besideIn, unevenWith, goesIn, numberIn, stepIn, rowWritten}
+use Rattle.borders.specs.Borders.{besideIn, unevenWith, goesIn, numberIn, stepIn}
 
 -- the neighbour of a place
 module _ (m c : List ℕ) (side k a b x : ℕ) (ea : a ≡ k) (eb : b ≡ side) (ex : x ≡ getD m (a + b) 0) where
@@ -103,9 +103,3 @@ module _ (m c af be numbers : List ℕ) (p : Progress) (i at x begun : ℕ) (et 
       let e : at + 2 ≡ suc (suc i) = omega arith in
       let f : rep c (suc (suc i)) ≡ r = ap (rep c) (sym e) ∙ sym er in
       rw (g, f, ← begun-is, ← e1, ← e2, ← e3, ← e4, ← e5, ← e6)
-
--- the last row written
-pub row-put : (a a1 a2 a3 a4 : List ℕ) (p : Progress) (j at : ℕ) → j ≡ p .rows - 1 → at ≡ j → a1 ≡ set a (at * 4) (p .variable)
-    → a2 ≡ set a1 (at * 4 + 1) (p .kind) → a3 ≡ set a2 (at * 4 + 2) (p .width) → a4 ≡ set a3 (at * 4 + 3) (p .number) → a4 ≡ rowWritten a p
-unfolding rowWritten
-row-put a a1 a2 a3 a4 p j at ej et e1 e2 e3 e4 = let e : p .rows - 1 ≡ at = sym (et ∙ ej) in rw (e, ← e1, ← e2, ← e3) e4

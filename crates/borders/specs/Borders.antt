@@ -3,7 +3,7 @@
 use mathlib.Core.Path.{_≡_}
 use mathlib.Core.Bool.{Bool, true, not, _&&_, cond}
 use mathlib.Core.List.{List}
-use Prim.Native.Nat.{ℕ, suc, _+_, _-_, _*_, _%_, _≤_, _<_, min}
+use Prim.Native.Nat.{ℕ, suc, _+_, _-_, _%_, _≤_, _<_, min}
 use lib.Dec.{eqb, ltb}
 use lib.ListN.{length, getD, set}
 use Rattle.terms.specs.declared.Fault.the-variants.{Accepted}
@@ -15,6 +15,8 @@ use Rattle.answers.specs.Classes.{rep, inClass}
 use Rattle.answers.specs.Answer.{begins, variableAt, variableWidths, implies, appears, answerRows, answerNumbers}
 use Rattle.laws.specs.Lists.{below, tally}
 use Rattle.answers.proofs.Agreement.{Represents}
+use Rattle.answers.specs.declared.AnswerRow.{AnswerRow}
+use Rattle.answer_table.specs.Rows.{answerRowPut}
 use Rattle.borders.specs.declared.Progress.{Progress}
 
 -- A list of zeros.
@@ -85,10 +87,12 @@ stepIn marks classes after before numbers p i =
       number = numberIn numbers (rep classes (suc (suc i)));
     })
 
--- The last row written to the answer table.
+-- The last row of the places passed, and the answer table with it written.
+abbrev pub rowOf : Progress → AnswerRow
+rowOf p = record { variable = p .variable; kind = p .kind; width = p .width; fresh = p .number }
+
 unfoldable pub rowWritten : List ℕ → Progress → List ℕ
-rowWritten answer p =
-    set (set (set (set answer ((p .rows - 1) * 4) (p .variable)) ((p .rows - 1) * 4 + 1) (p .kind)) ((p .rows - 1) * 4 + 2) (p .width)) ((p .rows - 1) * 4 + 3) (p .number)
+rowWritten answer p = answerRowPut answer (p .rows - 1) (rowOf p)
 
 -- The lists that the pass over the places reads: the n places of the variables ws, their classes, the places where a variable begins,
 -- and the representatives whose places have different neighbours after or before them.

@@ -6,6 +6,7 @@ ghost use Prim.Native.Nat.{suc, min};
 ghost use lib.Dec.{eqb};
 ghost use Rattle.borders.specs.Rows.{PutsRows};
 ghost use Rattle.borders.specs.Borders.{MarksBegins, besideIn, unevenWith, MarksUneven, goesIn, numberIn, stepIn, rowWritten, PutsPlaces};
+use answers::AnswerRow;
 
 // How many rows an answer has, and how many fresh pieces.
 pub struct Counts {
@@ -188,11 +189,13 @@ fn step(
 fn put_row(answer: &mut [u16], p: Progress)
     ensures { λ _. ⌜ now (answer .exit) ≡ rowWritten (now (answer .entry)) p ⌝ }
 {
-    let at = numbers::wide(numbers::difference(p.rows, 1)) * 4;
-    numbers::store(answer, at, p.variable);
-    numbers::store(answer, at + 1, p.kind);
-    numbers::store(answer, at + 2, p.width);
-    numbers::store(answer, at + 3, p.number);
+    let row = AnswerRow {
+        variable: p.variable,
+        kind: p.kind,
+        width: p.width,
+        fresh: p.number,
+    };
+    answer_table::put_row(answer, numbers::difference(p.rows, 1), row);
 }
 
 // Writes the rows of n places. `numbers` has afterwards, for each place, how many fresh pieces appear before it.

@@ -9,7 +9,7 @@ ghost use Rattle.sheets.specs.Call.{sheetRecord, tableAfter};
 ghost use Rattle.answers.specs.Solve.{solveRecord, answerAfter, workAfter};
 ghost use Rattle.answers.specs.RightSide.{rightSideStart, rightSideLength};
 ghost use Rattle.assignments.specs.Call.{patternRecord, patternAfter};
-use solver::Part;
+use answers::Part;
 use terms::Record;
 use terms::Row;
 
@@ -56,7 +56,7 @@ pub extern "C" fn lw_right_side(answer: &[u16], rows_in_use: usize, variable: us
     ensures start { λ r. ⌜ r .start ≡ rightSideStart (now (answer .entry)) rows_in_use variable ⌝ }
     ensures len { λ r. ⌜ r .len ≡ rightSideLength (now (answer .entry)) rows_in_use variable ⌝ }
 {
-    solver::right_part(answer, rows_in_use, variable)
+    answer_table::right_part(answer, rows_in_use, variable)
 }
 
 // The pattern that an answer table gives at fresh bits.

@@ -9,16 +9,17 @@ use native.Mathlib.Numerals.{add-one}
 use lib.ListN.{length, getD, set, take, drop, replicate, length-append, length-set, length-take, length-drop, length-replicate}
 use lib.Seq.{take-suc, take-all, getD-drop}
 use borrow.Author.Tests.{lt-ltb, le-ltb}
-use Rattle.terms.specs.declared.Row.{Row}
-use Rattle.terms.specs.Table.{rowsOf, rowAt}
 use Rattle.laws.specs.Buffers.{overwrite, Written, Behind}
 use Rattle.laws.proofs.Buffers.{overwrite-length, written-more}
-use Rattle.answers.specs.Answer.{AnswerRow, isFresh, freshStart, rowBits, bitsOfRows, instantiate}
+use Rattle.answers.specs.declared.AnswerRow.{AnswerRow}
+use Rattle.answers.specs.Answer.{isFresh, freshStart, rowBits, bitsOfRows, instantiate}
 use Rattle.answers.proofs.Agreement.{dec-lt}
-use Rattle.assignments.specs.Form.{answerRowsOf, patternBits}
-use Rattle.maker.specs.Making.{answerRow, answerRowAt, noAnswerRow, Shaped, byteIn, bytesIn, WritesRows}
+use Rattle.answers.specs.Answer.{answerRowsOf}
+use Rattle.assignments.specs.Form.{patternBits}
+use Rattle.maker.specs.Making.{Shaped, byteIn, bytesIn, WritesRows}
+use Rattle.answers.specs.Answer.{answerRowAt, noAnswerRow}
 use Rattle.maker.proofs.OneMore.{bits-part}
-use Rattle.maker.proofs.Reading.{answer-length, answer-row}
+use Rattle.answers.proofs.AnswerNumbers.{answer-length}
 
 bytes-count : (fresh : List ℕ) (kind start n : ℕ) → length (bytesIn fresh kind start n) ≡ n
 unfolding bytesIn
@@ -131,8 +132,8 @@ module _ (answer fresh starts out₀ out : List ℕ) (at i : ℕ) (k : Filling a
   abbrev rows : List AnswerRow
   rows = answerRowsOf answer
 
-  pub filling-more : i < length answer / 4 → (r : Row) → r ≡ rowAt (rowsOf answer) i → (number start at′ : ℕ) (out′ : List ℕ) → number ≡ r .c → start ≡ getD starts number 0
-      → Behind (bytesIn fresh (r .a) start (r .b)) at out at′ out′ → length out′ ≡ length out → Filling answer fresh starts out₀ out′ at′ (i + 1)
+  pub filling-more : i < length answer / 4 → (r : AnswerRow) → r ≡ answerRowAt (answerRowsOf answer) i → (number start at′ : ℕ) (out′ : List ℕ) → number ≡ r .fresh → start ≡ getD starts number 0
+      → Behind (bytesIn fresh (r .kind) start (r .width)) at out at′ out′ → length out′ ≡ length out → Filling answer fresh starts out₀ out′ at′ (i + 1)
   filling-more l r er number start at′ out′ en found put same = rw (add-one) (record {
     within = omega arith;
     same-room = same ∙ k .same-room;
@@ -142,31 +143,31 @@ module _ (answer fresh starts out₀ out : List ℕ) (at i : ℕ) (k : Filling a
       there : i < length rows
       there = omega (arith, answer-length answer)
 
-      es : start ≡ getD starts (r .c) 0
+      es : start ≡ getD starts (r .fresh) 0
       es = found ∙ ap (λ (x : ℕ). getD starts x 0) en
 
-      row-here : answerRow r ≡ answerRowAt rows i
-      row-here = ap answerRow er ∙ answer-row answer i
+      row-here : r ≡ answerRowAt rows i
+      row-here = er
 
       bytes-are : (bits free : ℕ) → Shaped (answerRowsOf answer) starts bits free → length fresh ≡ free
-          → bytesIn fresh (r .a) start (r .b) ≡ rowBits (answerRowsOf answer) fresh (answerRowAt (answerRowsOf answer) i)
+          → bytesIn fresh (r .kind) start (r .width) ≡ rowBits (answerRowsOf answer) fresh (answerRowAt (answerRowsOf answer) i)
       bytes-are bits free s n =
           rw es (ap (λ (q : AnswerRow). bytesIn fresh (q .kind) (getD starts (q .fresh) 0) (q .width)) row-here ∙ row-bytes rows starts fresh bits free s n i there)
 
       all-bytes : (bits free : ℕ) → Shaped (answerRowsOf answer) starts bits free → length fresh ≡ free
-          → bitsOfRows (answerRowsOf answer) fresh (take (suc i) (answerRowsOf answer)) ≡ bitsOfRows (answerRowsOf answer) fresh (take i (answerRowsOf answer)) ++ bytesIn fresh (r .a) start (r .b)
+          → bitsOfRows (answerRowsOf answer) fresh (take (suc i) (answerRowsOf answer)) ≡ bitsOfRows (answerRowsOf answer) fresh (take i (answerRowsOf answer)) ++ bytesIn fresh (r .kind) start (r .width)
       all-bytes bits free s n =
           ap (bitsOfRows rows fresh) (take-suc rows i noAnswerRow there)
           ∙ bits-behind rows fresh (take i rows) (answerRowAt rows i)
           ∙ ap (λ (t : List ℕ). bitsOfRows rows fresh (take i rows) ++ t) (sym (bytes-are bits free s n))
 
       enough : (bits free : ℕ) → Shaped (answerRowsOf answer) starts bits free → length fresh ≡ free → bits ≤ length out₀
-          → length (bitsOfRows (answerRowsOf answer) fresh (take i (answerRowsOf answer))) + length (bytesIn fresh (r .a) start (r .b)) ≤ length out₀
+          → length (bitsOfRows (answerRowsOf answer) fresh (take i (answerRowsOf answer))) + length (bytesIn fresh (r .kind) start (r .width)) ≤ length out₀
       enough bits free s n room =
           omega (
             arith,
             ap length (all-bytes bits free s n),
-            length-append (bitsOfRows rows fresh (take i rows)) (bytesIn fresh (r .a) start (r .b)),
+            length-append (bitsOfRows rows fresh (take i rows)) (bytesIn fresh (r .kind) start (r .width)),
             bits-most rows fresh (take (suc i) rows),
             bits-part (suc i) rows,
             s .bits-are,

@@ -9,7 +9,8 @@ use lib.Dec.{eqb}
 use lib.ListN.{take}
 use borrow.Author.Tests.{eq-eqb, ne-eqb, le-ltb}
 use Rattle.laws.specs.Lists.{least}
-use Rattle.answers.specs.Answer.{AnswerRow, isFresh, freshNumbers, freshWidth, freshStart}
+use Rattle.answers.specs.declared.AnswerRow.{AnswerRow}
+use Rattle.answers.specs.Answer.{isFresh, freshNumbers, freshWidth, freshStart}
 use Rattle.laws.specs.Lists.{member}
 use Rattle.laws.proofs.Numbers.{dec-eq}
 use Rattle.assignments.specs.Form.{variableFine, neighboursFine, widthIn, patternBits}

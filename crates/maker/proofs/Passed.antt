@@ -8,14 +8,15 @@ use native.Mathlib.Omega.{arith}
 use lib.Dec.{eqb, ltb}
 use lib.ListN.{length, getD}
 use borrow.Author.Tests.{eqb-true, ne-eqb, lt-ltb, le-ltb}
-use Rattle.terms.specs.declared.Row.{Row}
-use Rattle.answers.specs.Answer.{AnswerRow, isFresh, freshNumbers, freshWidth, freshStart}
+use Rattle.answers.specs.declared.AnswerRow.{AnswerRow}
+use Rattle.answers.specs.Answer.{isFresh, freshNumbers, freshWidth, freshStart}
 use Rattle.laws.specs.Lists.{member}
 use Rattle.answers.proofs.Agreement.{dec-lt}
 use Rattle.laws.proofs.Bools.{and-second}
 use Rattle.maker.specs.declared.Progress.{Progress}
 use Rattle.assignments.specs.Form.{variableFine, kindFine, widthFine, widthIn, variableWide, patternBits, patternWide, fillFine, neighboursFine, lowestUnseen, freshFine, rowFine}
-use Rattle.maker.specs.Making.{answerRow, answerRowAt, widthBefore, variableIn, widthsIn, fillIn, freshIn, fineIn}
+use Rattle.maker.specs.Making.{widthBefore, variableIn, widthsIn, fillIn, freshIn, fineIn}
+use Rattle.answers.specs.Answer.{answerRowAt}
 use Rattle.maker.proofs.OneMore.{neighbours-fresh, least-is}
 
 -- A row's fresh piece was seen, with the row's width.
@@ -90,61 +91,61 @@ module _ (before : List AnswerRow) (p : Progress) (widths starts : List ℕ) (k 
       (rw (k .seen (p .pieces), le-ltb (p .pieces) (p .pieces) (omega arith)))
       (λ j l. rw (k .seen j, lt-ltb j (p .pieces) l))
 
-  module _ (r : Row) where
+  module _ (r : AnswerRow) where
     abbrev s : AnswerRow
-    s = answerRow r
+    s = r
 
-    variable-reaches : variableIn p r ≡ true → p .variable ≤ r .kind
+    variable-reaches : variableIn p r ≡ true → p .variable ≤ r .variable
     unfolding variableIn
-    variable-reaches h = go (eqb (r .kind) (p .variable)) refl (and-second (ltb (r .kind) 64) (eqb (r .kind) (p .variable) || eqb (r .kind) (p .next)) h)
+    variable-reaches h = go (eqb (r .variable) (p .variable)) refl (and-second (ltb (r .variable) 64) (eqb (r .variable) (p .variable) || eqb (r .variable) (p .next)) h)
       where
-        go : (t : Bool) → eqb (r .kind) (p .variable) ≡ t → t || eqb (r .kind) (p .next) ≡ true → p .variable ≤ r .kind
-        go true e w = omega (arith, eqb-true (r .kind) (p .variable) e)
-        go false e w = omega (arith, eqb-true (r .kind) (p .next) w, k .rising)
+        go : (t : Bool) → eqb (r .variable) (p .variable) ≡ t → t || eqb (r .variable) (p .next) ≡ true → p .variable ≤ r .variable
+        go true e w = omega (arith, eqb-true (r .variable) (p .variable) e)
+        go false e w = omega (arith, eqb-true (r .variable) (p .next) w, k .rising)
 
-    fresh-is : 2 ≤ r .a → freshFine before (answerRow r) ≡ cond (ltb (r .c) (p .pieces)) (eqb (getD widths (r .c) 0) (r .b)) (eqb (r .c) (p .pieces))
+    fresh-is : 2 ≤ r .kind → freshFine before r ≡ cond (ltb (r .fresh) (p .pieces)) (eqb (getD widths (r .fresh) 0) (r .width)) (eqb (r .fresh) (p .pieces))
     unfolding freshFine
-    fresh-is l = rw (le-ltb (r .a) 2 l, lowest-is, k .seen (r .c)) (go (dec-lt (r .c) (p .pieces)))
+    fresh-is l = rw (le-ltb (r .kind) 2 l, lowest-is, k .seen (r .fresh)) (go (dec-lt (r .fresh) (p .pieces)))
       where
         or-none : (b : Bool) → b || false ≡ b
         or-none true = refl
         or-none false = refl
 
-        go : (r .c < p .pieces) ⊎ (p .pieces ≤ r .c)
-            → (ltb (r .c) (p .pieces) && eqb (freshWidth before (r .c)) (r .b)) || eqb (r .c) (p .pieces)
-            ≡ cond (ltb (r .c) (p .pieces)) (eqb (getD widths (r .c) 0) (r .b)) (eqb (r .c) (p .pieces))
-        go (inl q) = rw (lt-ltb (r .c) (p .pieces) q, ne-eqb (r .c) (p .pieces) (omega arith), k .widths-are (r .c) q) (or-none (eqb (freshWidth before (r .c)) (r .b)))
-        go (inr q) = rw (le-ltb (r .c) (p .pieces) q)
+        go : (r .fresh < p .pieces) ⊎ (p .pieces ≤ r .fresh)
+            → (ltb (r .fresh) (p .pieces) && eqb (freshWidth before (r .fresh)) (r .width)) || eqb (r .fresh) (p .pieces)
+            ≡ cond (ltb (r .fresh) (p .pieces)) (eqb (getD widths (r .fresh) 0) (r .width)) (eqb (r .fresh) (p .pieces))
+        go (inl q) = rw (lt-ltb (r .fresh) (p .pieces) q, ne-eqb (r .fresh) (p .pieces) (omega arith), k .widths-are (r .fresh) q) (or-none (eqb (freshWidth before (r .fresh)) (r .width)))
+        go (inr q) = rw (le-ltb (r .fresh) (p .pieces) q)
 
     -- what is asked of a fill, or of a fresh piece
-    last-is : kindFine (answerRow r) && (fillFine (answerRow r) && neighboursFine before (answerRow r) && freshFine before (answerRow r))
-        ≡ cond (ltb (r .a) 2) (fillIn p r) (freshIn p r (getD widths (r .c) 0))
+    last-is : kindFine r && (fillFine r && neighboursFine before r && freshFine before r)
+        ≡ cond (ltb (r .kind) 2) (fillIn p r) (freshIn p r (getD widths (r .fresh) 0))
     unfolding kindFine fillFine
-    last-is = go (dec-lt (r .a) 2)
+    last-is = go (dec-lt (r .kind) 2)
       where
-        go : (r .a < 2) ⊎ (2 ≤ r .a)
-            → ltb (r .a) 3 && ((isFresh s || eqb (r .c) 0) && neighboursFine before s && freshFine before s) ≡ cond (ltb (r .a) 2) (fillIn p r) (freshIn p r (getD widths (r .c) 0))
+        go : (r .kind < 2) ⊎ (2 ≤ r .kind)
+            → ltb (r .kind) 3 && ((isFresh s || eqb (r .fresh) 0) && neighboursFine before s && freshFine before s) ≡ cond (ltb (r .kind) 2) (fillIn p r) (freshIn p r (getD widths (r .fresh) 0))
         go (inl l) =
             unfold fillIn freshFine in
-            rw (lt-ltb (r .a) 3 (omega arith), lt-ltb (r .a) 2 l, k .neighbours-are s l) (and-true (eqb (r .c) 0 && not (eqb (r .kind) (p .variable) && eqb (r .a) (p .kind))))
-        go (inr l) = unfold freshIn in (rw (le-ltb (r .a) 2 l, neighbours-fresh before s l) (ap (λ (t : Bool). ltb (r .a) 3 && t) (fresh-is l)))
+            rw (lt-ltb (r .kind) 3 (omega arith), lt-ltb (r .kind) 2 l, k .neighbours-are s l) (and-true (eqb (r .fresh) 0 && not (eqb (r .variable) (p .variable) && eqb (r .kind) (p .kind))))
+        go (inr l) = unfold freshIn in (rw (le-ltb (r .kind) 2 l, neighbours-fresh before s l) (ap (λ (t : Bool). ltb (r .kind) 3 && t) (fresh-is l)))
 
     -- the test by the state is the form's
-    pub row-is : rowFine before (answerRow r) ≡ fineIn p r (getD widths (r .c) 0)
+    pub row-is : rowFine before r ≡ fineIn p r (getD widths (r .fresh) 0)
     unfolding rowFine fineIn
     row-is =
         rw variables
         (gather (variableIn p r) (kindFine s) (widthFine s) (variableWide before s) (patternWide before s) (fillFine s) (neighboursFine before s) (freshFine before s)
         ∙ go (variableIn p r) refl)
       where
-        variables : variableFine before (answerRow r) ≡ variableIn p r
+        variables : variableFine before r ≡ variableIn p r
         variables = unfold variableIn in (k .variable-is s)
 
-        wide-is : variableIn p r ≡ true → widthFine (answerRow r) && variableWide before (answerRow r) && patternWide before (answerRow r) ≡ widthsIn p r
-        wide-is h = unfold widthFine variableWide patternWide widthsIn in rw (k .width-is (r .kind) (variable-reaches h), ← k .bits-are)
+        wide-is : variableIn p r ≡ true → widthFine r && variableWide before r && patternWide before r ≡ widthsIn p r
+        wide-is h = unfold widthFine variableWide patternWide widthsIn in rw (k .width-is (r .variable) (variable-reaches h), ← k .bits-are)
 
         go : (t : Bool) → variableIn p r ≡ t
             → (t && (widthFine s && variableWide before s && patternWide before s)) && (kindFine s && (fillFine s && neighboursFine before s && freshFine before s))
-            ≡ t && widthsIn p r && cond (ltb (r .a) 2) (fillIn p r) (freshIn p r (getD widths (r .c) 0))
+            ≡ t && widthsIn p r && cond (ltb (r .kind) 2) (fillIn p r) (freshIn p r (getD widths (r .fresh) 0))
         go false e = refl
         go true e = ap₂ _&&_ (wide-is e) last-is

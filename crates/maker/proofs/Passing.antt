@@ -10,52 +10,53 @@ use lib.Dec.{eqb, ltb}
 use lib.ListN.{length, getD, set, length-append, List·getD-append}
 use lib.Seq.{getD-set-same, getD-set-other, getD-append-seam}
 use borrow.Author.Tests.{eqb-true, eq-eqb, ne-eqb, lt-ltb, le-ltb, ltb-true}
-use Rattle.terms.specs.declared.Row.{Row}
-use Rattle.answers.specs.Answer.{AnswerRow, isFresh, freshNumbers, freshWidth, freshStart}
+use Rattle.answers.specs.declared.AnswerRow.{AnswerRow}
+use Rattle.answers.specs.Answer.{isFresh, freshNumbers, freshWidth, freshStart}
 use Rattle.laws.specs.Lists.{member}
 use Rattle.laws.proofs.Numbers.{dec-eq}
 use Rattle.answers.proofs.Agreement.{dec-lt}
 use Rattle.laws.proofs.Bools.{and-first, and-second}
 use Rattle.maker.specs.declared.Progress.{Progress}
 use Rattle.assignments.specs.Form.{variableFine, widthIn, neighboursFine}
-use Rattle.maker.specs.Making.{answerRow, answerRowAt, noAnswerRow, widthBefore, isNew, variableIn, widthsIn, fillIn, freshIn, fineIn, advanced}
+use Rattle.maker.specs.Making.{widthBefore, isNew, variableIn, widthsIn, fillIn, freshIn, fineIn, advanced}
+use Rattle.answers.specs.Answer.{answerRowAt, noAnswerRow}
 use Rattle.maker.proofs.OneMore.{eqb-turn, variable-last, neighbours-last, width-more, bits-more, member-more, piece-more, starts-same}
 use Rattle.maker.proofs.Passed.{Piece, Passed}
 
 -- what a fine row's fresh number is: none, one seen with its width, or the lowest unseen
-data Number (p : Progress) (r : Row) (w : ℕ) : Type 0 where
-  none : r .a < 2 → Number p r w
-  again : 2 ≤ r .a → r .c < p .pieces → w ≡ r .b → Number p r w
-  first : 2 ≤ r .a → r .c ≡ p .pieces → Number p r w
+data Number (p : Progress) (r : AnswerRow) (w : ℕ) : Type 0 where
+  none : r .kind < 2 → Number p r w
+  again : 2 ≤ r .kind → r .fresh < p .pieces → w ≡ r .width → Number p r w
+  first : 2 ≤ r .kind → r .fresh ≡ p .pieces → Number p r w
 
 -- what is asked of a row, as facts
-record Fine (p : Progress) (r : Row) (w : ℕ) : Type 0 where
-  small : r .kind < 64
-  reach : (r .kind ≡ p .variable) ⊎ (r .kind ≡ p .next)
-  some : 0 < r .b
-  in-variable : widthBefore p (r .kind) + r .b ≤ 1024
-  in-pattern : p .bits + r .b ≤ 4096
+record Fine (p : Progress) (r : AnswerRow) (w : ℕ) : Type 0 where
+  small : r .variable < 64
+  reach : (r .variable ≡ p .variable) ⊎ (r .variable ≡ p .next)
+  some : 0 < r .width
+  in-variable : widthBefore p (r .variable) + r .width ≤ 1024
+  in-pattern : p .bits + r .width ≤ 4096
   number : Number p r w
 
-fine-facts : (p : Progress) (r : Row) (w : ℕ) → fineIn p r w ≡ true → Fine p r w
+fine-facts : (p : Progress) (r : AnswerRow) (w : ℕ) → fineIn p r w ≡ true → Fine p r w
 unfolding fineIn variableIn widthsIn freshIn
 fine-facts p r w h = record {
-  small = ltb-true (r .kind) 64 (and-first (ltb (r .kind) 64) (eqb (r .kind) (p .variable) || eqb (r .kind) (p .next)) hv);
-  reach = reached (eqb (r .kind) (p .variable)) refl (and-second (ltb (r .kind) 64) (eqb (r .kind) (p .variable) || eqb (r .kind) (p .next)) hv);
-  some = ltb-true 0 (r .b) (and-first (ltb 0 (r .b)) (ltb (widthBefore p (r .kind) + r .b) 1025) hb);
-  in-variable = omega (arith, ltb-true (widthBefore p (r .kind) + r .b) 1025 (and-second (ltb 0 (r .b)) (ltb (widthBefore p (r .kind) + r .b) 1025) hb));
-  in-pattern = omega (arith, ltb-true (p .bits + r .b) 4097 (and-second (ltb 0 (r .b) && ltb (widthBefore p (r .kind) + r .b) 1025) (ltb (p .bits + r .b) 4097) hw));
-  number = numbered (dec-lt (r .a) 2);
+  small = ltb-true (r .variable) 64 (and-first (ltb (r .variable) 64) (eqb (r .variable) (p .variable) || eqb (r .variable) (p .next)) hv);
+  reach = reached (eqb (r .variable) (p .variable)) refl (and-second (ltb (r .variable) 64) (eqb (r .variable) (p .variable) || eqb (r .variable) (p .next)) hv);
+  some = ltb-true 0 (r .width) (and-first (ltb 0 (r .width)) (ltb (widthBefore p (r .variable) + r .width) 1025) hb);
+  in-variable = omega (arith, ltb-true (widthBefore p (r .variable) + r .width) 1025 (and-second (ltb 0 (r .width)) (ltb (widthBefore p (r .variable) + r .width) 1025) hb));
+  in-pattern = omega (arith, ltb-true (p .bits + r .width) 4097 (and-second (ltb 0 (r .width) && ltb (widthBefore p (r .variable) + r .width) 1025) (ltb (p .bits + r .width) 4097) hw));
+  number = numbered (dec-lt (r .kind) 2);
 }
   where
     last : Bool
-    last = cond (ltb (r .a) 2) (fillIn p r) (ltb (r .a) 3 && cond (ltb (r .c) (p .pieces)) (eqb w (r .b)) (eqb (r .c) (p .pieces)))
+    last = cond (ltb (r .kind) 2) (fillIn p r) (ltb (r .kind) 3 && cond (ltb (r .fresh) (p .pieces)) (eqb w (r .width)) (eqb (r .fresh) (p .pieces)))
 
     widths : Bool
-    widths = ltb 0 (r .b) && ltb (widthBefore p (r .kind) + r .b) 1025 && ltb (p .bits + r .b) 4097
+    widths = ltb 0 (r .width) && ltb (widthBefore p (r .variable) + r .width) 1025 && ltb (p .bits + r .width) 4097
 
     variable : Bool
-    variable = ltb (r .kind) 64 && (eqb (r .kind) (p .variable) || eqb (r .kind) (p .next))
+    variable = ltb (r .variable) 64 && (eqb (r .variable) (p .variable) || eqb (r .variable) (p .next))
 
     hv : variable ≡ true
     hv = and-first variable widths (and-first (variable && widths) last h)
@@ -66,36 +67,36 @@ fine-facts p r w h = record {
     hl : last ≡ true
     hl = and-second (variable && widths) last h
 
-    hb : ltb 0 (r .b) && ltb (widthBefore p (r .kind) + r .b) 1025 ≡ true
-    hb = and-first (ltb 0 (r .b) && ltb (widthBefore p (r .kind) + r .b) 1025) (ltb (p .bits + r .b) 4097) hw
+    hb : ltb 0 (r .width) && ltb (widthBefore p (r .variable) + r .width) 1025 ≡ true
+    hb = and-first (ltb 0 (r .width) && ltb (widthBefore p (r .variable) + r .width) 1025) (ltb (p .bits + r .width) 4097) hw
 
-    reached : (t : Bool) → eqb (r .kind) (p .variable) ≡ t → t || eqb (r .kind) (p .next) ≡ true → (r .kind ≡ p .variable) ⊎ (r .kind ≡ p .next)
-    reached true e q = inl (eqb-true (r .kind) (p .variable) e)
-    reached false e q = inr (eqb-true (r .kind) (p .next) q)
+    reached : (t : Bool) → eqb (r .variable) (p .variable) ≡ t → t || eqb (r .variable) (p .next) ≡ true → (r .variable ≡ p .variable) ⊎ (r .variable ≡ p .next)
+    reached true e q = inl (eqb-true (r .variable) (p .variable) e)
+    reached false e q = inr (eqb-true (r .variable) (p .next) q)
 
-    numbered : (r .a < 2) ⊎ (2 ≤ r .a) → Number p r w
+    numbered : (r .kind < 2) ⊎ (2 ≤ r .kind) → Number p r w
     numbered (inl l) = none l
-    numbered (inr l) = two (dec-lt (r .c) (p .pieces))
+    numbered (inr l) = two (dec-lt (r .fresh) (p .pieces))
       where
-        inner : cond (ltb (r .c) (p .pieces)) (eqb w (r .b)) (eqb (r .c) (p .pieces)) ≡ true
-        inner = and-second (ltb (r .a) 3) (cond (ltb (r .c) (p .pieces)) (eqb w (r .b)) (eqb (r .c) (p .pieces))) (rw (le-ltb (r .a) 2 l) at hl)
+        inner : cond (ltb (r .fresh) (p .pieces)) (eqb w (r .width)) (eqb (r .fresh) (p .pieces)) ≡ true
+        inner = and-second (ltb (r .kind) 3) (cond (ltb (r .fresh) (p .pieces)) (eqb w (r .width)) (eqb (r .fresh) (p .pieces))) (rw (le-ltb (r .kind) 2 l) at hl)
 
-        two : (r .c < p .pieces) ⊎ (p .pieces ≤ r .c) → Number p r w
-        two (inl q) = again l q (eqb-true w (r .b) (rw (lt-ltb (r .c) (p .pieces) q) at inner))
-        two (inr q) = first l (eqb-true (r .c) (p .pieces) (rw (le-ltb (r .c) (p .pieces) q) at inner))
+        two : (r .fresh < p .pieces) ⊎ (p .pieces ≤ r .fresh) → Number p r w
+        two (inl q) = again l q (eqb-true w (r .width) (rw (lt-ltb (r .fresh) (p .pieces) q) at inner))
+        two (inr q) = first l (eqb-true (r .fresh) (p .pieces) (rw (le-ltb (r .fresh) (p .pieces) q) at inner))
 
 -- a row that adds no fresh piece, and one that adds the next
-data Step (p : Progress) (r : Row) (w : ℕ) : Type 0 where
-  kept : isNew p r ≡ false → (isFresh (answerRow r) ≡ true → (r .c < p .pieces) × (w ≡ r .b)) → Step p r w
-  opened : isNew p r ≡ true → 2 ≤ r .a → r .c ≡ p .pieces → Step p r w
+data Step (p : Progress) (r : AnswerRow) (w : ℕ) : Type 0 where
+  kept : isNew p r ≡ false → (isFresh r ≡ true → (r .fresh < p .pieces) × (w ≡ r .width)) → Step p r w
+  opened : isNew p r ≡ true → 2 ≤ r .kind → r .fresh ≡ p .pieces → Step p r w
 
-step-of : (p : Progress) (r : Row) (w : ℕ) → Number p r w → Step p r w
-step-of p r w (none l) = kept (unfold isNew in rw (lt-ltb (r .a) 2 l)) (λ f. absurd (never (rw (lt-ltb (r .a) 2 l) at f)))
+step-of : (p : Progress) (r : AnswerRow) (w : ℕ) → Number p r w → Step p r w
+step-of p r w (none l) = kept (unfold isNew in rw (lt-ltb (r .kind) 2 l)) (λ f. absurd (never (rw (lt-ltb (r .kind) 2 l) at f)))
   where
     never : false ≡ true → ⊥
     never e = let z : _≡_ {A = ℕ} 0 1 = cc in omega arith
-step-of p r w (again l c e) = kept (unfold isNew in rw (le-ltb (r .a) 2 l, ne-eqb (r .c) (p .pieces) (omega arith))) (λ f. (c, e))
-step-of p r w (first l e) = opened (unfold isNew in rw (le-ltb (r .a) 2 l, eq-eqb (r .c) (p .pieces) e)) l e
+step-of p r w (again l c e) = kept (unfold isNew in rw (le-ltb (r .kind) 2 l, ne-eqb (r .fresh) (p .pieces) (omega arith))) (λ f. (c, e))
+step-of p r w (first l e) = opened (unfold isNew in rw (le-ltb (r .kind) 2 l, eq-eqb (r .fresh) (p .pieces) e)) l e
 
 -- two tests turned round, denied, and a number under one
 and-turn : (a b : Bool) → a && b ≡ b && a
@@ -112,84 +113,84 @@ cond-most : (t : Bool) (n : ℕ) → cond t n 0 ≤ n
 cond-most true n = omega arith
 cond-most false n = omega arith
 
-module _ (before : List AnswerRow) (p : Progress) (widths starts : List ℕ) (k : Passed before p widths starts) (r : Row)
-    (fine : fineIn p r (getD widths (r .c) 0) ≡ true) (room : 4096 ≤ length widths) (space : 4096 ≤ length starts) where
+module _ (before : List AnswerRow) (p : Progress) (widths starts : List ℕ) (k : Passed before p widths starts) (r : AnswerRow)
+    (fine : fineIn p r (getD widths (r .fresh) 0) ≡ true) (room : 4096 ≤ length widths) (space : 4096 ≤ length starts) where
   abbrev s : AnswerRow
-  s = answerRow r
+  s = r
 
   abbrev after : List AnswerRow
-  after = before ++ (answerRow r ∷ [])
+  after = before ++ (r ∷ [])
 
   -- the state without wrapping
   abbrev then : Progress
   then = record {
-    variable = r .kind;
-    next = r .kind + 1;
-    kind = r .a;
-    width = widthBefore p (r .kind) + r .b;
-    bits = p .bits + r .b;
+    variable = r .variable;
+    next = r .variable + 1;
+    kind = r .kind;
+    width = widthBefore p (r .variable) + r .width;
+    bits = p .bits + r .width;
     pieces = p .pieces + cond (isNew p r) 1 0;
-    free = p .free + cond (isNew p r) (r .b) 0;
+    free = p .free + cond (isNew p r) (r .width) 0;
   }
 
-  facts : Fine p r (getD widths (r .c) 0)
-  facts = fine-facts p r (getD widths (r .c) 0) fine
+  facts : Fine p r (getD widths (r .fresh) 0)
+  facts = fine-facts p r (getD widths (r .fresh) 0) fine
 
-  step : Step p r (getD widths (r .c) 0)
-  step = step-of p r (getD widths (r .c) 0) (facts .number)
+  step : Step p r (getD widths (r .fresh) 0)
+  step = step-of p r (getD widths (r .fresh) 0) (facts .number)
 
   advanced-is : advanced p r ≡ then
   unfolding advanced
   advanced-is = rw (e₁, e₂, e₃, e₄, e₅)
     where
-      e₁ : (r .kind + 1) % 65536 ≡ r .kind + 1
+      e₁ : (r .variable + 1) % 65536 ≡ r .variable + 1
       e₁ = omega (arith, facts .small)
 
-      e₂ : (widthBefore p (r .kind) + r .b) % 65536 ≡ widthBefore p (r .kind) + r .b
+      e₂ : (widthBefore p (r .variable) + r .width) % 65536 ≡ widthBefore p (r .variable) + r .width
       e₂ = omega (arith, facts .in-variable)
 
-      e₃ : (p .bits + r .b) % 65536 ≡ p .bits + r .b
+      e₃ : (p .bits + r .width) % 65536 ≡ p .bits + r .width
       e₃ = omega (arith, facts .in-pattern)
 
       e₄ : (p .pieces + cond {A = ℕ} (isNew p r) 1 0) % 65536 ≡ p .pieces + cond (isNew p r) 1 0
       e₄ = omega (arith, cond-most (isNew p r) 1, k .few-pieces, k .few-rows, k .few-bits)
 
-      e₅ : (p .free + cond {A = ℕ} (isNew p r) (r .b) 0) % 65536 ≡ p .free + cond (isNew p r) (r .b) 0
-      e₅ = omega (arith, cond-most (isNew p r) (r .b), k .few-free, facts .in-pattern)
+      e₅ : (p .free + cond {A = ℕ} (isNew p r) (r .width) 0) % 65536 ≡ p .free + cond (isNew p r) (r .width) 0
+      e₅ = omega (arith, cond-most (isNew p r) (r .width), k .few-free, facts .in-pattern)
 
-  reaches : p .variable ≤ r .kind
+  reaches : p .variable ≤ r .variable
   reaches = go (facts .reach)
     where
-      go : (r .kind ≡ p .variable) ⊎ (r .kind ≡ p .next) → p .variable ≤ r .kind
+      go : (r .variable ≡ p .variable) ⊎ (r .variable ≡ p .next) → p .variable ≤ r .variable
       go (inl e) = omega arith
       go (inr e) = omega (arith, k .rising)
 
   place : p .pieces < 4096
   place = omega (arith, k .few-pieces, k .few-rows, facts .in-pattern, facts .some)
 
-  variable-then : (q : AnswerRow) → variableFine after q ≡ ltb (q .variable) 64 && (eqb (q .variable) (r .kind) || eqb (q .variable) (r .kind + 1))
+  variable-then : (q : AnswerRow) → variableFine after q ≡ ltb (q .variable) 64 && (eqb (q .variable) (r .variable) || eqb (q .variable) (r .variable + 1))
   unfolding variableFine
   variable-then q =
       variable-last before s q
-      ∙ rw (add-one) (and-turn (eqb (q .variable) (r .kind) || eqb (q .variable) (suc (r .kind))) (ltb (q .variable) 64))
+      ∙ rw (add-one) (and-turn (eqb (q .variable) (r .variable) || eqb (q .variable) (suc (r .variable))) (ltb (q .variable) 64))
 
-  neighbours-then : (q : AnswerRow) → q .kind < 2 → neighboursFine after q ≡ not (eqb (q .variable) (r .kind) && eqb (q .kind) (r .a))
+  neighbours-then : (q : AnswerRow) → q .kind < 2 → neighboursFine after q ≡ not (eqb (q .variable) (r .variable) && eqb (q .kind) (r .kind))
   unfolding neighboursFine
-  neighbours-then q l = neighbours-last before s q ∙ rw (lt-ltb (q .kind) 2 l) (go (dec-lt (r .a) 2))
+  neighbours-then q l = neighbours-last before s q ∙ rw (lt-ltb (q .kind) 2 l) (go (dec-lt (r .kind) 2))
     where
-      go : (r .a < 2) ⊎ (2 ≤ r .a) → isFresh s || not (eqb (r .kind) (q .variable)) || not (eqb (r .a) (q .kind)) ≡ not (eqb (q .variable) (r .kind) && eqb (q .kind) (r .a))
-      go (inl h) = rw (lt-ltb (r .a) 2 h, eqb-turn (r .kind) (q .variable), eqb-turn (r .a) (q .kind)) (not-and (eqb (q .variable) (r .kind)) (eqb (q .kind) (r .a)))
-      go (inr h) = rw (le-ltb (r .a) 2 h, ne-eqb (q .kind) (r .a) (omega arith), and-false (eqb (q .variable) (r .kind)))
+      go : (r .kind < 2) ⊎ (2 ≤ r .kind) → isFresh s || not (eqb (r .variable) (q .variable)) || not (eqb (r .kind) (q .kind)) ≡ not (eqb (q .variable) (r .variable) && eqb (q .kind) (r .kind))
+      go (inl h) = rw (lt-ltb (r .kind) 2 h, eqb-turn (r .variable) (q .variable), eqb-turn (r .kind) (q .kind)) (not-and (eqb (q .variable) (r .variable)) (eqb (q .kind) (r .kind)))
+      go (inr h) = rw (le-ltb (r .kind) 2 h, ne-eqb (q .kind) (r .kind) (omega arith), and-false (eqb (q .variable) (r .variable)))
 
-  width-then : (v : ℕ) → r .kind ≤ v → widthIn after v ≡ widthBefore then v
-  width-then v l = width-more before s v ∙ go (dec-eq v (r .kind))
+  width-then : (v : ℕ) → r .variable ≤ v → widthIn after v ≡ widthBefore then v
+  width-then v l = width-more before s v ∙ go (dec-eq v (r .variable))
     where
-      go : (v ≡ r .kind) ⊎ (v ≢ r .kind) → widthIn before v + cond (eqb (r .kind) v) (r .b) 0 ≡ widthBefore then v
-      go (inl e) = unfold widthBefore in rw (e, eq-eqb (r .kind) (r .kind) refl) (ap (λ (x : ℕ). x + r .b) (here))
+      go : (v ≡ r .variable) ⊎ (v ≢ r .variable) → widthIn before v + cond (eqb (r .variable) v) (r .width) 0 ≡ widthBefore then v
+      go (inl e) = unfold widthBefore in rw (e, eq-eqb (r .variable) (r .variable) refl) (ap (λ (x : ℕ). x + r .width) (here))
         where
-          here : widthIn before (r .kind) ≡ cond (eqb (r .kind) (p .variable)) (p .width) 0
-          here = unfold widthBefore in (k .width-is (r .kind) reaches)
-      go (inr e) = unfold widthBefore in rw (ne-eqb (r .kind) v (λ q. e (sym q)), ne-eqb v (r .kind) e) (omega (arith, above))
+          here : widthIn before (r .variable) ≡ cond (eqb (r .variable) (p .variable)) (p .width) 0
+          here = unfold widthBefore in (k .width-is (r .variable) reaches)
+      go (inr e) = unfold widthBefore in rw (ne-eqb (r .variable) v (λ q. e (sym q)), ne-eqb v (r .variable) e) (omega (arith, above))
         where
           above : widthIn before v ≡ 0
           above = k .width-is v (omega (arith, reaches)) ∙ (unfold widthBefore in rw (ne-eqb v (p .variable) (λ q. e (omega (arith, reaches)))))
@@ -200,13 +201,13 @@ module _ (before : List AnswerRow) (p : Progress) (widths starts : List ℕ) (k 
   starts-old : (j : ℕ) → j ≤ p .pieces → freshStart after j ≡ freshStart before j
   starts-old j l = starts-same after before j (λ i h. widths-old i (omega arith))
 
-  width-new : 2 ≤ r .a → r .c ≡ p .pieces → freshWidth after (p .pieces) ≡ r .b
-  width-new l e = piece-more before s (p .pieces) ∙ rw (k .seen (p .pieces), le-ltb (p .pieces) (p .pieces) (omega arith), le-ltb (r .a) 2 l, eq-eqb (r .c) (p .pieces) e)
+  width-new : 2 ≤ r .kind → r .fresh ≡ p .pieces → freshWidth after (p .pieces) ≡ r .width
+  width-new l e = piece-more before s (p .pieces) ∙ rw (k .seen (p .pieces), le-ltb (p .pieces) (p .pieces) (omega arith), le-ltb (r .kind) 2 l, eq-eqb (r .fresh) (p .pieces) e)
 
   seen-then : (j : ℕ) → member j (freshNumbers after) ≡ ltb j (p .pieces + cond (isNew p r) 1 0)
   seen-then j = member-more before s j ∙ rw (k .seen j) (go step)
     where
-      in-old : (b : Bool) → isFresh s ≡ b → (b ≡ true → r .c < p .pieces) → ltb j (p .pieces) || (b && eqb j (r .c)) ≡ ltb j (p .pieces + 0)
+      in-old : (b : Bool) → isFresh s ≡ b → (b ≡ true → r .fresh < p .pieces) → ltb j (p .pieces) || (b && eqb j (r .fresh)) ≡ ltb j (p .pieces + 0)
       in-old false e h = two (dec-lt j (p .pieces))
         where
           two : (j < p .pieces) ⊎ (p .pieces ≤ j) → ltb j (p .pieces) || false ≡ ltb j (p .pieces + 0)
@@ -214,11 +215,11 @@ module _ (before : List AnswerRow) (p : Progress) (widths starts : List ℕ) (k 
           two (inr l) = rw (le-ltb j (p .pieces) l, le-ltb j (p .pieces + 0) (omega arith))
       in-old true e h = two (dec-lt j (p .pieces))
         where
-          two : (j < p .pieces) ⊎ (p .pieces ≤ j) → ltb j (p .pieces) || eqb j (r .c) ≡ ltb j (p .pieces + 0)
+          two : (j < p .pieces) ⊎ (p .pieces ≤ j) → ltb j (p .pieces) || eqb j (r .fresh) ≡ ltb j (p .pieces + 0)
           two (inl l) = rw (lt-ltb j (p .pieces) l, lt-ltb j (p .pieces + 0) (omega arith))
-          two (inr l) = rw (le-ltb j (p .pieces) l, le-ltb j (p .pieces + 0) (omega arith), ne-eqb j (r .c) (λ q. absurd (omega (arith, h refl))))
+          two (inr l) = rw (le-ltb j (p .pieces) l, le-ltb j (p .pieces + 0) (omega arith), ne-eqb j (r .fresh) (λ q. absurd (omega (arith, h refl))))
 
-      in-new : (j < p .pieces) ⊎ (p .pieces ≤ j) → r .c ≡ p .pieces → ltb j (p .pieces) || eqb j (r .c) ≡ ltb j (p .pieces + 1)
+      in-new : (j < p .pieces) ⊎ (p .pieces ≤ j) → r .fresh ≡ p .pieces → ltb j (p .pieces) || eqb j (r .fresh) ≡ ltb j (p .pieces + 1)
       in-new (inl l) e = rw (lt-ltb j (p .pieces) l, lt-ltb j (p .pieces + 1) (omega arith))
       in-new (inr l) e = rw (le-ltb j (p .pieces) l, e) (two (dec-eq j (p .pieces)))
         where
@@ -226,43 +227,43 @@ module _ (before : List AnswerRow) (p : Progress) (widths starts : List ℕ) (k 
           two (inl q) = rw (eq-eqb j (p .pieces) q, lt-ltb j (p .pieces + 1) (omega arith))
           two (inr q) = rw (ne-eqb j (p .pieces) q, le-ltb j (p .pieces + 1) (omega arith))
 
-      go : Step p r (getD widths (r .c) 0) → ltb j (p .pieces) || (isFresh s && eqb j (r .c)) ≡ ltb j (p .pieces + cond (isNew p r) 1 0)
+      go : Step p r (getD widths (r .fresh) 0) → ltb j (p .pieces) || (isFresh s && eqb j (r .fresh)) ≡ ltb j (p .pieces + cond (isNew p r) 1 0)
       go (kept e h) = rw e (in-old (isFresh s) refl (λ f. h f .0))
-      go (opened e l c) = rw (e, le-ltb (r .a) 2 l) (in-new (dec-lt j (p .pieces)) c)
+      go (opened e l c) = rw (e, le-ltb (r .kind) 2 l) (in-new (dec-lt j (p .pieces)) c)
 
   -- an entry below the new count: an old one, or the one that was stored
-  entry : (j : ℕ) → j < p .pieces + cond (isNew p r) 1 0 → (j < p .pieces) ⊎ ((j ≡ p .pieces) × ((2 ≤ r .a) × (r .c ≡ p .pieces)))
+  entry : (j : ℕ) → j < p .pieces + cond (isNew p r) 1 0 → (j < p .pieces) ⊎ ((j ≡ p .pieces) × ((2 ≤ r .kind) × (r .fresh ≡ p .pieces)))
   entry j l = go step
     where
-      go : Step p r (getD widths (r .c) 0) → (j < p .pieces) ⊎ ((j ≡ p .pieces) × ((2 ≤ r .a) × (r .c ≡ p .pieces)))
+      go : Step p r (getD widths (r .fresh) 0) → (j < p .pieces) ⊎ ((j ≡ p .pieces) × ((2 ≤ r .kind) × (r .fresh ≡ p .pieces)))
       go (kept e h) = inl (omega (arith, rw e at l))
       go (opened e a c) = two (dec-lt j (p .pieces))
         where
-          two : (j < p .pieces) ⊎ (p .pieces ≤ j) → (j < p .pieces) ⊎ ((j ≡ p .pieces) × ((2 ≤ r .a) × (r .c ≡ p .pieces)))
+          two : (j < p .pieces) ⊎ (p .pieces ≤ j) → (j < p .pieces) ⊎ ((j ≡ p .pieces) × ((2 ≤ r .kind) × (r .fresh ≡ p .pieces)))
           two (inl q) = inl q
           two (inr q) = inr (omega (arith, rw e at l), (a, c))
 
-  widths-then : (j : ℕ) → j < p .pieces + cond (isNew p r) 1 0 → getD (set widths (p .pieces) (r .b)) j 0 ≡ freshWidth after j
+  widths-then : (j : ℕ) → j < p .pieces + cond (isNew p r) 1 0 → getD (set widths (p .pieces) (r .width)) j 0 ≡ freshWidth after j
   widths-then j l = go (entry j l)
     where
-      go : (j < p .pieces) ⊎ ((j ≡ p .pieces) × ((2 ≤ r .a) × (r .c ≡ p .pieces))) → getD (set widths (p .pieces) (r .b)) j 0 ≡ freshWidth after j
-      go (inl q) = getD-set-other widths (p .pieces) j (r .b) 0 (λ e. omega arith) ∙ k .widths-are j q ∙ sym (widths-old j q)
-      go (inr q) = rw (q .0) (getD-set-same widths (p .pieces) (r .b) 0 (omega (arith, place)) ∙ sym (width-new (q .1 .0) (q .1 .1)))
+      go : (j < p .pieces) ⊎ ((j ≡ p .pieces) × ((2 ≤ r .kind) × (r .fresh ≡ p .pieces))) → getD (set widths (p .pieces) (r .width)) j 0 ≡ freshWidth after j
+      go (inl q) = getD-set-other widths (p .pieces) j (r .width) 0 (λ e. omega arith) ∙ k .widths-are j q ∙ sym (widths-old j q)
+      go (inr q) = rw (q .0) (getD-set-same widths (p .pieces) (r .width) 0 (omega (arith, place)) ∙ sym (width-new (q .1 .0) (q .1 .1)))
 
   starts-then : (j : ℕ) → j < p .pieces + cond (isNew p r) 1 0 → getD (set starts (p .pieces) (p .free)) j 0 ≡ freshStart after j
   starts-then j l = go (entry j l)
     where
-      go : (j < p .pieces) ⊎ ((j ≡ p .pieces) × ((2 ≤ r .a) × (r .c ≡ p .pieces))) → getD (set starts (p .pieces) (p .free)) j 0 ≡ freshStart after j
+      go : (j < p .pieces) ⊎ ((j ≡ p .pieces) × ((2 ≤ r .kind) × (r .fresh ≡ p .pieces))) → getD (set starts (p .pieces) (p .free)) j 0 ≡ freshStart after j
       go (inl q) = getD-set-other starts (p .pieces) j (p .free) 0 (λ e. omega arith) ∙ k .starts-are j q ∙ sym (starts-old j (omega arith))
       go (inr q) = rw (q .0) (getD-set-same starts (p .pieces) (p .free) 0 (omega (arith, place)) ∙ k .free-is ∙ sym (starts-old (p .pieces) (omega arith)))
 
-  free-then : p .free + cond (isNew p r) (r .b) 0 ≡ freshStart after (p .pieces + cond (isNew p r) 1 0)
+  free-then : p .free + cond (isNew p r) (r .width) 0 ≡ freshStart after (p .pieces + cond (isNew p r) 1 0)
   free-then = go step
     where
       old : p .free ≡ freshStart after (p .pieces)
       old = k .free-is ∙ sym (starts-old (p .pieces) (omega arith))
 
-      go : Step p r (getD widths (r .c) 0) → p .free + cond (isNew p r) (r .b) 0 ≡ freshStart after (p .pieces + cond (isNew p r) 1 0)
+      go : Step p r (getD widths (r .fresh) 0) → p .free + cond (isNew p r) (r .width) 0 ≡ freshStart after (p .pieces + cond (isNew p r) 1 0)
       go (kept e h) = let z : p .pieces + 0 ≡ p .pieces = omega arith in rw (e, z) (omega (arith, old))
       go (opened e l c) = unfold freshStart in rw (e, add-one) (omega (arith, old, width-new l c))
 
@@ -274,10 +275,10 @@ module _ (before : List AnswerRow) (p : Progress) (widths starts : List ℕ) (k 
           let P = k .pieces-are j q f in
           record { known = omega (arith, P .known); wide = widths-old (answerRowAt before j .fresh) (P .known) ∙ P .wide }
 
-      new : isFresh (answerRow r) ≡ true → Step p r (getD widths (r .c) 0) → Piece after (p .pieces + cond (isNew p r) 1 0) (answerRow r)
+      new : isFresh r ≡ true → Step p r (getD widths (r .fresh) 0) → Piece after (p .pieces + cond (isNew p r) 1 0) r
       new f (kept e h) =
           let b = h f in
-          record { known = omega (arith, b .0); wide = widths-old (r .c) (b .0) ∙ sym (k .widths-are (r .c) (b .0)) ∙ b .1 }
+          record { known = omega (arith, b .0); wide = widths-old (r .fresh) (b .0) ∙ sym (k .widths-are (r .fresh) (b .0)) ∙ b .1 }
       new f (opened e a c) = rw e (record { known = omega arith; wide = ap (freshWidth after) c ∙ width-new a c })
 
       go : (j < length before) ⊎ (length before ≤ j) → isFresh (answerRowAt after j) ≡ true → Piece after (p .pieces + cond (isNew p r) 1 0) (answerRowAt after j)
@@ -286,13 +287,13 @@ module _ (before : List AnswerRow) (p : Progress) (widths starts : List ℕ) (k 
           let e : j ≡ length before = omega (arith, l, length-append before (s ∷ [])) in
           rw (e, getD-append-seam before s [] noAnswerRow) (λ f. new f step)
 
-  passed-then : Passed after then (set widths (p .pieces) (r .b)) (set starts (p .pieces) (p .free))
+  passed-then : Passed after then (set widths (p .pieces) (r .width)) (set starts (p .pieces) (p .free))
   passed-then = record {
     variable-is = variable-then;
     rising = omega arith;
     neighbours-are = neighbours-then;
     width-is = width-then;
-    bits-are = ap (λ (x : ℕ). x + r .b) (k .bits-are) ∙ sym (bits-more before s);
+    bits-are = ap (λ (x : ℕ). x + r .width) (k .bits-are) ∙ sym (bits-more before s);
     few-bits = facts .in-pattern;
     few-rows = omega (arith, length-append before (s ∷ []), k .few-rows, facts .some);
     few-pieces = omega (arith, length-append before (s ∷ []), cond-most (isNew p r) 1, k .few-pieces);
@@ -300,9 +301,9 @@ module _ (before : List AnswerRow) (p : Progress) (widths starts : List ℕ) (k 
     widths-are = widths-then;
     starts-are = starts-then;
     free-is = free-then;
-    few-free = omega (arith, cond-most (isNew p r) (r .b), k .few-free);
+    few-free = omega (arith, cond-most (isNew p r) (r .width), k .few-free);
     pieces-are = pieces-then;
   }
 
-  pub passed-more : Passed (before ++ (answerRow r ∷ [])) (advanced p r) (set widths (p .pieces) (r .b)) (set starts (p .pieces) (p .free))
+  pub passed-more : Passed (before ++ (r ∷ [])) (advanced p r) (set widths (p .pieces) (r .width)) (set starts (p .pieces) (p .free))
   passed-more = rw advanced-is passed-then

@@ -2,41 +2,25 @@
 use mathlib.Core.Path.{_≡_, refl, sym, ap, _∙_}
 use mathlib.Core.Bool.{Bool, true, false, _&&_, and-true, and-false}
 use mathlib.Core.List.{List, [], _∷_, _++_}
-use Prim.Native.Nat.{ℕ, zero, suc, _+_, _/_, _%_, _≤_, _<_}
+use Prim.Native.Nat.{ℕ, suc, _+_, _/_, _%_, _≤_, _<_}
 use native.Mathlib.Omega.{arith}
 use native.Mathlib.Numerals.{add-one}
 use lib.Dec.{eqb}
 use lib.ListN.{length, getD, set, take, drop, length-set, drop-of-length-le}
 use lib.Seq.{take-suc, take-all, drop-cons}
 use borrow.Author.Tests.{ltb-true, lt-ltb}
-use Rattle.terms.specs.declared.Row.{Row}
-use Rattle.terms.specs.Table.{rowsOf, rowAt}
-use Rattle.answers.specs.Answer.{AnswerRow, freshNumbers, freshPieces, freshStart, freeBits}
+use Rattle.answers.specs.declared.AnswerRow.{AnswerRow}
+use Rattle.answers.specs.Answer.{freshNumbers, freshPieces, freshStart, freeBits}
 use Rattle.answers.proofs.Instantiating.{distinct-is}
 use Rattle.maker.specs.declared.Progress.{Progress}
-use Rattle.assignments.specs.Form.{answerRowsOf, rowsFine, hasForm}
-use Rattle.maker.specs.Making.{answerRow, answerRowAt, noAnswerRow, fineIn, advanced, Shaped, ReadsForm}
+use Rattle.answers.specs.Answer.{answerRowsOf}
+use Rattle.assignments.specs.Form.{rowsFine, hasForm}
+use Rattle.maker.specs.Making.{fineIn, advanced, Shaped, ReadsForm}
+use Rattle.answers.specs.Answer.{answerRowAt, noAnswerRow}
 use Rattle.maker.proofs.OneMore.{starts-rise}
 use Rattle.maker.proofs.Passed.{Passed, atFirst, passed-none, row-is}
 use Rattle.maker.proofs.Passing.{passed-more}
-
--- the rows of a run of numbers: how many, and each one by its four numbers
-pub answer-length : (t : List ℕ) → length (answerRowsOf t) ≡ length t / 4
-unfolding answerRowsOf
-answer-length [] = refl
-answer-length (v ∷ []) = refl
-answer-length (v ∷ k ∷ []) = refl
-answer-length (v ∷ k ∷ w ∷ []) = refl
-answer-length (v ∷ k ∷ w ∷ f ∷ t) = omega (arith, answer-length t)
-
-pub answer-row : (t : List ℕ) (i : ℕ) → answerRow (rowAt (rowsOf t) i) ≡ answerRowAt (answerRowsOf t) i
-unfolding answerRowsOf rowsOf
-answer-row [] i = refl
-answer-row (v ∷ []) i = refl
-answer-row (v ∷ k ∷ []) i = refl
-answer-row (v ∷ k ∷ w ∷ []) i = refl
-answer-row (v ∷ k ∷ w ∷ f ∷ t) zero = refl
-answer-row (v ∷ k ∷ w ∷ f ∷ t) (suc i) = answer-row t i
+use Rattle.answers.proofs.AnswerNumbers.{answer-length}
 
 -- with every row passed, the counts and the starts are the table's
 module _ (rows : List AnswerRow) (p : Progress) (widths starts : List ℕ) (k : Passed rows p widths starts) where
@@ -84,32 +68,32 @@ module _ (answer widths₀ starts₀ widths starts : List ℕ) (p : Progress) (i
   abbrev rows : List AnswerRow
   rows = answerRowsOf answer
 
-  module _ (l : i < length answer / 4) (r : Row) (er : r ≡ rowAt (rowsOf answer) i) (number : ℕ) (en : number ≡ r .c) (w : ℕ) (found : w ≡ getD widths number 0) where
-    ew : w ≡ getD widths (r .c) 0
+  module _ (l : i < length answer / 4) (r : AnswerRow) (er : r ≡ answerRowAt (answerRowsOf answer) i) (number : ℕ) (en : number ≡ r .fresh) (w : ℕ) (found : w ≡ getD widths number 0) where
+    ew : w ≡ getD widths (r .fresh) 0
     ew = found ∙ ap (λ (x : ℕ). getD widths x 0) en
 
     there : i < length rows
     there = omega (arith, answer-length answer)
 
-    row-here : answerRowAt rows i ≡ answerRow r
-    row-here = sym (answer-row answer i) ∙ ap answerRow (sym er)
+    row-here : answerRowAt rows i ≡ r
+    row-here = sym er
 
-    next-rows : take (suc i) rows ≡ take i rows ++ (answerRow r ∷ [])
+    next-rows : take (suc i) rows ≡ take i rows ++ (r ∷ [])
     next-rows = take-suc rows i noAnswerRow there ∙ ap (λ (s : AnswerRow). take i rows ++ (s ∷ [])) row-here
 
     tested : Passed (take i rows) p widths starts → rowsFine (take i rows) (drop i rows) ≡ fineIn p r w && rowsFine (take (suc i) rows) (drop (suc i) rows)
     unfolding rowsFine
     tested q =
         rw (drop-cons rows i noAnswerRow there, row-here, next-rows)
-        (ap (λ (t : Bool). t && rowsFine (take i rows ++ (answerRow r ∷ [])) (drop (suc i) rows)) (row-is (take i rows) p widths starts q r ∙ ap (fineIn p r) (sym ew)))
+        (ap (λ (t : Bool). t && rowsFine (take i rows ++ (r ∷ [])) (drop (suc i) rows)) (row-is (take i rows) p widths starts q r ∙ ap (fineIn p r) (sym ew)))
 
-    pub reading-more : fineIn p r w ≡ true → (place : ℕ) (widths′ starts′ : List ℕ) (q : Progress) → place ≡ p .pieces → widths′ ≡ set widths place (r .b)
+    pub reading-more : fineIn p r w ≡ true → (place : ℕ) (widths′ starts′ : List ℕ) (q : Progress) → place ≡ p .pieces → widths′ ≡ set widths place (r .width)
         → starts′ ≡ set starts place (p .free) → q ≡ advanced p r → Reading answer widths₀ starts₀ widths′ starts′ q (i + 1)
     reading-more fine place widths′ starts′ q ep ws ss eq =
         rw (add-one)
         (record {
           within = omega arith;
-          widths-len = ap length ws ∙ length-set widths place (r .b) ∙ k .widths-len;
+          widths-len = ap length ws ∙ length-set widths place (r .width) ∙ k .widths-len;
           starts-len = ap length ss ∙ length-set starts place (p .free) ∙ k .starts-len;
           going = λ room space. one-more (k .going room space) (omega (arith, k .widths-len)) (omega (arith, k .starts-len));
         })

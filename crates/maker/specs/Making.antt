@@ -1,68 +1,56 @@
--- What the inner functions of the pattern maker compute and promise. A row of an answer table is read as a row of four numbers: variable,
--- kind, width and fresh number stand in its columns kind, a, b and c.
+-- What the inner functions of the pattern maker compute and promise.
 use mathlib.Core.Path.{_≡_}
 use mathlib.Core.Bool.{Bool, true, not, _&&_, _||_, cond}
 use mathlib.Core.List.{List, [], _∷_, _++_}
 use Prim.Native.Nat.{ℕ, zero, suc, _+_, _%_, _≤_, _<_}
 use lib.Dec.{eqb, ltb}
 use lib.ListN.{length, getD}
-use Rattle.terms.specs.declared.Row.{Row}
 use Rattle.laws.specs.Buffers.{overwrite}
-use Rattle.answers.specs.Answer.{AnswerRow, isFresh, freshStart, freeBits, instantiate}
+use Rattle.answers.specs.declared.AnswerRow.{AnswerRow}
+use Rattle.answers.specs.Answer.{isFresh, freshStart, freeBits, instantiate, answerRowAt}
 use Rattle.maker.specs.declared.Progress.{Progress}
 use Rattle.maker.specs.declared.Found.{Found}
-use Rattle.assignments.specs.Form.{answerRowsOf, patternBits, hasForm}
-
--- Four numbers as a row of an answer table.
-abbrev pub answerRow : Row → AnswerRow
-answerRow r = record { variable = r .kind; kind = r .a; width = r .b; fresh = r .c }
-
--- What is read past the end of an answer table.
-abbrev pub noAnswerRow : AnswerRow
-noAnswerRow = record { variable = 0; kind = 0; width = 0; fresh = 0 }
-
--- Row j of an answer table.
-abbrev pub answerRowAt : List AnswerRow → ℕ → AnswerRow
-answerRowAt rows j = getD rows j noAnswerRow
+use Rattle.answers.specs.Answer.{answerRowsOf}
+use Rattle.assignments.specs.Form.{patternBits, hasForm}
 
 -- The width of variable v in the rows passed.
 unfoldable pub widthBefore : Progress → ℕ → ℕ
 widthBefore p v = cond (eqb v (p .variable)) (p .width) 0
 
 -- Whether a row has the first place of a fresh piece.
-unfoldable pub isNew : Progress → Row → Bool
-isNew p r = not (ltb (r .a) 2) && eqb (r .c) (p .pieces)
+unfoldable pub isNew : Progress → AnswerRow → Bool
+isNew p r = not (ltb (r .kind) 2) && eqb (r .fresh) (p .pieces)
 
 -- Whether a row's variable is the last row's or the one above it, up to 63.
-unfoldable pub variableIn : Progress → Row → Bool
-variableIn p r = ltb (r .kind) 64 && (eqb (r .kind) (p .variable) || eqb (r .kind) (p .next))
+unfoldable pub variableIn : Progress → AnswerRow → Bool
+variableIn p r = ltb (r .variable) 64 && (eqb (r .variable) (p .variable) || eqb (r .variable) (p .next))
 
 -- Whether a row's width is at least 1 and has room in its variable and in the pattern.
-unfoldable pub widthsIn : Progress → Row → Bool
-widthsIn p r = ltb 0 (r .b) && ltb (widthBefore p (r .kind) + r .b) 1025 && ltb (p .bits + r .b) 4097
+unfoldable pub widthsIn : Progress → AnswerRow → Bool
+widthsIn p r = ltb 0 (r .width) && ltb (widthBefore p (r .variable) + r .width) 1025 && ltb (p .bits + r .width) 4097
 
 -- Whether a fill has fresh number 0 and differs from a fill before it in the same variable.
-unfoldable pub fillIn : Progress → Row → Bool
-fillIn p r = eqb (r .c) 0 && not (eqb (r .kind) (p .variable) && eqb (r .a) (p .kind))
+unfoldable pub fillIn : Progress → AnswerRow → Bool
+fillIn p r = eqb (r .fresh) 0 && not (eqb (r .variable) (p .variable) && eqb (r .kind) (p .kind))
 
 -- Whether a fresh number was seen with the same width, or is the lowest unseen. w is the width it was seen with.
-unfoldable pub freshIn : Progress → Row → ℕ → Bool
-freshIn p r w = ltb (r .a) 3 && cond (ltb (r .c) (p .pieces)) (eqb w (r .b)) (eqb (r .c) (p .pieces))
+unfoldable pub freshIn : Progress → AnswerRow → ℕ → Bool
+freshIn p r w = ltb (r .kind) 3 && cond (ltb (r .fresh) (p .pieces)) (eqb w (r .width)) (eqb (r .fresh) (p .pieces))
 
 -- Whether a row is fine behind those passed.
-unfoldable pub fineIn : Progress → Row → ℕ → Bool
-fineIn p r w = variableIn p r && widthsIn p r && cond (ltb (r .a) 2) (fillIn p r) (freshIn p r w)
+unfoldable pub fineIn : Progress → AnswerRow → ℕ → Bool
+fineIn p r w = variableIn p r && widthsIn p r && cond (ltb (r .kind) 2) (fillIn p r) (freshIn p r w)
 
 -- The state with one row more.
-unfoldable pub advanced : Progress → Row → Progress
+unfoldable pub advanced : Progress → AnswerRow → Progress
 advanced p r = record {
-  variable = r .kind;
-  next = (r .kind + 1) % 65536;
-  kind = r .a;
-  width = (widthBefore p (r .kind) + r .b) % 65536;
-  bits = (p .bits + r .b) % 65536;
+  variable = r .variable;
+  next = (r .variable + 1) % 65536;
+  kind = r .kind;
+  width = (widthBefore p (r .variable) + r .width) % 65536;
+  bits = (p .bits + r .width) % 65536;
   pieces = (p .pieces + cond (isNew p r) 1 0) % 65536;
-  free = (p .free + cond (isNew p r) (r .b) 0) % 65536;
+  free = (p .free + cond (isNew p r) (r .width) 0) % 65536;
 }
 
 -- The bits of a table's pattern and its fresh bits were counted, and each fresh piece has its start, from which on its width lies in the

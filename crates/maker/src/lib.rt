@@ -1,14 +1,13 @@
 // The pattern maker (document 01, "The solver's answer"). One pass tests the form of the answer table row by row and finds where the
 // bits of each fresh piece begin among the fresh bits; a second pass writes each row's bits to the pattern.
-// Rows are read as rows of four numbers: variable, kind, width and fresh number stand in the columns kind, a, b and c.
 ghost use mathlib.Core.Path.{_≡_};
 ghost use mathlib.Core.Bool.{cond};
 ghost use lib.ListN.{length};
 ghost use Rattle.laws.specs.Buffers.{Behind};
 ghost use Rattle.assignments.specs.Call.{patternRecord, patternAfter};
 ghost use Rattle.maker.specs.Making.{widthBefore, isNew, variableIn, widthsIn, fillIn, freshIn, fineIn, advanced, ReadsForm, byteIn, bytesIn, WritesRows};
+use answers::AnswerRow;
 use terms::Record;
-use terms::Row;
 
 // The kind of a row with a fresh piece; a lower kind is a fill of that bit.
 const FRESH: u16 = 2;
@@ -43,11 +42,11 @@ fn width_before(p: Progress, v: u16) -> u16
 }
 
 // Whether a row has the first place of a fresh piece.
-fn is_new(p: Progress, r: Row) -> bool
+fn is_new(p: Progress, r: AnswerRow) -> bool
     ensures { λ b. ⌜ b ≡ isNew p r ⌝ }
 {
-    let kind = r.a;
-    let number = r.c;
+    let kind = r.kind;
+    let number = r.fresh;
     let unseen = p.pieces;
     if kind < FRESH {
         return false;
@@ -59,10 +58,10 @@ fn is_new(p: Progress, r: Row) -> bool
 }
 
 // Whether a row's variable is the last row's or the next one.
-fn variable_fine(p: Progress, r: Row) -> bool
+fn variable_fine(p: Progress, r: AnswerRow) -> bool
     ensures { λ b. ⌜ b ≡ variableIn p r ⌝ }
 {
-    let v = r.kind;
+    let v = r.variable;
     let last = p.variable;
     let next = p.next;
     if terms::MAX_VARIABLES <= numbers::wide(v) {
@@ -78,14 +77,14 @@ fn variable_fine(p: Progress, r: Row) -> bool
 }
 
 // Whether a row's width is at least 1 and has room in its variable and in the pattern.
-fn widths_fine(p: Progress, r: Row) -> bool
+fn widths_fine(p: Progress, r: AnswerRow) -> bool
     ensures { λ b. ⌜ b ≡ widthsIn p r ⌝ }
 {
-    let width = numbers::wide(r.b);
+    let width = numbers::wide(r.width);
     if width == 0 {
         return false;
     }
-    if terms::MAX_WIDTH < numbers::wide(width_before(p, r.kind)) + width {
+    if terms::MAX_WIDTH < numbers::wide(width_before(p, r.variable)) + width {
         return false;
     }
     if terms::MAX_BITS < numbers::wide(p.bits) + width {
@@ -95,12 +94,12 @@ fn widths_fine(p: Progress, r: Row) -> bool
 }
 
 // Whether a fill has fresh number 0 and does not go on with the fill before it.
-fn fill_fine(p: Progress, r: Row) -> bool
+fn fill_fine(p: Progress, r: AnswerRow) -> bool
     ensures { λ b. ⌜ b ≡ fillIn p r ⌝ }
 {
-    let number = r.c;
-    let variable = r.kind;
-    let kind = r.a;
+    let number = r.fresh;
+    let variable = r.variable;
+    let kind = r.kind;
     let last = p.variable;
     let before = p.kind;
     if number != 0 {
@@ -116,12 +115,12 @@ fn fill_fine(p: Progress, r: Row) -> bool
 }
 
 // Whether a fresh piece was seen with the same width or has the lowest unseen number; `seen` is the width it was seen with.
-fn fresh_fine(p: Progress, r: Row, seen: u16) -> bool
+fn fresh_fine(p: Progress, r: AnswerRow, seen: u16) -> bool
     ensures { λ b. ⌜ b ≡ freshIn p r seen ⌝ }
 {
-    let kind = r.a;
-    let width = r.b;
-    let number = r.c;
+    let kind = r.kind;
+    let width = r.width;
+    let number = r.fresh;
     let pieces = p.pieces;
     if FRESH < kind {
         return false;
@@ -139,10 +138,10 @@ fn fresh_fine(p: Progress, r: Row, seen: u16) -> bool
 }
 
 // Whether a row is fine behind those passed.
-fn row_fine(p: Progress, r: Row, seen: u16) -> bool
+fn row_fine(p: Progress, r: AnswerRow, seen: u16) -> bool
     ensures { λ b. ⌜ b ≡ fineIn p r seen ⌝ }
 {
-    let kind = r.a;
+    let kind = r.kind;
     if !variable_fine(p, r) {
         return false;
     }
@@ -156,7 +155,7 @@ fn row_fine(p: Progress, r: Row, seen: u16) -> bool
 }
 
 // The fresh pieces that a row adds.
-fn new_pieces(p: Progress, r: Row) -> u16
+fn new_pieces(p: Progress, r: AnswerRow) -> u16
     ensures { λ n. ⌜ n ≡ cond (isNew p r) 1 0 ⌝ }
 {
     if is_new(p, r) {
@@ -166,25 +165,25 @@ fn new_pieces(p: Progress, r: Row) -> u16
 }
 
 // The fresh bits that a row adds.
-fn new_bits(p: Progress, r: Row) -> u16
-    ensures { λ n. ⌜ n ≡ cond (isNew p r) (r .b) 0 ⌝ }
+fn new_bits(p: Progress, r: AnswerRow) -> u16
+    ensures { λ n. ⌜ n ≡ cond (isNew p r) (r .width) 0 ⌝ }
 {
     if is_new(p, r) {
-        return r.b;
+        return r.width;
     }
     0
 }
 
 // The state with one row more.
-fn advance(p: Progress, r: Row) -> Progress
+fn advance(p: Progress, r: AnswerRow) -> Progress
     ensures { λ q. ⌜ q ≡ advanced p r ⌝ }
 {
     Progress {
-        variable: r.kind,
-        next: numbers::plus(r.kind, 1),
-        kind: r.a,
-        width: numbers::plus(width_before(p, r.kind), r.b),
-        bits: numbers::plus(p.bits, r.b),
+        variable: r.variable,
+        next: numbers::plus(r.variable, 1),
+        kind: r.kind,
+        width: numbers::plus(width_before(p, r.variable), r.width),
+        bits: numbers::plus(p.bits, r.width),
         pieces: numbers::plus(p.pieces, new_pieces(p, r)),
         free: numbers::plus(p.free, new_bits(p, r)),
     }
@@ -205,9 +204,9 @@ fn read_form(answer: &[u16], widths: &mut [u16], starts: &mut [u16]) -> Found
         free: 0,
     };
     let mut i = 0;
-    while i < answer.len() / 4 {
-        let r = rows::row_at(answer, i);
-        if !row_fine(p, r, numbers::load(widths, numbers::wide(r.c))) {
+    while i < answer.len() / answers::ROW {
+        let r = answer_table::row_at(answer, i);
+        if !row_fine(p, r, numbers::load(widths, numbers::wide(r.fresh))) {
             return Found {
                 fine: false,
                 bits: 0,
@@ -215,13 +214,13 @@ fn read_form(answer: &[u16], widths: &mut [u16], starts: &mut [u16]) -> Found
             };
         }
         let place = numbers::wide(p.pieces);
-        numbers::store(widths, place, r.b);
+        numbers::store(widths, place, r.width);
         numbers::store(starts, place, p.free);
         p = advance(p, r);
         i += 1;
     }
     Found {
-        fine: answer.len() % 4 == 0,
+        fine: answer.len() % answers::ROW == 0,
         bits: p.bits,
         free: p.free,
     }
@@ -266,10 +265,10 @@ fn put_rows(answer: &[u16], fresh: &[u8], starts: &[u16], out: &mut [u8])
 {
     let mut at = 0;
     let mut i = 0;
-    while i < answer.len() / 4 {
-        let r = rows::row_at(answer, i);
-        let start = numbers::load(starts, numbers::wide(r.c));
-        at = put_bits(fresh, start, r.a, r.b, out, at);
+    while i < answer.len() / answers::ROW {
+        let r = answer_table::row_at(answer, i);
+        let start = numbers::load(starts, numbers::wide(r.fresh));
+        at = put_bits(fresh, start, r.kind, r.width, out, at);
         i += 1;
     }
 }

@@ -5,6 +5,7 @@ ghost use Prim.Native.Nat.{_+_, _-_, _%_, _≤_, min};
 ghost use lib.Dec.{eqb};
 ghost use lib.ListN.{getD, set};
 ghost use Rattle.laws.specs.Lists.{allBits};
+ghost use Rattle.laws.specs.Buffers.{setFour};
 
 // x as an index.
 pub fn wide(x: u16) -> usize
@@ -107,4 +108,17 @@ pub fn all_bits(pattern: &[u8]) -> bool
         i += 1;
     }
     true
+}
+
+// Writes four numbers from a place on, as far as there is room.
+pub fn store_four(buffer: &mut [u16], at: usize, a: u16, b: u16, c: u16, d: u16)
+    ensures { λ _. ⌜ now (buffer .exit) ≡ setFour (now (buffer .entry)) at a b c d ⌝ }
+{
+    if buffer.len() <= at {
+        return;
+    }
+    store(buffer, at, a);
+    store(buffer, at + 1, b);
+    store(buffer, at + 2, c);
+    store(buffer, at + 3, d);
 }

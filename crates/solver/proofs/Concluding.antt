@@ -20,7 +20,8 @@ use Rattle.terms.proofs.Faults.{totals-small}
 use Rattle.answers.proofs.Instantiating.{tally-most}
 use Rattle.answers.specs.Pairs.{Pair, pairsIn}
 use Rattle.answers.specs.Classes.{inClass}
-use Rattle.answers.specs.Answer.{AnswerRow, appears, variableWidths, answerRows, answerNumbers, freshPieces, freeBits}
+use Rattle.answers.specs.declared.AnswerRow.{AnswerRow}
+use Rattle.answers.specs.Answer.{appears, variableWidths, answerRows, answerNumbers, freshPieces, freeBits}
 use Rattle.answers.specs.Solve.{unsatisfiable, solvedRows, tiesTo, alwaysRecord, neverRecord, solvedRecord, answerRecord}
 use Rattle.answers.proofs.Tables.{tableClasses, classes-run, represent, conflict-most, apart-one, solved-rows, is-left, never-record, always-record, solved-record, all-ties, rows-few}
 use Rattle.answers.proofs.Theorems.{links-before}

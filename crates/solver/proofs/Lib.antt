@@ -2,6 +2,4 @@ pub mod Taking
 pub mod Filling
 pub mod Concluding
 pub mod Stops
-pub mod Runs
-pub mod RightSide
 pub mod ShortCopy

@@ -3,9 +3,8 @@
 // rows (borders).
 ghost use mathlib.Core.Path.{_≡_};
 ghost use Prim.Native.Nat.{_%_};
-ghost use lib.ListN.{length, drop, replicate};
+ghost use lib.ListN.{length, replicate};
 ghost use Rattle.answers.specs.Solve.{solveRecord, answerAfter, workAfter};
-ghost use Rattle.answers.specs.RightSide.{rowVariables, rowsBefore, rowsOn, rightSideStart, rightSideLength, rightSide};
 ghost use Rattle.solver.specs.Equations.{TakesEquations};
 ghost use Rattle.solver.specs.Call.{Unlinks, Concludes, AnswersTable, SolvesAccepted};
 use terms::Record;
@@ -186,70 +185,4 @@ pub fn solve(table: &[u16], answer: &mut [u16], work: &mut [u16]) -> Record
     let found = solve_accepted(table, &widths[..], answer, work);
     clear(work);
     found
-}
-
-// A part of a run of numbers: where it starts and how many numbers it has.
-#[repr(C)]
-pub struct Part {
-    pub start: usize,
-    pub len: usize,
-}
-
-// The first row of a variable, or the number of whole rows if there is none.
-fn first_row(used: &[u16], variable: usize) -> usize
-    ensures { λ r. ⌜ r ≡ rowsBefore variable (rowVariables (now (used .entry))) ⌝ }
-{
-    let mut i = 0;
-    while i < used.len() / 4 {
-        if numbers::wide(used[i * 4]) == variable {
-            return i;
-        }
-        i += 1;
-    }
-    i
-}
-
-// How many rows of a variable follow directly, from one row on.
-fn rows_on(used: &[u16], variable: usize, first: usize) -> usize
-    ensures { λ r. ⌜ r ≡ rowsOn variable (drop first (rowVariables (now (used .entry)))) ⌝ }
-{
-    let mut i = first;
-    while i < used.len() / 4 {
-        if numbers::wide(used[i * 4]) != variable {
-            return i - first;
-        }
-        i += 1;
-    }
-    i - first
-}
-
-// Where the right side of a variable stands in an answer table of which so many rows are in use.
-pub fn right_part(answer: &[u16], rows: usize, variable: usize) -> Part
-    ensures start { λ r. ⌜ r .start ≡ rightSideStart (now (answer .entry)) rows variable ⌝ }
-    ensures len { λ r. ⌜ r .len ≡ rightSideLength (now (answer .entry)) rows variable ⌝ }
-{
-    if answer.len() / 4 < rows {
-        return Part { start: 0, len: 0 };
-    }
-    let end = rows * 4;
-    let used = &answer[..end];
-    let first = first_row(used, variable);
-    let count = rows_on(used, variable, first);
-    if count == 0 {
-        return Part { start: 0, len: 0 };
-    }
-    Part {
-        start: first * 4,
-        len: count * 4,
-    }
-}
-
-// The right side of a variable, as a part of the caller's answer table.
-pub fn right_side<'a>(answer: &'a [u16], rows: usize, variable: usize) -> &'a [u16]
-    ensures { λ r. ⌜ now r ≡ rightSide (now (answer .entry)) rows variable ⌝ }
-{
-    let part = right_part(answer, rows, variable);
-    let start = part.start;
-    let end = start + part.len;
-    &answer[start..end]
 }

@@ -4,7 +4,8 @@ use mathlib.Core.Path.{_≡_, sym, _∙_}
 use mathlib.Core.Bool.{true}
 use denote.Ref.{now}
 use borrow.Author.Tests.{not-true, not-false}
-use Rattle.assignments.specs.Form.{answerRowsOf, hasForm}
+use Rattle.answers.specs.Answer.{answerRowsOf}
+use Rattle.assignments.specs.Form.{hasForm}
 use Rattle.maker.specs.Making.{Shaped, FormRead}
 use Rattle.assignments.proofs.PatternCall.{stop-form, stop-count, stop-byte, stop-room, written}
 use borrow.Author.Needs.{needs}

@@ -12,7 +12,7 @@ wide-requires c κs = search needs
 
 returns : tie.Need-returns
 unfolding widthsIn
-returns c = rw (le-ltb 0 (c .before .before .args .r .b) (omega arith))
+returns c = rw (le-ltb 0 (c .before .before .args .r .width) (omega arith))
 
 width-before-requires : tie.Need-width-before-requires
 width-before-requires c κs = search needs
@@ -25,7 +25,7 @@ add-if2 c = search needs
 
 returns-2 : tie.Need-returns-2
 unfolding widthsIn
-returns-2 c = let a = c .before .before .before .before .before .args in rw (lt-ltb 0 (a .r .b) (omega arith), le-ltb (widthBefore (a .p) (a .r .kind) + a .r .b) 1025 (omega arith))
+returns-2 c = let a = c .before .before .before .before .before .args in rw (lt-ltb 0 (a .r .width) (omega arith), le-ltb (widthBefore (a .p) (a .r .variable) + a .r .width) 1025 (omega arith))
 
 wide-requires-3 : tie.Need-wide-requires-3
 wide-requires-3 c κs = search needs
@@ -35,11 +35,11 @@ add-if3 c = search needs
 
 returns-3 : tie.Need-returns-3
 unfolding widthsIn
-returns-3 c = let a = c .before .before .before .before .before .before .before .args in rw (lt-ltb 0 (a .r .b) (omega arith), lt-ltb (widthBefore (a .p) (a .r .kind) + a .r .b) 1025 (omega arith), le-ltb (a .p .bits + a .r .b) 4097 (omega arith))
+returns-3 c = let a = c .before .before .before .before .before .before .before .args in rw (lt-ltb 0 (a .r .width) (omega arith), lt-ltb (widthBefore (a .p) (a .r .variable) + a .r .width) 1025 (omega arith), le-ltb (a .p .bits + a .r .width) 4097 (omega arith))
 
 returns-4 : tie.Need-returns-4
 unfolding widthsIn
-returns-4 c = let a = c .before .before .before .before .before .before .before .args in rw (lt-ltb 0 (a .r .b) (omega arith), lt-ltb (widthBefore (a .p) (a .r .kind) + a .r .b) 1025 (omega arith), lt-ltb (a .p .bits + a .r .b) 4097 (omega arith))
+returns-4 c = let a = c .before .before .before .before .before .before .before .args in rw (lt-ltb 0 (a .r .width) (omega arith), lt-ltb (widthBefore (a .p) (a .r .variable) + a .r .width) 1025 (omega arith), lt-ltb (a .p .bits + a .r .width) 4097 (omega arith))
 
 pub widths-fine-spec : {M : Type 1} → statement M
 widths-fine-spec =

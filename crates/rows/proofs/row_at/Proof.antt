@@ -5,59 +5,45 @@ use borrow.Author.Needs.{needs}
 use Rattle.rows.proofs.row_at.Statement.{statement}
 use Rattle.rows.proofs.row_at.Tie as tie
 
--- src/lib.rt:94:9
 returns : tie.Need-returns
 returns c = row-past (now (c .before .args .table)) (c .before .args .r) (c .if1 .taken)
 
--- src/lib.rt:96:14
 mul-at : tie.Need-mul-at
 mul-at c = search needs
 
--- src/lib.rt:97:17
 mul-t4 : tie.Need-mul-t4
 mul-t4 c = search needs
 
--- src/lib.rt:97:17
 shared-slice-read-t8 : tie.Need-shared-slice-read-t8
 shared-slice-read-t8 c = search needs
 
--- src/lib.rt:97:37
 add-t5 : tie.Need-add-t5
 add-t5 c = search needs
 
--- src/lib.rt:97:31
 mul-t9 : tie.Need-mul-t9
 mul-t9 c = search needs
 
--- src/lib.rt:97:31
 shared-slice-read-t11 : tie.Need-shared-slice-read-t11
 shared-slice-read-t11 c = search needs
 
--- src/lib.rt:97:55
 add-t12 : tie.Need-add-t12
 add-t12 c = search needs
 
--- src/lib.rt:97:49
 mul-t13 : tie.Need-mul-t13
 mul-t13 c = search needs
 
--- src/lib.rt:97:49
 shared-slice-read-t15 : tie.Need-shared-slice-read-t15
 shared-slice-read-t15 c = search needs
 
--- src/lib.rt:97:73
 add-t16 : tie.Need-add-t16
 add-t16 c = search needs
 
--- src/lib.rt:97:67
 mul-t17 : tie.Need-mul-t17
 mul-t17 c = search needs
 
--- src/lib.rt:97:67
 shared-slice-read-t19 : tie.Need-shared-slice-read-t19
 shared-slice-read-t19 c = search needs
 
--- src/lib.rt:90:1
 returns-2 : tie.Need-returns-2
 returns-2 c =
     let s = c .before .before .before .before .before in

@@ -9,8 +9,9 @@ use borrow.Author.Tests.{lt-ltb, le-ltb, ltb-true, ltb-false, eq-eqb, ne-eqb, eq
 use lib.Dec.{eqb, ltb}
 use lib.ListN.{length, getD, take, drop, length-drop}
 use lib.Seq.{length-take-le, getD-take, getD-drop}
 use Rattle.answers.specs.RightSide.{rowVariables, variablesInUse, rowsBefore, rowsOn, runRows, rightSideLength, rightSideStart, rightSide}
-use Rattle.solver.proofs.Runs.{variables-length, variable-at, variables-take, before-le, before-none, on-each, on-next, run-le, run-found}
+use Rattle.answers.proofs.AnswerNumbers.{variables-length, variable-number, variables-take}
+use Rattle.answers.proofs.Runs.{before-le, before-none, on-each, on-next, run-le, run-found}
 
 module _ (answer : List ℕ) (rows : ℕ) where
   -- the rows in use: the first ones lent, or none
@@ -28,7 +29,7 @@ module _ (answer : List ℕ) (rows : ℕ) where
   -- the variable of a row in use is its first number
   pub in-use-at : rows ≤ length answer / 4 → (r : ℕ) → r < rows → getD (variablesInUse answer rows) r 0 ≡ getD answer (r * 4) 0
   in-use-at h r less =
-      ap (λ (l : List ℕ). getD l r 0) (in-use h) ∙ getD-take rows (rowVariables answer) r 0 less ∙ variable-at answer r (omega arith)
+      ap (λ (l : List ℕ). getD l r 0) (in-use h) ∙ getD-take rows (rowVariables answer) r 0 less ∙ variable-number answer r (omega arith)
 
   -- rows in use are whole rows lent, or there are none
   pub in-use-fit : 4 * length (variablesInUse answer rows) ≤ length answer

@@ -5,11 +5,11 @@ use native.Mathlib.Omega.{arith}
 use denote.Ref.{now}
 use lib.Seq.{length-take-le}
 use Rattle.answers.specs.RightSide.{rightSideLength, variablesInUse}
-use Rattle.solver.proofs.Runs.{run-le}
-use Rattle.solver.proofs.RightSide.{counts, length-is, start-empty, start-is, empty-past, in-use-fit}
+use Rattle.answers.proofs.Runs.{run-le}
+use Rattle.answers.proofs.RightSide.{counts, length-is, start-empty, start-is, empty-past, in-use-fit}
 use borrow.Author.Needs.{needs}
-use Rattle.solver.proofs.right_part.Statement.{statement}
-use Rattle.solver.proofs.right_part.Tie as tie
+use Rattle.answer_table.proofs.right_part.Statement.{statement}
+use Rattle.answer_table.proofs.right_part.Tie as tie
 
 returns : tie.Need-returns
 returns c =

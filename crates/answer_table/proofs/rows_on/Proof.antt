@@ -5,9 +5,10 @@ use native.Mathlib.Omega.{arith}
 use denote.Ref.{now}
 use lib.ListN.{length, drop}
 use Rattle.answers.specs.RightSide.{rowVariables, rowsOn}
-use Rattle.solver.proofs.Runs.{variables-length, on-end, on-goes, on-ends}
-use Rattle.solver.proofs.rows_on.Statement.{statement}
-use Rattle.solver.proofs.rows_on.Tie as tie
+use Rattle.answers.proofs.AnswerNumbers.{variables-length}
+use Rattle.answers.proofs.Runs.{on-end, on-goes, on-ends}
+use Rattle.answer_table.proofs.rows_on.Statement.{statement}
+use Rattle.answer_table.proofs.rows_on.Tie as tie
 
 abbrev Inv-loop : tie.InvT-loop
 Inv-loop used variable first i₀ i =
@@ -19,14 +20,8 @@ abbrev μ-loop : tie.MeasureT-loop
 loop-holds : tie.Need-loop-holds Inv-loop μ-loop
 loop-holds c = (omega arith, refl)
 
-mul-wide : tie.Need-mul-wide Inv-loop μ-loop
-mul-wide c = omega arith
-
-mul-wide-2 : tie.Need-mul-wide-2 Inv-loop μ-loop
-mul-wide-2 c = omega arith
-
-shared-slice-read-wide : tie.Need-shared-slice-read-wide Inv-loop μ-loop
-shared-slice-read-wide c = omega arith
+row-at-requires : tie.Need-row-at-requires Inv-loop μ-loop
+row-at-requires c κs = tt
 
 wide-requires : tie.Need-wide-requires Inv-loop μ-loop
 wide-requires c κs = tt
@@ -40,8 +35,11 @@ returns c =
     let s = c .before .before .before .before .before .before .args in
     omega (
       arith,
-      on-ends (s .variable) (now (s .used)) (s .first) (w .i)
+      on-ends (s .variable) (now (s .used)) (w .i)
           (omega (arith, c .before .before .before .loop-test .taken))
+          (c .before .before .row-at .result)
+          (c .before .before .row-at .ensures)
+          (s .first)
           (λ q. omega (arith, c .before .wide .ensures .0, c .if1 .taken, q))
           (w .inv .1),
     )
@@ -57,8 +55,11 @@ loop-again c =
     let w = c .before .before .before .before .loop in
     let s = c .before .before .before .before .before .before .args in (
       omega arith,
-      on-goes (s .variable) (now (s .used)) (s .first) (w .i)
+      on-goes (s .variable) (now (s .used)) (w .i)
           (omega (arith, c .before .before .before .loop-test .taken))
+          (c .before .before .row-at .result)
+          (c .before .before .row-at .ensures)
+          (s .first)
           (omega (arith, c .before .wide .ensures .0, c .if1 .left))
           (w .inv .1),
     )
@@ -79,9 +80,7 @@ rows-on-spec =
     Inv-loop
     μ-loop
     loop-holds
-    mul-wide
-    mul-wide-2
-    shared-slice-read-wide
+    row-at-requires
     wide-requires
     sub-result
     returns

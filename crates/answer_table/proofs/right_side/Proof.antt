@@ -5,10 +5,10 @@ use native.Mathlib.Omega.{arith}
 use denote.Ref.{now}
 use lib.ListN.{take, drop}
 use Rattle.answers.specs.RightSide.{rightSide, rightSideLength}
-use Rattle.solver.proofs.RightSide.{part-lent}
+use Rattle.answers.proofs.RightSide.{part-lent}
 use borrow.Author.Needs.{needs}
-use Rattle.solver.proofs.right_side.Statement.{statement}
-use Rattle.solver.proofs.right_side.Tie as tie
+use Rattle.answer_table.proofs.right_side.Statement.{statement}
+use Rattle.answer_table.proofs.right_side.Tie as tie
 
 right-part-requires : tie.Need-right-part-requires
 right-part-requires c κs = search needs

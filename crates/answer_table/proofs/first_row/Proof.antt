@@ -5,9 +5,10 @@ use native.Mathlib.Omega.{arith}
 use denote.Ref.{now}
 use lib.ListN.{length, drop}
 use Rattle.answers.specs.RightSide.{rowVariables, rowsBefore}
-use Rattle.solver.proofs.Runs.{variables-length, before-end, first-goes, first-found}
-use Rattle.solver.proofs.first_row.Statement.{statement}
-use Rattle.solver.proofs.first_row.Tie as tie
+use Rattle.answers.proofs.AnswerNumbers.{variables-length}
+use Rattle.answers.proofs.Runs.{before-end, first-goes, first-found}
+use Rattle.answer_table.proofs.first_row.Statement.{statement}
+use Rattle.answer_table.proofs.first_row.Tie as tie
 
 abbrev Inv-loop : tie.InvT-loop
 Inv-loop used variable i₀ i =
@@ -19,14 +20,8 @@ abbrev μ-loop : tie.MeasureT-loop
 loop-holds : tie.Need-loop-holds Inv-loop μ-loop
 loop-holds c = (omega arith, omega arith)
 
-mul-wide : tie.Need-mul-wide Inv-loop μ-loop
-mul-wide c = omega arith
-
-mul-wide-2 : tie.Need-mul-wide-2 Inv-loop μ-loop
-mul-wide-2 c = omega arith
-
-shared-slice-read-wide : tie.Need-shared-slice-read-wide Inv-loop μ-loop
-shared-slice-read-wide c = omega arith
+row-at-requires : tie.Need-row-at-requires Inv-loop μ-loop
+row-at-requires c κs = tt
 
 wide-requires : tie.Need-wide-requires Inv-loop μ-loop
 wide-requires c κs = tt
@@ -36,6 +31,8 @@ returns c =
     let w = c .before .before .before .before .loop in
     first-found _ (now (c .before .before .before .before .before .before .args .used)) (w .i)
     (omega (arith, c .before .before .before .loop-test .taken))
+    (c .before .before .row-at .result)
+    (c .before .before .row-at .ensures)
     (omega (arith, c .before .wide .ensures .0, c .if1 .taken))
     (w .inv .1)
 
@@ -51,6 +48,8 @@ loop-again c =
       omega (arith, c .before .before .before .loop-test .taken),
       first-goes _ (now (c .before .before .before .before .before .before .args .used)) (w .i)
           (omega (arith, c .before .before .before .loop-test .taken))
+          (c .before .before .row-at .result)
+          (c .before .before .row-at .ensures)
           (λ q. omega (arith, c .before .wide .ensures .0, c .if1 .left, q))
           (w .inv .1),
     )
@@ -68,9 +67,7 @@ first-row-spec =
     Inv-loop
     μ-loop
     loop-holds
-    mul-wide
-    mul-wide-2
-    shared-slice-read-wide
+    row-at-requires
     wide-requires
     returns
     add-i

@@ -7,41 +7,12 @@ use native.Mathlib.Numerals.{add-one}
 use native.Mathlib.Omega.{arith}
 use borrow.Author.Tests.{eq-eqb, ne-eqb, eqb-true, eqb-false}
 use lib.Dec.{eqb}
-use lib.ListN.{length, getD, take, drop, length-drop, drop-of-length-le}
+use lib.ListN.{length, getD, drop, length-drop, drop-of-length-le}
 use lib.Seq.{drop-cons}
+use Rattle.answers.specs.declared.AnswerRow.{AnswerRow}
 use Rattle.answers.specs.RightSide.{rowVariables, rowsBefore, rowsOn, runRows}
-
-pub variables-length : (t : List ℕ) → length (rowVariables t) ≡ length t / 4
-unfolding rowVariables
-variables-length [] = refl
-variables-length (v ∷ []) = refl
-variables-length (v ∷ k ∷ []) = refl
-variables-length (v ∷ k ∷ w ∷ []) = refl
-variables-length (v ∷ k ∷ w ∷ f ∷ t) = omega (arith, variables-length t)
-
--- a row's variable is its first number
-pub variable-at : (t : List ℕ) (r : ℕ) → r < length t / 4 → getD (rowVariables t) r 0 ≡ getD t (r * 4) 0
-unfolding rowVariables
-variable-at [] r h = absurd (omega arith)
-variable-at (v ∷ []) r h = absurd (omega arith)
-variable-at (v ∷ k ∷ []) r h = absurd (omega arith)
-variable-at (v ∷ k ∷ w ∷ []) r h = absurd (omega arith)
-variable-at (v ∷ k ∷ w ∷ f ∷ t) zero h = refl
-variable-at (v ∷ k ∷ w ∷ f ∷ t) (suc r) h =
-    let e : suc r * 4 ≡ suc (suc (suc (suc (r * 4)))) = omega arith in
-    rw e (variable-at t r (omega arith))
-
--- the rows of the first numbers are the first rows
-pub variables-take : (t : List ℕ) (n : ℕ) → n ≤ length t / 4 → rowVariables (take (n * 4) t) ≡ take n (rowVariables t)
-unfolding rowVariables
-variables-take t zero h = refl
-variables-take [] (suc n) h = absurd (omega arith)
-variables-take (v ∷ []) (suc n) h = absurd (omega arith)
-variables-take (v ∷ k ∷ []) (suc n) h = absurd (omega arith)
-variables-take (v ∷ k ∷ w ∷ []) (suc n) h = absurd (omega arith)
-variables-take (v ∷ k ∷ w ∷ f ∷ t) (suc n) h =
-    let e : suc n * 4 ≡ suc (suc (suc (suc (n * 4)))) = omega arith in
-    rw e (ap (λ (l : List ℕ). v ∷ l) (variables-take t n (omega arith)))
+use Rattle.answers.proofs.AnswerNumbers.{variables-length, variable-at}
+use Rattle.answers.specs.Answer.{answerRowAt, answerRowsOf}
 
 module _ (v : ℕ) where
   -- the rows that a search passes, the row at which it ends, and the end of the rows
@@ -139,25 +110,25 @@ module _ (v : ℕ) where
   unfolding runRows
   run-found vs h = omega (arith, on-passed vs (rowsBefore v vs) h (before-is vs h))
 
-  -- one row more passed, over the numbers: what is counted, with what the rest gives, stays the same
-  pub first-goes : (t : List ℕ) (i : ℕ) → i < length t / 4 → (getD t (i * 4) 0 ≡ v → ⊥)
-      → i + rowsBefore v (drop i (rowVariables t)) ≡ rowsBefore v (rowVariables t)
-      → i + 1 + rowsBefore v (drop (i + 1) (rowVariables t)) ≡ rowsBefore v (rowVariables t)
-  first-goes t i h n e =
-      rw add-one (omega (arith, before-passed (rowVariables t) i (omega (arith, variables-length t)) (λ q. n (sym (variable-at t i h) ∙ q))))
+  -- one row more passed, over the rows of an answer table: what is counted, with what the rest gives, stays the same
+  module _ (t : List ℕ) (i : ℕ) (h : i < length t / 4) (row : AnswerRow) (read : row ≡ answerRowAt (answerRowsOf t) i) where
+    here : getD (rowVariables t) i 0 ≡ row .variable
+    here = variable-at t i ∙ ap (λ (r : AnswerRow). r .variable) (sym read)
 
-  pub first-found : (t : List ℕ) (i : ℕ) → i < length t / 4 → getD t (i * 4) 0 ≡ v
-      → i + rowsBefore v (drop i (rowVariables t)) ≡ rowsBefore v (rowVariables t) → i ≡ rowsBefore v (rowVariables t)
-  first-found t i h q e = omega (arith, before-found (rowVariables t) i (omega (arith, variables-length t)) (variable-at t i h ∙ q))
+    within : i < length (rowVariables t)
+    within = omega (arith, variables-length t)
 
-  pub on-goes : (t : List ℕ) (first i : ℕ) → i < length t / 4 → getD t (i * 4) 0 ≡ v
-      → i + rowsOn v (drop i (rowVariables t)) ≡ first + rowsOn v (drop first (rowVariables t))
-      → i + 1 + rowsOn v (drop (i + 1) (rowVariables t)) ≡ first + rowsOn v (drop first (rowVariables t))
-  on-goes t first i h q e =
-      rw add-one (omega (arith, on-passed (rowVariables t) i (omega (arith, variables-length t)) (variable-at t i h ∙ q)))
+    pub first-goes : (row .variable ≡ v → ⊥) → i + rowsBefore v (drop i (rowVariables t)) ≡ rowsBefore v (rowVariables t)
+        → i + 1 + rowsBefore v (drop (i + 1) (rowVariables t)) ≡ rowsBefore v (rowVariables t)
+    first-goes n e = rw add-one (omega (arith, before-passed (rowVariables t) i within (λ q. n (sym here ∙ q))))
 
-  pub on-ends : (t : List ℕ) (first i : ℕ) → i < length t / 4 → (getD t (i * 4) 0 ≡ v → ⊥)
-      → i + rowsOn v (drop i (rowVariables t)) ≡ first + rowsOn v (drop first (rowVariables t))
-      → i ≡ first + rowsOn v (drop first (rowVariables t))
-  on-ends t first i h n e =
-      omega (arith, on-stopped (rowVariables t) i (omega (arith, variables-length t)) (λ q. n (sym (variable-at t i h) ∙ q)))
+    pub first-found : row .variable ≡ v → i + rowsBefore v (drop i (rowVariables t)) ≡ rowsBefore v (rowVariables t) → i ≡ rowsBefore v (rowVariables t)
+    first-found q e = omega (arith, before-found (rowVariables t) i within (here ∙ q))
+
+    pub on-goes : (first : ℕ) → row .variable ≡ v → i + rowsOn v (drop i (rowVariables t)) ≡ first + rowsOn v (drop first (rowVariables t))
+        → i + 1 + rowsOn v (drop (i + 1) (rowVariables t)) ≡ first + rowsOn v (drop first (rowVariables t))
+    on-goes first q e = rw add-one (omega (arith, on-passed (rowVariables t) i within (here ∙ q)))
+
+    pub on-ends : (first : ℕ) → (row .variable ≡ v → ⊥) → i + rowsOn v (drop i (rowVariables t)) ≡ first + rowsOn v (drop first (rowVariables t))
+        → i ≡ first + rowsOn v (drop first (rowVariables t))
+    on-ends first n e = omega (arith, on-stopped (rowVariables t) i within (λ q. n (sym here ∙ q)))
