@@ -1,22 +1,24 @@
 -- Agreement: an assignment satisfies the pairs seen exactly if each source has the bit of its representative.
 use mathlib.Core.Path.{_≡_, refl, sym, ap, _∙_}
 use mathlib.Core.Logic.{_⊎_, inl, inr, _≢_}
-use mathlib.Core.Bool.{Bool, true, false, _&&_, and-true}
-use mathlib.Core.List.{List, [], _∷_, map, reverse, reverseAux}
-use Prim.Native.Nat.{ℕ, zero, suc, _+_, _≤_, _<_, min, max}
+use mathlib.Core.Bool.{true, _&&_, and-true}
+use mathlib.Core.List.{List, [], _∷_, reverse, reverseAux}
+use Prim.Native.Nat.{ℕ, suc, _≤_, _<_, min, max}
 use native.Mathlib.Omega.{arith}
-use lib.Dec.{eqb, ltb}
-use lib.ListN.{length, getD, length-map, List·getD-map, List·getD-eq-default}
-use borrow.Author.Tests.{eqb-true, eq-eqb, ltb-true, ltb-false}
+use lib.Dec.{eqb}
+use lib.ListN.{length, length-map, List·getD-eq-default}
+use borrow.Author.Tests.{eqb-true, eq-eqb}
 use Rattle.terms.specs.Assignments.{Assignment}
 use Rattle.terms.specs.Table.{bitOf}
 use Rattle.laws.specs.Lists.{countUp}
 use Rattle.terms.proofs.Assignments.{assignment-length}
 use Rattle.answers.specs.Pairs.{Pair, satisfiesPairs}
 use Rattle.answers.specs.Classes.{classesOf, merge, relabel, rep, run}
-use Rattle.laws.proofs.Bools.{and-first, and-second}
+use Rattle.laws.proofs.Bools.{and-first, and-second, and-move}
 use Rattle.answers.proofs.Relabelling.{relabel-hit, relabel-miss, hi, lo, next, next-low, next-root, next-just, next-pair, next-old}
-use Rattle.laws.proofs.Numbers.{dec-eq}
+use Rattle.laws.proofs.Numbers.{dec-eq, lt-or-le}
+use Rattle.laws.proofs.Lists.{map-read}
+use Rattle.laws.proofs.CountUp.{count-at, count-up, count-past}
 
 pub first-holds : (p : List ℕ) (q : Pair) (qs : List Pair) → satisfiesPairs p (q ∷ qs) ≡ true → bitOf p (q .left) ≡ bitOf p (q .right)
 unfolding satisfiesPairs
@@ -29,10 +31,6 @@ rest-holds p q qs t = and-second (eqb (bitOf p (q .left)) (bitOf p (q .right))) 
 pub both-hold : (p : List ℕ) (q : Pair) (qs : List Pair) → bitOf p (q .left) ≡ bitOf p (q .right) → satisfiesPairs p qs ≡ true → satisfiesPairs p (q ∷ qs) ≡ true
 unfolding satisfiesPairs
 both-hold p q qs e t = rw (eq-eqb _ _ e) t
-
--- a default that the map keeps
-pub map-read : (f : ℕ → ℕ) → f 0 ≡ 0 → (c : List ℕ) (i : ℕ) → getD (map f c) i 0 ≡ f (getD c i 0)
-map-read f z c i = ap (λ (d : ℕ). getD (map f c) i d) (sym z) ∙ List·getD-map f c i 0
 
 pub record Represents (n : ℕ) (c : List ℕ) (seen : List Pair) : Type 0 where
   pub len : length c ≡ suc (suc n)
@@ -72,62 +70,37 @@ module _ (n : ℕ) (c : List ℕ) (seen : List Pair) (inv : Represents n c seen)
         both-hold p q seen a b;
   }
 
--- before any pair
-pub start-at : (k m i : ℕ) → i < m → rep (countUp k m) i ≡ k + i
-unfolding countUp
-start-at k zero i h = absurd (omega arith)
-start-at k (suc m) zero h = omega arith
-start-at k (suc m) (suc i) h = rw (start-at (suc k) m i (omega arith)) (omega arith)
-
-pub start-past : (k m i : ℕ) → m ≤ i → rep (countUp k m) i ≡ 0
-unfolding countUp
-start-past k zero i h = refl
-start-past k (suc m) zero h = absurd (omega arith)
-start-past k (suc m) (suc i) h = start-past (suc k) m i (omega arith)
-
-pub start-length : (k m : ℕ) → length (countUp k m) ≡ m
-unfolding countUp
-start-length k zero = refl
-start-length k (suc m) = ap suc (start-length (suc k) m)
-
-pub dec-lt : (a b : ℕ) → (a < b) ⊎ (b ≤ a)
-dec-lt a b = go (ltb a b) refl
-  where
-    go : (t : Bool) → ltb a b ≡ t → (a < b) ⊎ (b ≤ a)
-    go true e = inl (ltb-true a b e)
-    go false e = inr (ltb-false a b e)
-
 pub bit-past : {n : ℕ} {p : List ℕ} → Assignment n p → (i : ℕ) → suc (suc n) ≤ i → bitOf p i ≡ 0
 unfolding bitOf
 bit-past {n} {p} h i l = List·getD-eq-default (0 ∷ 1 ∷ p) 0 {n = i} (omega (arith, assignment-length h))
 
 module _ (n : ℕ) where
   base-low : (i : ℕ) → rep (countUp 0 (suc (suc n))) i ≤ i
-  base-low i = go (dec-lt i (suc (suc n)))
+  base-low i = go (lt-or-le i (suc (suc n)))
     where
       go : (i < suc (suc n)) ⊎ (suc (suc n) ≤ i) → rep (countUp 0 (suc (suc n))) i ≤ i
-      go (inl h) = omega (arith, start-at 0 (suc (suc n)) i h)
-      go (inr h) = omega (arith, start-past 0 (suc (suc n)) i h)
+      go (inl h) = omega (arith, count-at 0 (suc (suc n)) i h)
+      go (inr h) = omega (arith, count-past 0 (suc (suc n)) i h)
 
   base-root : (i : ℕ) → rep (countUp 0 (suc (suc n))) (rep (countUp 0 (suc (suc n))) i) ≡ rep (countUp 0 (suc (suc n))) i
-  base-root i = go (dec-lt i (suc (suc n)))
+  base-root i = go (lt-or-le i (suc (suc n)))
     where
       go : (i < suc (suc n)) ⊎ (suc (suc n) ≤ i) → rep (countUp 0 (suc (suc n))) (rep (countUp 0 (suc (suc n))) i) ≡ rep (countUp 0 (suc (suc n))) i
-      go (inl h) = let e = start-at 0 (suc (suc n)) i h in ap (rep (countUp 0 (suc (suc n)))) (e ∙ omega arith)
-      go (inr h) = rw (start-past 0 (suc (suc n)) i h) (start-at 0 (suc (suc n)) 0 (omega arith))
+      go (inl h) = let e = count-at 0 (suc (suc n)) i h in ap (rep (countUp 0 (suc (suc n)))) (e ∙ omega arith)
+      go (inr h) = rw (count-past 0 (suc (suc n)) i h) (count-at 0 (suc (suc n)) 0 (omega arith))
 
   base-just : (p : List ℕ) → Assignment n p → (i : ℕ) → bitOf p i ≡ bitOf p (rep (countUp 0 (suc (suc n))) i)
   unfolding bitOf
-  base-just p h i = go (dec-lt i (suc (suc n)))
+  base-just p h i = go (lt-or-le i (suc (suc n)))
     where
       go : (i < suc (suc n)) ⊎ (suc (suc n) ≤ i) → bitOf p i ≡ bitOf p (rep (countUp 0 (suc (suc n))) i)
-      go (inl l) = let e : i ≡ rep (countUp 0 (suc (suc n))) i = omega (arith, start-at 0 (suc (suc n)) i l) in ap (bitOf p) e
-      go (inr l) = bit-past h i l ∙ ap (bitOf p) (sym (start-past 0 (suc (suc n)) i l))
+      go (inl l) = let e : i ≡ rep (countUp 0 (suc (suc n))) i = omega (arith, count-at 0 (suc (suc n)) i l) in ap (bitOf p) e
+      go (inr l) = bit-past h i l ∙ ap (bitOf p) (sym (count-past 0 (suc (suc n)) i l))
 
   pub base : Represents n (countUp 0 (suc (suc n))) []
   unfolding satisfiesPairs
   base = record {
-    len = start-length 0 (suc (suc n));
+    len = count-up 0 (suc (suc n));
     low = base-low;
     root = base-root;
     just = λ p h m i. base-just p h i;
@@ -143,16 +116,10 @@ pub classes-represent : (n : ℕ) (qs : List Pair) → Represents n (classesOf n
 unfolding classesOf
 classes-represent n qs = run-represents n (countUp 0 (suc (suc n))) [] qs (base n)
 
-swap-and : (a b c : Bool) → a && (b && c) ≡ b && a && c
-swap-and true true c = refl
-swap-and true false c = refl
-swap-and false true c = refl
-swap-and false false c = refl
-
 pub satisfies-turned : (p : List ℕ) (qs seen : List Pair) → satisfiesPairs p (reverseAux qs seen) ≡ satisfiesPairs p qs && satisfiesPairs p seen
 unfolding satisfiesPairs
 satisfies-turned p [] seen = refl
-satisfies-turned p (q ∷ qs) seen = rw (satisfies-turned p qs (q ∷ seen)) (swap-and (satisfiesPairs p qs) (eqb (bitOf p (q .left)) (bitOf p (q .right))) (satisfiesPairs p seen))
+satisfies-turned p (q ∷ qs) seen = rw (satisfies-turned p qs (q ∷ seen)) (and-move (satisfiesPairs p qs) (eqb (bitOf p (q .left)) (bitOf p (q .right))) (satisfiesPairs p seen))
 
 pub satisfies-reverse : (p : List ℕ) (qs : List Pair) → satisfiesPairs p (reverse qs) ≡ satisfiesPairs p qs
 unfolding satisfiesPairs

@@ -14,7 +14,8 @@ use Rattle.laws.specs.Lists.{tally, member}
 use Rattle.answers.specs.Answer.{begins, unfixed, goesOn, lowest, appears, placeRow, widened, placed, rowsTo, isFresh, freshNumbers}
 use Rattle.answers.specs.declared.AnswerRow.{AnswerRow}
 use Rattle.laws.proofs.Bools.{and-second}
-use Rattle.answers.proofs.Agreement.{Represents, dec-lt}
+use Rattle.answers.proofs.Agreement.{Represents}
+use Rattle.laws.proofs.Numbers.{lt-or-le}
 use Rattle.laws.proofs.Tallies.{tally-mono}
 use Rattle.answers.proofs.Slots.{Slot, fill, part, glued}
 use Rattle.answers.proofs.Gluing.{glued-e, place, front, reach}
@@ -155,7 +156,7 @@ module _ (n : ℕ) (c : List ℕ) (seen : List Pair) (inv : Represents n c seen)
 
     begin-slots : rowSlots (placeRow n ws (inClass c) j) ≡ slotAt j ∷ []
     unfolding rowSlots partsFrom
-    begin-slots = go (dec-lt (C j) 2)
+    begin-slots = go (lt-or-le (C j) 2)
       where
         go : (C j < 2) ⊎ (2 ≤ C j) → rowSlots (placeRow n ws (inClass c) j) ≡ slotAt j ∷ []
         go (inl l) = let k = kind-fixed j l in rw (k .0, unit-wide j, slot-fixed n c seen inv one start begin last j l) (ap (λ (x : ℕ). fill x ∷ []) (k .1))
@@ -165,8 +166,8 @@ module _ (n : ℕ) (c : List ℕ) (seen : List Pair) (inv : Represents n c seen)
   pub ended : (j : ℕ) (r : AnswerRow) → j < n → Reaching j r → (2 ≤ C j → glued n start C j ≡ false) → Whole r
   unfolding reach
   ended j r b h g = record {
-    is-piece = λ f. go (dec-lt (C j) 2) f;
-    is-bit = λ f. bit (dec-lt (C j) 2) f;
+    is-piece = λ f. go (lt-or-le (C j) 2) f;
+    is-bit = λ f. bit (lt-or-le (C j) 2) f;
   }
     where
       reach-one : glued n start C j ≡ false → reach n start C n j ≡ 1
@@ -200,7 +201,7 @@ module _ (n : ℕ) (c : List ℕ) (seen : List Pair) (inv : Represents n c seen)
   module _ (j : ℕ) (rows : List AnswerRow) (before : (k : ℕ) → k < tally j marked → member k (freshNumbers rows) ≡ true) where
     new-numbers : goesOn n ws (inClass c) j ≡ false → (k : ℕ) → k < tally (suc j) marked → member k (freshNumbers (placeRow n ws (inClass c) j ∷ rows)) ≡ true
     unfolding freshNumbers tally member
-    new-numbers h k l = go (marked j) refl (dec-lt k (tally j marked))
+    new-numbers h k l = go (marked j) refl (lt-or-le k (tally j marked))
       where
         go : (b : Bool) → marked j ≡ b → (k < tally j marked) ⊎ (tally j marked ≤ k)
             → member k (cond (isFresh (placeRow n ws (inClass c) j)) (placeRow n ws (inClass c) j .fresh ∷ freshNumbers rows) (freshNumbers rows)) ≡ true
@@ -240,7 +241,7 @@ module _ (n : ℕ) (c : List ℕ) (seen : List Pair) (inv : Represents n c seen)
 
     next-slot : following r ≡ slotAt (suc j)
     unfolding following
-    next-slot = go (dec-lt (C (suc j)) 2)
+    next-slot = go (lt-or-le (C (suc j)) 2)
       where
         go : (C (suc j) < 2) ⊎ (2 ≤ C (suc j)) → following r ≡ slotAt (suc j)
         go (inl l) =

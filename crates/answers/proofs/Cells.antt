@@ -1,6 +1,6 @@
 -- Solved systems in general, place by place: the cells of the sides, and their laws.
 use mathlib.Core.Path.{_≡_, refl}
-use mathlib.Core.Bool.{Bool, true, false, _||_, cond}
+use mathlib.Core.Bool.{Bool, true, false, cond}
 use mathlib.Core.List.{List, [], _∷_, _++_, append-assoc}
 use Prim.Native.Nat.{ℕ, zero, suc, _+_, _≤_, _<_}
 use native.Mathlib.Omega.{arith}
@@ -10,25 +10,8 @@ use borrow.Author.Tests.{eq-eqb, ne-eqb}
 use Rattle.laws.specs.Lists.{member}
 use Rattle.answers.specs.Systems.{Part, fill as fillPart, fresh as freshPart, FineSide, FineSides, labelsOf, allLabels}
 use Rattle.answers.proofs.Slots.{Slot, fill, part}
-
--- A test that passes, or another that does; a number in one of two lists is in both together.
-or-second : (a b : Bool) → b ≡ true → a || b ≡ true
-or-second true b h = refl
-or-second false b h = h
-
-member-left : (x : ℕ) (xs ys : List ℕ) → member x xs ≡ true → member x (xs ++ ys) ≡ true
-unfolding member
-member-left x [] ys h = cc
-member-left x (y ∷ xs) ys h = go (eqb x y) h (member-left x xs ys)
-  where
-    go : (t : Bool) → t || member x xs ≡ true → (member x xs ≡ true → member x (xs ++ ys) ≡ true) → t || member x (xs ++ ys) ≡ true
-    go true k on = refl
-    go false k on = on k
-
-member-right : (x : ℕ) (xs ys : List ℕ) → member x ys ≡ true → member x (xs ++ ys) ≡ true
-unfolding member
-member-right x [] ys h = h
-member-right x (y ∷ xs) ys h = or-second (eqb x y) (member x (xs ++ ys)) (member-right x xs ys h)
+use Rattle.laws.proofs.Bools.{or-right}
+use Rattle.laws.proofs.Tallies.{member-left, member-right}
 
 -- A place of a system: whether a variable begins there, and what stands there.
 pub data Cell : Type 0 where
@@ -179,7 +162,7 @@ module _ (labels : List ℕ) (wide : ℕ → ℕ) where
   run-side m [] h k r = r
   run-side m (fillPart b w ∷ side) h k r = rw append-assoc (run-fill m b w (h .0 .0) (run-side false side (h .1) k r))
   run-side m (freshPart f w ∷ side) h k r =
-      rw append-assoc (run-fresh m f w (k f (rw (eq-eqb f f refl))) (h .0 .0) (h .0 .1) (run-side false side (h .1) (λ g q. k g (or-second (eqb g f) (member g (labelsOf side)) q)) r))
+      rw append-assoc (run-fresh m f w (k f (rw (eq-eqb f f refl))) (h .0 .0) (h .0 .1) (run-side false side (h .1) (λ g q. k g (or-right (eqb g f) (member g (labelsOf side)) q)) r))
 
   pub run-sides : (sides : List (List Part)) → FineSides wide sides → ((f : ℕ) → member f (allLabels sides) ≡ true → member f labels ≡ true) → Run none (cells sides)
   unfolding cells allLabels

@@ -8,8 +8,8 @@ use native.Mathlib.Omega.{arith}
 use native.Mathlib.Nat.{add-comm, zero-add, add-zero}
 use native.Mathlib.Numerals.{add-one}
 use lib.Dec.{eqb}
-use lib.ListN.{length, getD, drop, length-append, length-drop, List·getD-append, List·getD-eq-default}
-use lib.Seq.{append-snoc, getD-append-seam, getD-drop}
+use lib.ListN.{length, getD, drop, List·getD-append, List·getD-eq-default}
+use lib.Seq.{append-snoc, getD-append-seam, take-length}
 use borrow.Author.Tests.{eqb-true, eq-eqb, ne-eqb}
 use Rattle.terms.specs.Assignments.{Assignment, count}
 use Rattle.terms.specs.Table.{bitOf}
@@ -17,8 +17,10 @@ use Rattle.terms.proofs.Assignments.{assignment-length, count-ext, count-none-o
 use Rattle.answers.specs.Pairs.{Pair, satisfiesPairs}
 use Rattle.answers.specs.Classes.{classesOf, rep, roots}
 use Rattle.laws.proofs.Bools.{and-first, and-second, and-both, same-test}
-use Rattle.laws.proofs.Numbers.{dec-eq}
-use Rattle.answers.proofs.Agreement.{Represents, dec-lt, bit-past, classes-represent, satisfies-reverse}
+use Rattle.laws.proofs.Numbers.{dec-eq, two}
+use Rattle.answers.proofs.Agreement.{Represents, bit-past, classes-represent, satisfies-reverse}
+use Rattle.laws.proofs.Numbers.{lt-or-le}
+use Rattle.laws.proofs.Lists.{snoc-length, tail-length, tail-at}
 
 count-none : (n : ℕ) → count n (λ p. false) ≡ 0
 count-none n = count-none-of n (λ p. false) (λ p h. refl)
@@ -34,9 +36,6 @@ Low k c = (i : ℕ) → getD c i 0 ≤ k + i
 
 abbrev Bits : List ℕ → Type 0
 Bits w = (i : ℕ) → getD w i 0 ≤ 1
-
-snoc-length : (w : List ℕ) (b : ℕ) → length (w ++ b ∷ []) ≡ suc (length w)
-snoc-length w b = simp length-append (omega arith)
 
 low-tail : (w : List ℕ) (b v : ℕ) (c : List ℕ) → Low (length w) (v ∷ c) → Low (length (w ++ b ∷ [])) c
 low-tail w b v c h i = omega (arith, h (suc i), snoc-length w b)
@@ -126,15 +125,6 @@ count-conflict n qs e =
         let z : _≡_ {A = ℕ} 1 0 = cc in
         absurd (omega arith)
 
-pub tail-length : (c : List ℕ) (n : ℕ) → length c ≡ suc (suc n) → length (drop 2 c) ≡ n
-tail-length c n e = simp length-drop (omega arith)
-
-pub two : (i : ℕ) → 2 + i ≡ suc (suc i)
-two i = omega arith
-
-pub tail-at : (c : List ℕ) (i : ℕ) → getD (drop 2 c) i 0 ≡ getD c (suc (suc i)) 0
-tail-at c i = rw (getD-drop 2 c i 0, two i)
-
 pub satisfies-kept : (n : ℕ) (qs : List Pair) → rep (classesOf n qs) 1 ≡ 1 → (p : List ℕ) → Assignment n p
     → satisfiesPairs p qs ≡ kept (0 ∷ 1 ∷ []) (drop 2 (classesOf n qs)) p
 unfolding bitOf
@@ -158,7 +148,7 @@ satisfies-kept n qs e p h = same-test (satisfiesPairs p qs) (kept (0 ∷ 1 ∷ [
         at : (i : ℕ) → bitOf p i ≡ bitOf p (rep (classesOf n qs) i)
         at zero = let z : rep (classesOf n qs) 0 ≡ 0 = omega (arith, inv .low 0) in rw z
         at (suc zero) = rw e
-        at (suc (suc i)) = go (dec-lt i n)
+        at (suc (suc i)) = go (lt-or-le i n)
           where
             go : (i < n) ⊎ (n ≤ i) → getD p i 0 ≡ bitOf p (rep (classesOf n qs) (suc (suc i)))
             go (inl k) =

@@ -1,6 +1,6 @@
 -- An equation is satisfied exactly if each of its bit pairs is, and a table exactly if all pairs of its equations are.
 use mathlib.Core.Path.{_≡_, refl, sym, _∙_, ap, ap₂}
-use mathlib.Core.Bool.{Bool, true, false, _&&_}
+use mathlib.Core.Bool.{Bool, true, _&&_}
 use mathlib.Core.List.{List, [], _∷_, map, reverseAux}
 use Prim.Native.Nat.{ℕ, suc, _<_}
 use native.Mathlib.Omega.{arith}
@@ -14,6 +14,7 @@ use Rattle.terms.proofs.Values.{Sound}
 use Rattle.terms.proofs.Sources.{value-sources, source-length}
 use Rattle.answers.specs.Pairs.{Pair, paired, pairsOf, pairsIn, satisfiesPairs, satisfiesAll, allPairs}
 use Rattle.answers.proofs.Agreement.{satisfies-turned}
+use Rattle.laws.proofs.Bools.{and-move}
 
 -- two words are equal exactly if their bits are in pairs
 pair-words : (p xs ys : List ℕ) → length xs ≡ length ys → sameWord (map (bitOf p) xs) (map (bitOf p) ys) ≡ satisfiesPairs p (paired xs ys)
@@ -57,12 +58,6 @@ module _ (t : List Row) (p : List ℕ) (sound : Sound t) (whole : length p ≡ b
   pub table-pairs : satisfies t p ≡ satisfiesAll p (pairsIn t t)
   unfolding satisfies
   table-pairs = rows-pairs t row-pairs
-
-and-move : (a b c : Bool) → a && (b && c) ≡ (b && a) && c
-and-move true true c = refl
-and-move true false c = refl
-and-move false true c = refl
-and-move false false c = refl
 
 pub all-pairs : (p : List ℕ) (seen : List Pair) (es : List (List Pair)) → satisfiesPairs p (allPairs seen es) ≡ satisfiesAll p es && satisfiesPairs p seen
 unfolding allPairs satisfiesAll

@@ -1,6 +1,6 @@
 -- Two sources are equal in every satisfying assignment exactly if they are in one class; so the classes are the representatives, and
 -- the links are the ties.
-use mathlib.Core.Path.{_≡_, refl, sym, ap, ap₂, _∙_}
+use mathlib.Core.Path.{_≡_, refl, sym, ap, _∙_}
 use mathlib.Core.Logic.{_⊎_, inl, inr, _≢_}
 use mathlib.Core.Bool.{Bool, true, false, not, _||_, cond}
 use mathlib.Core.List.{List, [], _∷_, map}
@@ -14,12 +14,14 @@ use Rattle.terms.specs.Table.{bitOf}
 use Rattle.laws.specs.Lists.{countUp}
 use Rattle.terms.proofs.Assignments.{assignment-of, every-at, every-of}
 use Rattle.answers.specs.Pairs.{Pair, equals, representative, satisfiesPairs, ties}
-use Rattle.laws.specs.Lists.{least}
 use Rattle.answers.specs.Classes.{classesOf, links, merge, relabel, rep, roots, run}
 use Rattle.answers.proofs.Relabelling.{relabel-hit, relabel-miss, hi, lo, hi-root}
 use Rattle.laws.proofs.Numbers.{dec-eq}
-use Rattle.answers.proofs.Agreement.{map-read, Represents, relabel-zero, step, dec-lt, base, run-represents}
-use Rattle.answers.proofs.Counting.{tail-length, tail-at}
+use Rattle.laws.proofs.Lists.{map-read, map-same}
+use Rattle.answers.proofs.Agreement.{Represents, relabel-zero, step, base, run-represents}
+use Rattle.laws.proofs.Numbers.{lt-or-le}
+use Rattle.laws.proofs.Lists.{tail-length, tail-at}
+use Rattle.laws.proofs.Least.{least-is}
 
 -- the assignment that has 1 in the class r, and in the class of 1
 unfoldable pub onesIn : ℕ → ℕ → ℕ
@@ -127,15 +129,6 @@ module _ (n : ℕ) (c : List ℕ) (seen : List Pair) (inv : Represents n c seen)
       go (inl e) = equals-of s t e ∙ sym (eq-eqb (rep c s) (rep c t) e)
       go (inr e) = equals-not s t e ∙ sym (ne-eqb (rep c s) (rep c t) e)
 
-least-is : (f : ℕ → Bool) (d k m : ℕ) → k ≤ m → m ≤ k + d → f m ≡ true → ((j : ℕ) → j < m → f j ≡ false) → least f k d ≡ m
-unfolding least
-least-is f zero k m a b t h = omega arith
-least-is f (suc d) k m a b t h = go (dec-eq k m) (λ (l : k < m). least-is f d (suc k) m l (omega arith) t h)
-  where
-    go : (k ≡ m) ⊎ (k ≢ m) → (k < m → least f (suc k) d ≡ m) → cond (f k) k (least f (suc k) d) ≡ m
-    go (inl e) r = rw (e, t)
-    go (inr e) r = rw (h k (omega arith)) (r (omega arith))
-
 -- the classes are the representatives
 pub representative-is : (n : ℕ) (c : List ℕ) (seen : List Pair) → Represents n c seen → rep c 1 ≡ 1 → (s : ℕ) → representative n seen s ≡ rep c s
 unfolding representative
@@ -205,10 +198,6 @@ relabel-same h v = go (dec-eq v h)
     go (inl e) = relabel-hit h h v e ∙ sym e
     go (inr e) = relabel-miss h h v e
 
-pub map-same : (f : ℕ → ℕ) → ((v : ℕ) → f v ≡ v) → (c : List ℕ) → map f c ≡ c
-map-same f h [] = refl
-map-same f h (v ∷ c) = ap₂ _∷_ (h v) (map-same f h c)
-
 pub merge-roots : (n : ℕ) (c : List ℕ) (seen : List Pair) → Represents n c seen → (q : Pair)
     → roots 0 c ≡ cond (eqb (rep c (q .left)) (rep c (q .right))) 0 1 + roots 0 (merge c q)
 unfolding merge hi
@@ -232,7 +221,7 @@ merge-roots n c seen inv q = go (dec-eq x y)
         let m : max x y ≡ min x y = omega arith in
         rw (eq-eqb x y e, m, map-same (relabel (min x y) (min x y)) (relabel-same (min x y)) c) (omega arith)
     go (inr e) =
-        let h = roots-hit (max x y) (min x y) (omega arith) 0 (max x y) c (λ i. omega (arith, inv .low i)) (within (dec-lt (max x y) (length c)) e) top (omega arith) in
+        let h = roots-hit (max x y) (min x y) (omega arith) 0 (max x y) c (λ i. omega (arith, inv .low i)) (within (lt-or-le (max x y) (length c)) e) top (omega arith) in
         rw (ne-eqb x y e) (omega arith)
 
 pub run-roots : (n : ℕ) (c : List ℕ) (seen qs : List Pair) → Represents n c seen → roots 0 (run c qs) + links c qs ≡ roots 0 c

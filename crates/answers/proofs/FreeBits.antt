@@ -12,17 +12,12 @@ use Rattle.answers.specs.Classes.{rep, roots}
 use Rattle.laws.specs.Lists.{tally}
 use Rattle.laws.proofs.Bools.{same-test}
 use Rattle.answers.proofs.Agreement.{Represents}
-use Rattle.answers.proofs.Counting.{tail-length, tail-at, two}
-use Rattle.laws.proofs.Tallies.{select-rank}
+use Rattle.laws.proofs.Lists.{tail-length, tail-at}
+use Rattle.laws.proofs.Numbers.{two}
+use Rattle.laws.proofs.Tallies.{select-rank, tally-front}
 use Rattle.answers.proofs.Slots.{loose, glued, heads}
 use Rattle.answers.proofs.Gluing.{Glue, glued-e, reach, differ, glue-in, reach-step}
 use Rattle.answers.proofs.OurPieces.{mark, wide, class-home}
-
--- a tally from its first number on
-tally-front : (m : ℕ) (f : ℕ → Bool) → tally (suc m) f ≡ cond {A = ℕ} (f 0) 1 0 + tally m (λ i. f (suc i))
-unfolding tally
-tally-front zero f = refl
-tally-front (suc m) f = omega (arith, tally-front m f)
 
 roots-tally : (k : ℕ) (v : List ℕ) (f : ℕ → Bool) → ((i : ℕ) → f i ≡ eqb (getD v i 0) (k + i)) → roots k v ≡ tally (length v) f
 unfolding roots tally

@@ -13,7 +13,8 @@ use Rattle.answers.specs.Classes.{rep}
 use Rattle.answers.specs.Answer.{begins}
 use Rattle.answers.specs.Systems.{Part, fill as fillPart, fresh as freshPart, partWidth, sideWidth, FinePart, FineSide, FineSides, SolvedSystem, allLabels, freshCount, pieceBits, partBits, sideBits, systemBits, Gives}
 use Rattle.answers.proofs.Agreement.{Represents}
-use Rattle.answers.proofs.Slots.{tab, tab-at, fill, value, System, fresh}
+use Rattle.laws.proofs.Lists.{tab, tab-at}
+use Rattle.answers.proofs.Slots.{fill, value, System, fresh}
 use Rattle.answers.proofs.Minimal.{minimal}
 use Rattle.answers.proofs.Cells.{Cell, cell, markOf, slotOf, at, fillCells, freshCells, partCells, sideCells, cells, none, Run, run-inside, run-bits, run-first, run-before, run-after, run-sides}
 

@@ -14,13 +14,15 @@ use Rattle.terms.specs.Assignments.{Assignment}
 use Rattle.terms.proofs.Assignments.{assignment-length, assignment-bit, assignment-of}
 use Rattle.answers.specs.Pairs.{Pair, satisfiesPairs}
 use Rattle.answers.specs.Classes.{rep, inClass}
-use Rattle.laws.specs.Lists.{tally, member, distinct}
+use Rattle.laws.specs.Lists.{tally, member}
 use Rattle.answers.specs.Answer.{begins, rowsTo, answerRows, isFresh, freshNumbers, freshPieces, freshWidth, freshStart, freeBits, rowBits, bitsOfRows, instantiate}
 use Rattle.answers.specs.declared.AnswerRow.{AnswerRow}
 use Rattle.laws.proofs.Numbers.{dec-eq}
-use Rattle.answers.proofs.Agreement.{Represents, dec-lt}
-use Rattle.laws.proofs.Tallies.{pigeon, tally-none, select}
-use Rattle.answers.proofs.Slots.{tab-assignment, Slot, fill, part, value, tab, tab-at, tab-length, glued}
+use Rattle.answers.proofs.Agreement.{Represents}
+use Rattle.laws.proofs.Numbers.{lt-or-le}
+use Rattle.laws.proofs.Tallies.{select, member-more, distinct-is}
+use Rattle.answers.proofs.Slots.{tab-assignment, Slot, fill, part, value, glued}
+use Rattle.laws.proofs.Lists.{tab, tab-at, tab-length}
 use Rattle.answers.proofs.Gluing.{glued-e}
 use Rattle.answers.proofs.OurPieces.{mark, slot, wide, slot-gives, slot-bits, filled, slot-reads, slot-there, slot-inside}
 use Rattle.answers.proofs.AnswerRows.{partsFrom, rowSlots, slotsTo, Each, slotsBelow, Whole, Rows, rows-are, ended}
@@ -30,19 +32,6 @@ use Rattle.answers.proofs.FreeBits.{widthsTo}
 pub each-turn : (P : AnswerRow → Type 0) (xs ys : List AnswerRow) → Each P xs → Each P ys → Each P (reverseAux xs ys)
 each-turn P [] ys h k = k
 each-turn P (x ∷ xs) ys h k = each-turn P xs (x ∷ ys) (h .1) (h .0, k)
-
-or-first : (a b : Bool) → a ≡ true → a || b ≡ true
-or-first true b h = refl
-or-first false b h = cc
-
-or-second : (a b : Bool) → b ≡ true → a || b ≡ true
-or-second true b h = refl
-or-second false b h = h
-
-member-more : (b : Bool) (x k : ℕ) (l : List ℕ) → member k l ≡ true → member k (cond b (x ∷ l) l) ≡ true
-unfolding member
-member-more false x k l h = h
-member-more true x k l h = or-second (eqb k x) (member k l) h
 
 numbers-later : (k : ℕ) (xs ys : List AnswerRow) → member k (freshNumbers ys) ≡ true → member k (freshNumbers (reverseAux xs ys)) ≡ true
 unfolding freshNumbers
@@ -66,50 +55,6 @@ numbers-turn k (x ∷ xs) ys h = go (isFresh x) refl h (λ (q : member k (freshN
         two : (t : Bool) → eqb k (x .fresh) ≡ t → t || member k (freshNumbers xs) ≡ true → member k (freshNumbers (reverseAux xs (x ∷ ys))) ≡ true
         two true d w = here e d
         two false d w = r w
-
--- how many different numbers there are in a list that has exactly those below a bound
-tally-all : (n : ℕ) → tally n (λ i. true) ≡ n
-unfolding tally
-tally-all zero = refl
-tally-all (suc n) = omega (arith, tally-all n)
-
-tally-more : (n x : ℕ) (f : ℕ → Bool) → x < n → tally n (λ k. eqb k x || f k) ≡ cond (f x) 0 1 + tally n f
-unfolding tally
-tally-more zero x f l = absurd (omega arith)
-tally-more (suc n) x f l = go (dec-eq n x) (λ (q : x < n). tally-more n x f q)
-  where
-    apart : (m : ℕ) → m ≤ x → tally m (λ k. eqb k x || f k) ≡ tally m f
-    apart zero q = refl
-    apart (suc m) q = rw (ne-eqb m x (omega arith)) (ap (λ (y : ℕ). cond (f m) 1 0 + y) (apart m (omega arith)))
-
-    go : (n ≡ x) ⊎ (n ≢ x) → (x < n → tally n (λ k. eqb k x || f k) ≡ cond (f x) 0 1 + tally n f)
-        → cond {A = ℕ} (eqb n x || f n) 1 0 + tally n (λ k. eqb k x || f k) ≡ cond {A = ℕ} (f x) 0 1 + (cond {A = ℕ} (f n) 1 0 + tally n f)
-    go (inl e) r = rw (eq-eqb n x e, apart n (omega arith), e) (two (f x))
-      where
-        two : (b : Bool) → 1 + tally x f ≡ cond {A = ℕ} b 0 1 + (cond {A = ℕ} b 1 0 + tally x f)
-        two true = omega arith
-        two false = omega arith
-    go (inr e) r = rw (ne-eqb n x e, r (omega arith)) (omega arith)
-
-distinct-tally : (n : ℕ) (xs : List ℕ) → ((x : ℕ) → member x xs ≡ true → x < n) → distinct xs ≡ tally n (λ k. member k xs)
-unfolding distinct member
-distinct-tally n [] h = sym (tally-none n (λ k. false) (λ i l. refl))
-distinct-tally n (x ∷ xs) h =
-    ap (λ (y : ℕ). cond (member x xs) 0 1 + y) (distinct-tally n xs (λ y q. h y (or-second (eqb y x) (member y xs) q)))
-    ∙ sym (tally-more n x (λ k. member k xs) (h x (or-first (eqb x x) (member x xs) (eq-eqb x x refl))))
-
-pub tally-most : (n : ℕ) (f : ℕ → Bool) → tally n f ≤ n
-unfolding tally
-tally-most zero f = omega arith
-tally-most (suc n) f = go (f n) (tally-most n f)
-  where
-    go : (b : Bool) → tally n f ≤ n → cond {A = ℕ} b 1 0 + tally n f ≤ suc n
-    go true l = omega arith
-    go false l = omega arith
-
-pub distinct-is : (n : ℕ) (xs : List ℕ) → ((x : ℕ) → member x xs ≡ true → x < n) → ((k : ℕ) → k < n → member k xs ≡ true) → distinct xs ≡ n
-distinct-is n xs h k =
-    omega (arith, distinct-tally n xs h, tally-most n (λ k. member k xs), pigeon xs n (λ i. true) (λ i. i) (λ i l t. k i l) (λ i j a b s t e. e), tally-all n)
 
 -- a part of a list, by reads
 reads : (ℕ → ℕ) → ℕ → ℕ → List ℕ
@@ -367,7 +312,7 @@ module _ (n : ℕ) (c : List ℕ) (seen : List Pair) (inv : Represents n c seen)
   find-place : (m i : ℕ) → i < widthsBelow m → Placed m i
   unfolding widthsTo
   find-place zero i l = absurd (omega arith)
-  find-place (suc m) i l = go (dec-lt i (widthsBelow m)) (λ (q : i < widthsBelow m). find-place m i q)
+  find-place (suc m) i l = go (lt-or-le i (widthsBelow m)) (λ (q : i < widthsBelow m). find-place m i q)
     where
       go : (i < widthsBelow m) ⊎ (widthsBelow m ≤ i) → (i < widthsBelow m → Placed m i) → Placed (suc m) i
       go (inl q) r = let P = r q in record { piece = P .piece; place = P .place; known-piece = omega (arith, P .known-piece); in-piece = P .in-piece; position = P .position }

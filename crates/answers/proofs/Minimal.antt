@@ -14,10 +14,12 @@ use Rattle.answers.specs.Pairs.{Pair, satisfiesPairs}
 use Rattle.answers.specs.Classes.{rep}
 use Rattle.laws.specs.Lists.{below, member, distinct}
 use Rattle.laws.proofs.Bools.{and-first, and-second, and-both}
-use Rattle.answers.proofs.Agreement.{Represents, dec-lt}
+use Rattle.answers.proofs.Agreement.{Represents}
+use Rattle.laws.proofs.Numbers.{lt-or-le}
 use Rattle.answers.proofs.Exact.{equals-to}
 use Rattle.laws.proofs.Tallies.{below-of, pigeon}
-use Rattle.answers.proofs.Slots.{equals-from, tab, tab-at, tab-assignment, Slot, fill, part, value, System, loose, glued, heads, fresh}
+use Rattle.answers.proofs.Slots.{equals-from, tab-assignment, Slot, fill, part, value, System, loose, glued, heads, fresh}
+use Rattle.laws.proofs.Lists.{tab, tab-at}
 
 module _ (n : ℕ) (c : List ℕ) (seen : List Pair) (inv : Represents n c seen) (one : rep c 1 ≡ 1) (start : ℕ → Bool) (last : start n ≡ true) (S : System n start seen) where
   abbrev C : ℕ → ℕ
@@ -129,7 +131,7 @@ module _ (n : ℕ) (c : List ℕ) (seen : List Pair) (inv : Represents n c seen)
 
   part-loose : (i f o : ℕ) → i < n → S .slot i ≡ part f o → 2 ≤ C i
   unfolding C given
-  part-loose i f o l t = go (dec-lt (C i) 2)
+  part-loose i f o l t = go (lt-or-le (C i) 2)
     where
       go : (C i < 2) ⊎ (2 ≤ C i) → 2 ≤ C i
       go (inr h) = h

@@ -1,26 +1,21 @@
 -- What pairs say depends on the assignments that satisfy them alone, so neither on their order nor on the order of their sides.
 use mathlib.Core.Path.{_≡_, refl, sym, _∙_, ap, ap₂}
-use mathlib.Core.Bool.{Bool, true, false, not, _&&_, _||_, cond}
+use mathlib.Core.Bool.{Bool, true, false, not, _&&_, _||_, and-comm}
 use mathlib.Core.List.{List, [], _∷_, _++_, map}
 use Prim.Native.Nat.{ℕ, zero, suc, _+_}
 use lib.Dec.{eqb}
 use Rattle.terms.specs.Assignments.{every}
 use Rattle.terms.specs.Table.{bitOf}
 use Rattle.answers.specs.Pairs.{Pair, satisfiesPairs, equals, representative, turned}
-use Rattle.laws.specs.Lists.{least}
-use Rattle.laws.proofs.Bools.{same-test}
-use borrow.Author.Tests.{eqb-true, eq-eqb}
+use Rattle.laws.proofs.Least.{least-ext}
+use Rattle.laws.proofs.Numbers.{eqb-turn}
+use Rattle.laws.proofs.Bools.{and-past}
 
 pub every-ext : (n : ℕ) (f g : List ℕ → Bool) → ((p : List ℕ) → f p ≡ g p) → every n f ≡ every n g
 unfolding every
 every-ext zero f g h = h []
 every-ext (suc n) f g h =
     ap₂ _&&_ (every-ext n (λ p. f (0 ∷ p)) (λ p. g (0 ∷ p)) (λ p. h (0 ∷ p))) (every-ext n (λ p. f (1 ∷ p)) (λ p. g (1 ∷ p)) (λ p. h (1 ∷ p)))
-
-least-ext : (f g : ℕ → Bool) → ((k : ℕ) → f k ≡ g k) → (k d : ℕ) → least f k d ≡ least g k d
-unfolding least
-least-ext f g h k zero = refl
-least-ext f g h k (suc d) = ap₂ (λ (b : Bool) (x : ℕ). cond b k x) (h k) (least-ext f g h (suc k) d)
 
 abbrev pub SaySame : List Pair → List Pair → Type 0
 SaySame qs rs = (p : List ℕ) → satisfiesPairs p qs ≡ satisfiesPairs p rs
@@ -35,13 +30,6 @@ pub representative-same : (n : ℕ) (qs rs : List Pair) → SaySame qs rs → (s
 unfolding representative
 representative-same n qs rs h s = least-ext (equals n qs s) (equals n rs s) (equals-same n qs rs h s) 0 s
 
--- pairs in two parts, in either order
-and-swap : (a b : Bool) → a && b ≡ b && a
-and-swap true true = refl
-and-swap true false = refl
-and-swap false true = refl
-and-swap false false = refl
-
 and-group : (a b c : Bool) → a && (b && c) ≡ (a && b) && c
 and-group true b c = refl
 and-group false b c = refl
@@ -55,16 +43,12 @@ satisfies-append p (q ∷ qs) rs =
 
 pub parts-exchanged : (qs rs : List Pair) → SaySame (qs ++ rs) (rs ++ qs)
 parts-exchanged qs rs p =
-    satisfies-append p qs rs ∙ and-swap (satisfiesPairs p qs) (satisfiesPairs p rs) ∙ sym (satisfies-append p rs qs)
-
--- the sides of each pair, in either order
-eqb-swap : (x y : ℕ) → eqb x y ≡ eqb y x
-eqb-swap x y = same-test (eqb x y) (eqb y x) (λ h. eq-eqb y x (sym (eqb-true x y h))) (λ h. eq-eqb x y (sym (eqb-true y x h)))
+    satisfies-append p qs rs ∙ and-comm (satisfiesPairs p qs) (satisfiesPairs p rs) ∙ sym (satisfies-append p rs qs)
 
 pub sides-exchanged : (qs : List Pair) → SaySame (map turned qs) qs
 unfolding satisfiesPairs
 sides-exchanged [] p = refl
-sides-exchanged (q ∷ qs) p = ap₂ _&&_ (eqb-swap (bitOf p (q .right)) (bitOf p (q .left))) (sides-exchanged qs p)
+sides-exchanged (q ∷ qs) p = ap₂ _&&_ (eqb-turn (bitOf p (q .right)) (bitOf p (q .left))) (sides-exchanged qs p)
 
 -- the same pairs in another order: neighbours exchanged, any number of times
 pub data Reordered : List Pair → List Pair → Type 0 where
@@ -72,11 +56,6 @@ pub data Reordered : List Pair → List Pair → Type 0 where
   exchanged : {q r : Pair} {qs : List Pair} → Reordered (q ∷ r ∷ qs) (r ∷ q ∷ qs)
   behind : {q : Pair} {qs rs : List Pair} → Reordered qs rs → Reordered (q ∷ qs) (q ∷ rs)
   again : {qs rs ss : List Pair} → Reordered qs rs → Reordered rs ss → Reordered qs ss
-
-and-past : (a b c : Bool) → a && (b && c) ≡ b && (a && c)
-and-past true b c = refl
-and-past false true c = refl
-and-past false false c = refl
 
 pub order-free : {qs rs : List Pair} → Reordered qs rs → SaySame qs rs
 unfolding satisfiesPairs

@@ -15,9 +15,11 @@ use Rattle.answers.specs.Classes.{rep}
 use Rattle.laws.specs.Lists.{tally}
 use Rattle.laws.proofs.Bools.{and-first, and-second, and-both}
 use Rattle.laws.proofs.Numbers.{dec-eq}
-use Rattle.answers.proofs.Agreement.{Represents, dec-lt, bit-past}
+use Rattle.answers.proofs.Agreement.{Represents, bit-past}
+use Rattle.laws.proofs.Numbers.{lt-or-le}
 use Rattle.laws.proofs.Tallies.{tally-mono, select, select-rank, select-mark}
-use Rattle.answers.proofs.Slots.{tab, tab-at, tab-assignment, Slot, fill, part, value, loose, glued, heads}
+use Rattle.laws.proofs.Lists.{tab, tab-at}
+use Rattle.answers.proofs.Slots.{tab-assignment, Slot, fill, part, value, loose, glued, heads}
 use Rattle.answers.proofs.Gluing.{glued-e, place, front, reach, front-place, differ, place-class, reach-class, reach-pos, reach-front, reach-two, front-head, front-loose, heads-class}
 
 module _ (n : ℕ) (c : List ℕ) (seen : List Pair) (inv : Represents n c seen) (one : rep c 1 ≡ 1) (start : ℕ → Bool) (begin : start 0 ≡ true) (last : start n ≡ true) where
@@ -86,7 +88,7 @@ module _ (n : ℕ) (c : List ℕ) (seen : List Pair) (inv : Represents n c seen)
   slot-fixed i h = rw (lt-leb 2 (C i) h)
 
   pub slot-part : (i f o : ℕ) → slot i ≡ part f o → (2 ≤ C i) × (number i ≡ f) × (place n start C i ≡ o)
-  slot-part i f o e = go (dec-lt (C i) 2)
+  slot-part i f o e = go (lt-or-le (C i) 2)
     where
       go : (C i < 2) ⊎ (2 ≤ C i) → (2 ≤ C i) × (number i ≡ f) × (place n start C i ≡ o)
       go (inl h) = let s = slot-fixed i h in let z : _≡_ {A = ℕ} 0 1 = cc in absurd (omega arith)
@@ -98,7 +100,7 @@ module _ (n : ℕ) (c : List ℕ) (seen : List Pair) (inv : Represents n c seen)
   slot-next i l h = let G = glued-e n start C i h in slot-loose (suc i) (G .there) ∙ rw h
 
   pub slot-bits : (i b : ℕ) → slot i ≡ fill b → b ≤ 1
-  slot-bits i b e = go (dec-lt (C i) 2)
+  slot-bits i b e = go (lt-or-le (C i) 2)
     where
       go : (C i < 2) ⊎ (2 ≤ C i) → b ≤ 1
       go (inl h) = let s = slot-fixed i h in let q : C i ≡ b = cc in omega arith
@@ -183,7 +185,7 @@ module _ (n : ℕ) (c : List ℕ) (seen : List Pair) (inv : Represents n c seen)
       at : (s : ℕ) → bitOf p s ≡ bitOf p (rep c s)
       at zero = ap (bitOf p) (sym (fixed-class 0 (omega arith)))
       at (suc zero) = ap (bitOf p) (sym one)
-      at (suc (suc i)) = go (dec-lt i n) (dec-lt (C i) 2)
+      at (suc (suc i)) = go (lt-or-le i n) (lt-or-le (C i) 2)
         where
           go : (i < n) ⊎ (n ≤ i) → (C i < 2) ⊎ (2 ≤ C i) → bitOf p (suc (suc i)) ≡ bitOf p (C i)
           go (inl l) (inl k) = here i l ∙ ap (value φ) (slot-fixed i k) ∙ sym (fixed-bit p (C i) (omega arith))
@@ -201,7 +203,7 @@ module _ (n : ℕ) (c : List ℕ) (seen : List Pair) (inv : Represents n c seen)
 
   pub slot-reads : (p : List ℕ) → Assignment n p → satisfiesPairs p seen ≡ true → (i : ℕ) → i < n → getD p i 0 ≡ value (filled p) (slot i)
   unfolding filled
-  slot-reads p k m i l = go (dec-lt (C i) 2)
+  slot-reads p k m i l = go (lt-or-le (C i) 2)
     where
       go : (C i < 2) ⊎ (2 ≤ C i) → getD p i 0 ≡ value (λ f o. getD p (select n mark f + o) 0) (slot i)
       go (inl h) = rw (slot-fixed i h) (sym (place-bit p i) ∙ inv .just p k m (suc (suc i)) ∙ fixed-bit p (C i) (omega arith))

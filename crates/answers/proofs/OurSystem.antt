@@ -21,7 +21,8 @@ use Rattle.laws.specs.Lists.{distinct}
 use Rattle.answers.specs.Systems.{fill as fillPart, fresh as freshPart, FinePart, SolvedSystem, labelsOf, freshCount, pieceBits, partBits, sideBits, systemBits, Filling, Gives}
 use Rattle.answers.specs.Solve.{valid, unsatisfiable, pairsTogether, solvedRows, answerRecord}
 use Rattle.answers.proofs.Agreement.{Represents, satisfies-reverse}
-use Rattle.answers.proofs.Slots.{Slot, fill, part, value, tab, tab-at, tab-length, tab-assignment}
+use Rattle.answers.proofs.Slots.{Slot, fill, part, value, tab-assignment}
+use Rattle.laws.proofs.Lists.{tab, tab-at, tab-length, tab-more}
 use Rattle.answers.proofs.OurPieces.{slot, wide, slot-bits, slot-gives, slot-reads, filled}
 use Rattle.answers.proofs.AnswerRows.{partsFrom, rowSlots, slotsTo, Each, slotsBelow, Whole, rows-are}
 use Rattle.answers.proofs.Instantiating.{fills-value, answer-whole}
@@ -64,11 +65,6 @@ rows-slots φ (x ∷ xs) ys =
     ∙ ap (λ (l : List ℕ). map (value φ) (slotsTo xs) ++ (l ++ sideBits φ (map partOf ys))) (row-slots φ x)
     ∙ sym (append-assoc (map (value φ) (slotsTo xs)) (map (value φ) (rowSlots x)) (sideBits φ (map partOf ys)))
     ∙ ap (λ (l : List ℕ). l ++ sideBits φ (map partOf ys)) (sym (map-append (value φ) (slotsTo xs) (rowSlots x)))
-
-tab-more : (m : ℕ) (g : ℕ → ℕ) → tab (suc m) g ≡ tab m g ++ (g m ∷ [])
-unfolding tab
-tab-more zero g = refl
-tab-more (suc m) g = ap (λ (l : List ℕ). g 0 ∷ l) (tab-more m (λ i. g (suc i)))
 
 value-bit : (φ : ℕ → ℕ → ℕ) → Filling φ → (x : Slot) → ((b : ℕ) → x ≡ fill b → b ≤ 1) → value φ x ≤ 1
 value-bit φ h (fill b) k = k b refl

@@ -14,7 +14,8 @@ use Rattle.laws.specs.Lists.{below}
 use Rattle.answers.specs.Answer.{begins, fixedTo, unfixed, contiguous, fixedAlike, goesOn, lowest, appears}
 use Rattle.laws.proofs.Bools.{and-first, same-test}
 use Rattle.laws.proofs.Numbers.{dec-eq}
-use Rattle.answers.proofs.Agreement.{Represents, dec-lt}
+use Rattle.answers.proofs.Agreement.{Represents}
+use Rattle.laws.proofs.Numbers.{lt-or-le}
 use Rattle.answers.proofs.Slots.{loose, glued, heads}
 use Rattle.answers.proofs.Gluing.{glued-e}
 
@@ -129,7 +130,7 @@ module _ (n : ℕ) (c : List ℕ) (seen : List Pair) (inv : Represents n c seen)
 
   pub appears-is : (i : ℕ) → appears n ws (inClass c) i ≡ eqb (C i) (suc (suc i)) && heads n (begins ws) C i
   unfolding appears
-  appears-is i = go (dec-lt (C i) 2)
+  appears-is i = go (lt-or-le (C i) 2)
     where
       shift : (x y : ℕ) → 2 ≤ x → eqb (x - 2) y ≡ eqb x (suc (suc y))
       shift x y l = same-test (eqb (x - 2) y) (eqb x (suc (suc y))) (λ h. eq-eqb x (suc (suc y)) (omega (arith, eqb-true (x - 2) y h))) (λ h. eq-eqb (x - 2) y (omega (arith, eqb-true x (suc (suc y)) h)))

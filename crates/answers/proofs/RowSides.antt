@@ -15,11 +15,12 @@ use Rattle.answers.specs.declared.AnswerRow.{AnswerRow}
 use Rattle.answers.specs.Systems.{Part, fill, fresh, partWidth, sideWidth, FinePart, FineSide, FineSides, labelsOf, allLabels, partBits, sideBits, systemBits}
 use Rattle.laws.proofs.Bools.{and-first}
 use Rattle.laws.proofs.Numbers.{dec-eq}
-use Rattle.answers.proofs.Agreement.{dec-lt}
+use Rattle.laws.proofs.Numbers.{lt-or-le}
 use Rattle.answers.proofs.AnswerRows.{Each}
 use Rattle.answers.proofs.Instantiating.{each-turn}
 use Rattle.answers.proofs.GeneralSystems.{widthSum}
 use Rattle.answers.proofs.Variables.{begins-first}
+use Rattle.laws.proofs.Tallies.{tally-all, tally-ext, tally-no, tally-apart}
 
 -- A row as a part of a right side, labelled by its fresh number.
 unfoldable pub partOf : AnswerRow → Part
@@ -181,7 +182,7 @@ widths-from (w ∷ ws) v rows h =
 variable-up : (ws : List ℕ) (i : ℕ) → variableAt ws i ≤ variableAt ws (suc i)
 unfolding variableAt
 variable-up [] i = omega arith
-variable-up (w ∷ ws) i = go (dec-lt i w) (variable-up ws (i - w))
+variable-up (w ∷ ws) i = go (lt-or-le i w) (variable-up ws (i - w))
   where
     go : (i < w) ⊎ (w ≤ i) → variableAt ws (i - w) ≤ variableAt ws (suc (i - w)) → cond (ltb i w) 0 (suc (variableAt ws (i - w))) ≤ cond (ltb (suc i) w) 0 (suc (variableAt ws (suc i - w)))
     go (inl a) r = rw (lt-ltb i w a) (omega arith)
@@ -190,7 +191,7 @@ variable-up (w ∷ ws) i = go (dec-lt i w) (variable-up ws (i - w))
 variable-on : (ws : List ℕ) (i : ℕ) → begins ws (suc i) ≡ false → variableAt ws (suc i) ≡ variableAt ws i
 unfolding variableAt begins
 variable-on [] i h = let z : _≡_ {A = ℕ} 0 1 = cc in absurd (omega arith)
-variable-on (w ∷ ws) i h = go (dec-lt (suc i) w) (dec-lt i w) (variable-on ws (i - w)) h
+variable-on (w ∷ ws) i h = go (lt-or-le (suc i) w) (lt-or-le i w) (variable-on ws (i - w)) h
   where
     go : (suc i < w) ⊎ (w ≤ suc i) → (i < w) ⊎ (w ≤ i) → (begins ws (suc (i - w)) ≡ false → variableAt ws (suc (i - w)) ≡ variableAt ws (i - w))
         → cond (ltb (suc i) w) (eqb (suc i) 0) (begins ws (suc i - w)) ≡ false
@@ -206,32 +207,11 @@ variable-on (w ∷ ws) i h = go (dec-lt (suc i) w) (dec-lt i w) (variable-on ws 
 pub variable-low : (ws : List ℕ) (i : ℕ) → i < widthSum ws → variableAt ws i < length ws
 unfolding variableAt widthSum
 variable-low [] i l = absurd (omega arith)
-variable-low (w ∷ ws) i l = go (dec-lt i w) (λ (k : i - w < widthSum ws). variable-low ws (i - w) k)
+variable-low (w ∷ ws) i l = go (lt-or-le i w) (λ (k : i - w < widthSum ws). variable-low ws (i - w) k)
   where
     go : (i < w) ⊎ (w ≤ i) → (i - w < widthSum ws → variableAt ws (i - w) < length ws) → cond (ltb i w) 0 (suc (variableAt ws (i - w))) < suc (length ws)
     go (inl a) r = rw (lt-ltb i w a) (omega arith)
     go (inr a) r = rw (le-ltb i w a) (omega (arith, r (omega arith)))
-
--- a variable has as many places as its width
-tally-apart : (w m : ℕ) (f : ℕ → Bool) → tally (w + m) f ≡ tally w f + tally m (λ k. f (w + k))
-unfolding tally
-tally-apart w zero f = let e : w + 0 ≡ w = omega arith in ap (λ (x : ℕ). tally x f) e ∙ omega arith
-tally-apart w (suc m) f = let e : w + suc m ≡ suc (w + m) = omega arith in ap (λ (x : ℕ). tally x f) e ∙ omega (arith, tally-apart w m f)
-
-tally-ext : (m : ℕ) (f g : ℕ → Bool) → ((i : ℕ) → i < m → f i ≡ g i) → tally m f ≡ tally m g
-unfolding tally
-tally-ext zero f g h = refl
-tally-ext (suc m) f g h = ap₂ (λ (b : Bool) (x : ℕ). cond b 1 0 + x) (h m (omega arith)) (tally-ext m f g (λ i l. h i (omega arith)))
-
-tally-every : (m : ℕ) → tally m (λ k. true) ≡ m
-unfolding tally
-tally-every zero = refl
-tally-every (suc m) = omega (arith, tally-every m)
-
-tally-no : (m : ℕ) → tally m (λ k. false) ≡ 0
-unfolding tally
-tally-no zero = refl
-tally-no (suc m) = omega (arith, tally-no m)
 
 variable-within : (w : ℕ) (ws : List ℕ) (i : ℕ) → i < w → variableAt (w ∷ ws) i ≡ 0
 unfolding variableAt
@@ -257,7 +237,7 @@ places-in (w ∷ ws) v =
     go zero r =
         omega (
           arith,
-          tally-every w,
+          tally-all w,
           tally-ext (widthSum ws) (λ k. eqb (suc (variableAt ws k)) 0) (λ k. false) (λ i l. ne-eqb (suc (variableAt ws i)) 0 (omega arith)),
           tally-no (widthSum ws),
         )

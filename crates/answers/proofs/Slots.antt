@@ -1,18 +1,18 @@
 -- Solved systems bit by bit: each place has a fixed bit, or a place in a fresh piece.
-use mathlib.Core.Path.{_≡_, refl, ap}
+use mathlib.Core.Path.{_≡_, refl}
 use mathlib.Core.Logic.{_≢_}
 use mathlib.Core.Bool.{Bool, true, false, not, _&&_, _||_}
-use mathlib.Core.List.{List, [], _∷_}
+use mathlib.Core.List.{List}
 use Prim.Native.Nat.{ℕ, zero, suc, _-_, _≤_, _<_, pred}
-use native.Mathlib.Omega.{arith}
 use lib.Dec.{eqb, leb}
-use lib.ListN.{length, getD}
+use lib.ListN.{getD}
 use borrow.Author.Tests.{eq-eqb}
 use Rattle.terms.specs.Assignments.{Assignment}
 use Rattle.terms.specs.Table.{bitOf}
 use Rattle.terms.proofs.Assignments.{every-of, assignment-of}
 use Rattle.answers.specs.Pairs.{Pair, satisfiesPairs, equals}
 use Rattle.laws.specs.Lists.{below, tally, member}
+use Rattle.laws.proofs.Lists.{tab, tab-length, tab-at}
 
 -- what holds in every pattern, as a statement
 pub equals-from : (n : ℕ) (seen : List Pair) (s t : ℕ) → ((p : List ℕ) → Assignment n p → satisfiesPairs p seen ≡ true → bitOf p s ≡ bitOf p t) → equals n seen s t ≡ true
@@ -22,21 +22,6 @@ equals-from n seen s t h = every-of n (λ p. not (satisfiesPairs p seen) || eqb 
     go : (p : List ℕ) → Assignment n p → (b : Bool) → satisfiesPairs p seen ≡ b → not b || eqb (bitOf p s) (bitOf p t) ≡ true
     go p k true m = eq-eqb (bitOf p s) (bitOf p t) (h p k m)
     go p k false m = refl
-
-unfoldable pub tab : ℕ → (ℕ → ℕ) → List ℕ
-tab zero f = []
-tab (suc n) f = f 0 ∷ tab n (λ i. f (suc i))
-
-pub tab-at : (n : ℕ) (f : ℕ → ℕ) (i : ℕ) → i < n → getD (tab n f) i 0 ≡ f i
-unfolding tab
-tab-at zero f i l = absurd (omega arith)
-tab-at (suc n) f zero l = refl
-tab-at (suc n) f (suc i) l = tab-at n (λ j. f (suc j)) i (omega arith)
-
-pub tab-length : (n : ℕ) (f : ℕ → ℕ) → length (tab n f) ≡ n
-unfolding tab
-tab-length zero f = refl
-tab-length (suc n) f = ap suc (tab-length n (λ j. f (suc j)))
 
 pub tab-assignment : (n : ℕ) (f : ℕ → ℕ) → ((i : ℕ) → f i ≤ 1) → Assignment n (tab n f)
 tab-assignment n f h = assignment-of n (tab n f) (tab-length n f) (λ i l. rw (tab-at n f i l) (h i))

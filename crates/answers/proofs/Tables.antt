@@ -26,7 +26,7 @@ use Rattle.answers.specs.declared.AnswerRow.{AnswerRow}
 use Rattle.answers.specs.Solve.{valid, unsatisfiable, satisfiesTo, unsatRow, pairsTogether, tiesTo, solvedRows, alwaysRecord, neverRecord, solvedRecord, answerRecord}
 use Rattle.answers.proofs.Agreement.{Represents, classes-represent, satisfies-reverse}
 use Rattle.laws.proofs.Bools.{same-test}
-use Rattle.answers.proofs.Agreement.{dec-lt}
+use Rattle.laws.proofs.Numbers.{lt-or-le, power-same, power-pos}
 use Rattle.answers.proofs.Exact.{equals-is}
 use Rattle.answers.proofs.Equations.{table-pairs, rows-pairs, row-pairs, all-pairs}
 use Rattle.answers.proofs.Theorems.{Satisfiable, apart, satisfying-count, free-and-ties, conflict-place, links-before}
@@ -45,17 +45,6 @@ equal-same n f g h =
     fun-ext (λ s. fun-ext (λ t.
     every-same n (λ p. not (f p) || eqb (bitOf p s) (bitOf p t)) (λ p. not (g p) || eqb (bitOf p s) (bitOf p t))
     (λ p a. ap (λ (b : Bool). not b || eqb (bitOf p s) (bitOf p t)) (h p a))))
-
--- powers of 2
-power-pos : (n : ℕ) → 1 ≤ 2 ^ n
-power-pos zero = omega arith
-power-pos (suc n) = omega (arith, power-pos n)
-
-power-same : (a b : ℕ) → 2 ^ a ≡ 2 ^ b → a ≡ b
-power-same zero zero e = refl
-power-same zero (suc b) e = absurd (omega (arith, power-pos b))
-power-same (suc a) zero e = absurd (omega (arith, power-pos a))
-power-same (suc a) (suc b) e = ap suc (power-same a b (omega arith))
 
 pairs-length : (t rs : List Row) → length (pairsIn t rs) ≡ length rs
 unfolding pairsIn
@@ -200,7 +189,7 @@ module _ (table : List ℕ) (accepted : firstFault table ≡ Accepted) where
         every-of n (satisfies t) (count-all-at n (satisfies t) (table-count ∙ ap (λ (x : ℕ). 2 ^ x) b))
 
     never-left : unsatAt n [] es ≡ length es
-    never-left = go (dec-lt (unsatAt n [] es) (length es))
+    never-left = go (lt-or-le (unsatAt n [] es) (length es))
       where
         go : (unsatAt n [] es < length es) ⊎ (length es ≤ unsatAt n [] es) → unsatAt n [] es ≡ length es
         go (inl l) =

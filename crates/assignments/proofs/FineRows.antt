@@ -14,9 +14,9 @@ use Rattle.answers.specs.Classes.{rep, inClass}
 use Rattle.laws.specs.Lists.{tally, member}
 use Rattle.answers.specs.Answer.{begins, variableAt, fixedTo, unfixed, goesOn, placeRow, widened, placed, rowsTo, answerRows, isFresh, freshNumbers}
 use Rattle.answers.specs.declared.AnswerRow.{AnswerRow}
-use Rattle.laws.proofs.Numbers.{dec-eq}
-use Rattle.answers.proofs.Agreement.{Represents, dec-lt}
-use Rattle.laws.proofs.Tallies.{tally-mono}
+use Rattle.answers.proofs.Agreement.{Represents}
+use Rattle.laws.proofs.Numbers.{lt-or-le}
+use Rattle.laws.proofs.Tallies.{tally-mono, tally-up}
 use Rattle.answers.proofs.Slots.{glued}
 use Rattle.answers.proofs.Gluing.{glued-e}
 use Rattle.answers.proofs.GeneralSystems.{widthSum}
@@ -28,18 +28,7 @@ use Rattle.answers.proofs.RowSides.{variable-low}
 use Rattle.assignments.specs.Form.{widthIn, patternBits, rowsFine}
 use Rattle.assignments.proofs.Places.{Sized, placeIn, variable-first, place-first, Next, next-place, place-small}
 use Rattle.assignments.proofs.Turning.{FineBack, fine-rows, bits-reverse, numbers-reverse, number-here, Follows, Differs, Below, Behind, behind-fine}
-
-clash : {A : Type 0} (b : Bool) → b ≡ true → b ≡ false → A
-clash b h k = let z : _≡_ {A = ℕ} 0 1 = cc in absurd (omega arith)
-
-tally-up : (a b : ℕ) (f : ℕ → Bool) → a ≤ b → tally a f ≤ tally b f
-unfolding tally
-tally-up a zero f l = let e : a ≡ 0 = omega arith in rw e (omega arith)
-tally-up a (suc b) f l = go (dec-eq a (suc b)) (λ (q : a ≤ b). tally-up a b f q)
-  where
-    go : (a ≡ suc b) ⊎ (a ≢ suc b) → (a ≤ b → tally a f ≤ tally b f) → tally a f ≤ cond {A = ℕ} (f b) 1 0 + tally b f
-    go (inl e) r = rw e (omega arith)
-    go (inr e) r = omega (arith, r (omega arith))
+use Rattle.laws.proofs.Bools.{clash}
 
 module _ (n : ℕ) (c : List ℕ) (seen : List Pair) (inv : Represents n c seen) (one : rep c 1 ≡ 1) (ws : List ℕ) (begin : begins ws 0 ≡ true) (last : begins ws n ≡ true)
     (sized : Sized ws) (sum : widthSum ws ≡ n) (few : length ws ≤ 64) (short : n ≤ 4096) where
@@ -122,14 +111,14 @@ module _ (n : ℕ) (c : List ℕ) (seen : List Pair) (inv : Represents n c seen)
         go false false = omega arith
 
     loose-begun : isFresh (at j) ≡ true → 2 ≤ C j
-    loose-begun f = go (dec-lt (C j) 2)
+    loose-begun f = go (lt-or-le (C j) 2)
       where
         go : (C j < 2) ⊎ (2 ≤ C j) → 2 ≤ C j
         go (inl q) = clash (isFresh (at j)) f (R .fixed q .0)
         go (inr q) = q
 
     fixed-begun : isFresh (at j) ≡ false → C j < 2
-    fixed-begun f = go (dec-lt (C j) 2)
+    fixed-begun f = go (lt-or-le (C j) 2)
       where
         go : (C j < 2) ⊎ (2 ≤ C j) → C j < 2
         go (inl q) = q
@@ -276,7 +265,7 @@ module _ (n : ℕ) (c : List ℕ) (seen : List Pair) (inv : Represents n c seen)
         other : isFresh (at (suc j)) ≡ false → isFresh row ≡ false → row .variable ≡ at (suc j) .variable → row .kind ≢ at (suc j) .kind
         other f g v k =
             let a : C (suc j) < 2 = fixed-begun (suc j) l (K′ .reaching) f in
-            let b : C j < 2 = low (dec-lt (C j) 2) in
+            let b : C j < 2 = low (lt-or-le (C j) 2) in
             let d : C j ≡ C (suc j) = sym (K .reaching .fixed b .1) ∙ k ∙ K′ .reaching .fixed a .1 in
             clash (goesOn n ws (inClass c) (suc j)) (goes-fixed n c seen inv one ws j a ∙ both (begins ws (suc j)) refl d) h
           where

@@ -17,9 +17,10 @@ use Rattle.terms.proofs.AcceptedTable.{accepted-table}
 use Rattle.terms.proofs.Faults.{kept, kept-width, totals-small}
 use Rattle.terms.proofs.Values.{width-variable}
 use Rattle.answers.specs.Answer.{variableWidths, begins, variableAt}
-use Rattle.answers.proofs.Agreement.{dec-lt}
+use Rattle.laws.proofs.Numbers.{lt-or-le}
 use Rattle.answers.proofs.GeneralSystems.{widthSum}
 use Rattle.answers.proofs.Variables.{begins-first}
+use Rattle.laws.proofs.Bools.{clash}
 
 -- widths of variables: from 1 to 1,024
 abbrev pub Sized : List ℕ → Type 0
@@ -50,25 +51,22 @@ pub record Next (ws : List ℕ) (i : ℕ) : Type 0 where
   pub at-begin : begins ws (suc i) ≡ true → (variableAt ws (suc i) ≡ suc (variableAt ws i)) × (placeIn ws (suc i) ≡ 0)
   pub within : begins ws (suc i) ≡ false → (variableAt ws (suc i) ≡ variableAt ws i) × (placeIn ws (suc i) ≡ suc (placeIn ws i))
 
-clash : {A : Type 0} → true ≡ false → A
-clash h = let z : _≡_ {A = ℕ} 0 1 = cc in absurd (omega arith)
-
 pub next-place : (ws : List ℕ) → Sized ws → (i : ℕ) → suc i < widthSum ws → Next ws i
 unfolding variableAt begins placeIn widthSum
 next-place [] p i l = absurd (omega arith)
-next-place (w ∷ ws) p i l = go (dec-lt (suc i) w) (dec-lt i w) (λ (k : suc (i - w) < widthSum ws). next-place ws (p .2) (i - w) k)
+next-place (w ∷ ws) p i l = go (lt-or-le (suc i) w) (lt-or-le i w) (λ (k : suc (i - w) < widthSum ws). next-place ws (p .2) (i - w) k)
   where
     go : (suc i < w) ⊎ (w ≤ suc i) → (i < w) ⊎ (w ≤ i) → (suc (i - w) < widthSum ws → Next ws (i - w)) → Next (w ∷ ws) i
     go (inl a) b r =
         record {
-          at-begin = rw (lt-ltb (suc i) w a, ne-eqb (suc i) 0 (omega arith)) (λ h. clash (sym h));
+          at-begin = rw (lt-ltb (suc i) w a, ne-eqb (suc i) 0 (omega arith)) (λ h. clash true refl (sym h));
           within = rw (lt-ltb (suc i) w a, lt-ltb i w (omega arith)) (λ h. (refl, refl));
         }
     go (inr a) (inl b) r =
         let e : suc i - w ≡ 0 = omega arith in
         record {
           at-begin = rw (le-ltb (suc i) w a, lt-ltb i w b, e) (λ h. (ap suc (variable-first ws (p .2)), place-first ws));
-          within = rw (le-ltb (suc i) w a, lt-ltb i w b, e, begins-first ws) (λ h. clash h);
+          within = rw (le-ltb (suc i) w a, lt-ltb i w b, e, begins-first ws) (λ h. clash true refl h);
         }
     go (inr a) (inr b) r =
         let e : suc i - w ≡ suc (i - w) = omega arith in
@@ -81,7 +79,7 @@ next-place (w ∷ ws) p i l = go (dec-lt (suc i) w) (dec-lt i w) (λ (k : suc (i
 pub place-small : (ws : List ℕ) → Sized ws → (i : ℕ) → i < widthSum ws → placeIn ws i < 1024
 unfolding placeIn widthSum
 place-small [] p i l = absurd (omega arith)
-place-small (w ∷ ws) p i l = go (dec-lt i w) (λ (k : i - w < widthSum ws). place-small ws (p .2) (i - w) k)
+place-small (w ∷ ws) p i l = go (lt-or-le i w) (λ (k : i - w < widthSum ws). place-small ws (p .2) (i - w) k)
   where
     go : (i < w) ⊎ (w ≤ i) → (i - w < widthSum ws → placeIn ws (i - w) < 1024) → cond (ltb i w) i (placeIn ws (i - w)) < 1024
     go (inl a) r = rw (lt-ltb i w a) (omega (arith, p .1))

@@ -1,25 +1,21 @@
 -- The rows of an answer read last first: what is asked of a row behind those before it.
 use mathlib.Core.Path.{_≡_, refl, sym, ap, _∙_}
 use mathlib.Core.Logic.{_⊎_, inl, inr, _≢_}
-use mathlib.Core.Bool.{Bool, true, false, not, _&&_, _||_, cond}
+use mathlib.Core.Bool.{Bool, true, false, not, _&&_, _||_, cond, or-true}
 use mathlib.Core.List.{List, [], _∷_, _++_, reverse, reverseAux, reverse-cons}
-use Prim.Native.Nat.{ℕ, zero, suc, _+_, _≤_, _<_}
+use Prim.Native.Nat.{ℕ, suc, _+_, _≤_, _<_}
 use native.Mathlib.Omega.{arith}
 use lib.Dec.{eqb, ltb}
-use lib.ListN.{length}
+use lib.ListN.{length, length-reverseAux}
 use borrow.Author.Tests.{eqb-true, eq-eqb, lt-ltb}
-use Rattle.laws.specs.Lists.{least}
 use Rattle.answers.specs.declared.AnswerRow.{AnswerRow}
 use Rattle.answers.specs.Answer.{isFresh, freshNumbers, freshWidth}
-use Rattle.laws.specs.Lists.{member, distinct}
-use Rattle.laws.proofs.Bools.{and-both}
-use Rattle.answers.proofs.Agreement.{dec-lt}
-use Rattle.answers.proofs.Instantiating.{distinct-is}
+use Rattle.laws.specs.Lists.{member}
+use Rattle.laws.proofs.Bools.{and-both, or-shared}
+use Rattle.laws.proofs.Numbers.{lt-or-le}
+use Rattle.laws.proofs.Tallies.{distinct-is, distinct-most}
 use Rattle.assignments.specs.Form.{variableFine, kindFine, widthFine, widthIn, variableWide, patternBits, patternWide, fillFine, neighboursFine, lowestUnseen, freshFine, rowFine, rowsFine}
-
-or-true : (t : Bool) → t || true ≡ true
-or-true true = refl
-or-true false = refl
+use Rattle.laws.proofs.Least.{least-at}
 
 -- Rows that stand last first, each fine behind those before it.
 abbrev pub FineBack : List AnswerRow → Type 0
@@ -53,16 +49,6 @@ in-reverse v xs = in-turned v xs [] ∙ unfold widthIn in omega arith
 
 pub bits-reverse : (xs : List AnswerRow) → patternBits (reverse xs) ≡ patternBits xs
 bits-reverse xs = bits-turned xs [] ∙ unfold patternBits in omega arith
-
-length-turned : (xs ys : List AnswerRow) → length (reverseAux xs ys) ≡ length xs + length ys
-length-turned [] ys = omega arith
-length-turned (x ∷ xs) ys = length-turned xs (x ∷ ys) ∙ omega arith
-
--- a number in rows: a row has it
-or-shared : (a b c : Bool) → (a || b) || c ≡ b || (a || c)
-or-shared true true c = refl
-or-shared true false c = refl
-or-shared false b c = refl
 
 has : ℕ → AnswerRow → Bool
 has k r = isFresh r && eqb k (r .fresh)
@@ -148,24 +134,6 @@ neighbours-fine (s ∷ before) r d =
     go false false true false p q u v = refl
     go false false true true p q u v = absurd (d p q (eqb-true (s .variable) (r .variable) u) (eqb-true (s .kind) (r .kind) v))
 
--- the lowest number that is not among some
-least-at : (f : ℕ → Bool) (k d j : ℕ) → j ≤ d → (j < d → f (k + j) ≡ true) → ((m : ℕ) → k ≤ m → m < k + j → f m ≡ false) → least f k d ≡ k + j
-unfolding least
-least-at f k zero j l h g = omega arith
-least-at f k (suc d) zero l h g = let e : k + 0 ≡ k = omega arith in rw (e, rw e at (h (omega arith)))
-least-at f k (suc d) (suc j) l h g =
-    let e : k + suc j ≡ suc k + j = omega arith in
-    rw (g k (omega arith) (omega arith)) (least-at f (suc k) d j (omega arith) (λ q. ap f (sym e) ∙ h (omega arith)) (λ m a b. g m (omega arith) (omega arith)) ∙ sym e)
-
-distinct-most : (xs : List ℕ) → distinct xs ≤ length xs
-unfolding distinct
-distinct-most [] = omega arith
-distinct-most (x ∷ xs) = go (member x xs) (distinct-most xs)
-  where
-    go : (b : Bool) → distinct xs ≤ length xs → cond {A = ℕ} b 0 1 + distinct xs ≤ suc (length xs)
-    go true l = omega arith
-    go false l = omega arith
-
 numbers-most : (xs : List AnswerRow) → length (freshNumbers xs) ≤ length xs
 unfolding freshNumbers
 numbers-most [] = omega arith
@@ -186,7 +154,7 @@ lowest-unseen m before b =
     least-at (λ k. not (member k (freshNumbers (reverse before)))) 0 (length (reverse before)) m
     (omega (
       arith,
-      length-turned before [],
+      length-reverseAux before [],
       numbers-most before,
       distinct-most (freshNumbers before),
       distinct-is m (freshNumbers before) (b .only) (b .there),
@@ -224,7 +192,7 @@ fill-fine r h = go (isFresh r) refl
 
 fresh-fine : (before : List AnswerRow) (r : AnswerRow) → Behind before r → freshFine (reverse before) r ≡ true
 unfolding freshFine
-fresh-fine before r b = go (isFresh r) refl (dec-lt (r .fresh) (b .seen))
+fresh-fine before r b = go (isFresh r) refl (lt-or-le (r .fresh) (b .seen))
   where
     go : (t : Bool) → isFresh r ≡ t → (r .fresh < b .seen) ⊎ (b .seen ≤ r .fresh)
         → not t || (member (r .fresh) (freshNumbers (reverse before)) && eqb (freshWidth (reverse before) (r .fresh)) (r .width)) || eqb (r .fresh) (lowestUnseen (reverse before)) ≡ true

@@ -12,14 +12,14 @@ use Rattle.terms.specs.declared.Row.{Row}
 use Rattle.terms.specs.Table.{rowAt, byKind, bitsIn, bitsOf}
 use Rattle.answers.specs.Answer.{variableWidths, begins, variableAt}
 use Rattle.laws.specs.Lists.{tally}
-use Rattle.answers.proofs.Agreement.{dec-lt}
+use Rattle.laws.proofs.Numbers.{lt-or-le}
 use Rattle.answers.proofs.GeneralSystems.{widthSum}
 
 -- a list of widths before another
 pub begins-low : (ws vs : List ℕ) (i : ℕ) → i < widthSum ws → begins (ws ++ vs) i ≡ begins ws i
 unfolding begins widthSum
 begins-low [] vs i l = absurd (omega arith)
-begins-low (w ∷ ws) vs i l = go (dec-lt i w) (λ (k : i - w < widthSum ws). begins-low ws vs (i - w) k)
+begins-low (w ∷ ws) vs i l = go (lt-or-le i w) (λ (k : i - w < widthSum ws). begins-low ws vs (i - w) k)
   where
     go : (i < w) ⊎ (w ≤ i) → (i - w < widthSum ws → begins (ws ++ vs) (i - w) ≡ begins ws (i - w))
         → cond (ltb i w) (eqb i 0) (begins (ws ++ vs) (i - w)) ≡ cond (ltb i w) (eqb i 0) (begins ws (i - w))
@@ -110,7 +110,7 @@ variable-zero (w ∷ ws) p = rw (lt-ltb 0 w (p .0))
 variable-more : (ws : List ℕ) → Positive ws → (i : ℕ) → suc i < widthSum ws → variableAt ws (suc i) ≡ cond (begins ws (suc i)) 1 0 + variableAt ws i
 unfolding variableAt begins widthSum
 variable-more [] p i l = absurd (omega arith)
-variable-more (w ∷ ws) p i l = go (dec-lt (suc i) w) (dec-lt i w) (λ (k : suc (i - w) < widthSum ws). variable-more ws (p .1) (i - w) k)
+variable-more (w ∷ ws) p i l = go (lt-or-le (suc i) w) (lt-or-le i w) (λ (k : suc (i - w) < widthSum ws). variable-more ws (p .1) (i - w) k)
   where
     go : (suc i < w) ⊎ (w ≤ suc i) → (i < w) ⊎ (w ≤ i)
         → (suc (i - w) < widthSum ws → variableAt ws (suc (i - w)) ≡ cond (begins ws (suc (i - w))) 1 0 + variableAt ws (i - w))

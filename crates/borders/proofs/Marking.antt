@@ -19,7 +19,7 @@ use Rattle.terms.proofs.Faults.{totals-small}
 use Rattle.terms.proofs.Widths.{bits-more}
 use Rattle.answers.specs.Answer.{variableWidths, begins}
 use Rattle.laws.proofs.Numbers.{dec-eq}
-use Rattle.answers.proofs.Agreement.{dec-lt}
+use Rattle.laws.proofs.Numbers.{lt-or-le}
 use Rattle.answers.proofs.GeneralSystems.{widthSum}
 use Rattle.borders.specs.Borders.{Zeros, MarksBegins}
 use Rattle.borders.proofs.Beginning.{begins-low, begins-high, begins-past, widths-append, widths-sum, begins-row}
@@ -47,7 +47,7 @@ module _ (t : List Row) (r : ℕ) (l : r < length t) (marks : List ℕ) (h : Mar
 
   marked-more : MarkedTo t (suc r) (set marks (bitsOf (take r t)) 1)
   marked-more = record {
-    low = λ i k. rw widths-next (at i (omega (arith, bits-more t r l)) (dec-lt i b) (dec-eq i b));
+    low = λ i k. rw widths-next (at i (omega (arith, bits-more t r l)) (lt-or-le i b) (dec-eq i b));
     high = λ i k. getD-set-other marks b i 1 0 (omega (arith, bits-more t r l)) ∙ h .high i (omega (arith, bits-more t r l));
   }
     where

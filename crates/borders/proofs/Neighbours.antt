@@ -9,12 +9,12 @@ use native.Mathlib.Omega.{arith}
 use lib.Dec.{eqb, ltb}
 use lib.ListN.{getD}
 use borrow.Author.Tests.{eqb-true, eq-eqb, lt-ltb, le-ltb, not-true, ltb-false}
-use Rattle.laws.proofs.Bools.{not-both}
+use Rattle.laws.proofs.Bools.{not-both, open-mark, cond-not, cond-there, even-mark}
 use Rattle.answers.specs.Pairs.{Pair}
 use Rattle.answers.specs.Classes.{rep, inClass}
 use Rattle.answers.specs.Answer.{implies, begins, goesOn}
 use Rattle.laws.proofs.Bools.{and-first, and-second, same-test}
-use Rattle.answers.proofs.Agreement.{dec-lt}
+use Rattle.laws.proofs.Numbers.{lt-or-le}
 use Rattle.laws.proofs.Tallies.{below-of, below-at, implied}
 use Rattle.answers.proofs.Slots.{glued}
 use Rattle.answers.proofs.Gluing.{Glue, glued-e, glued-i}
@@ -40,24 +40,6 @@ module _ (m c : List ℕ) (side r n : ℕ) where
       go k l false e = refl
       go k l true e = eq-eqb (besideIn m c side k) (besideIn m c side (r - 2)) (h k l (eqb-true (rep c (suc (suc k))) r e))
 
--- a number of a mark
-open-mark : (t : Bool) → eqb (cond {A = ℕ} t 1 0) 0 ≡ not t
-open-mark true = refl
-open-mark false = refl
-
-even-mark : (t : Bool) → eqb (cond {A = ℕ} t 0 1) 0 ≡ t
-even-mark true = refl
-even-mark false = refl
-
-turned : (t : Bool) (x : ℕ) → cond (not t) x 0 ≡ cond t 0 x
-turned true x = refl
-turned false x = refl
-
--- a neighbour that is there
-there : (t : Bool) (x y : ℕ) → cond t 0 x ≡ y → 0 < y → (t ≡ false) × (x ≡ y)
-there true x y e l = absurd (omega arith)
-there false x y e l = (refl, e)
-
 module _ (n : ℕ) (ws c : List ℕ) (seen : List Pair) (m after before : List ℕ) (B : Bordered n ws c seen m after before) where
   abbrev C : ℕ → ℕ
   C i = rep c (suc (suc i))
@@ -74,7 +56,7 @@ module _ (n : ℕ) (ws c : List ℕ) (seen : List Pair) (m after before : List �
       let e : k + 1 ≡ suc k = omega arith in
       let f : k + 1 + 1 + 1 ≡ suc (suc (suc k)) = omega arith in
       ap₂ (λ (i j : ℕ). cond (eqb (getD m i 0) 0) (getD c j 0) 0) e f
-      ∙ ap (λ (t : Bool). cond t (C (suc k)) 0) (mark-is (suc k) (omega arith)) ∙ turned (S (suc k)) (C (suc k))
+      ∙ ap (λ (t : Bool). cond t (C (suc k)) 0) (mark-is (suc k) (omega arith)) ∙ cond-not (S (suc k)) (C (suc k))
 
   previous-is : (k : ℕ) → k < n → besideIn m c 0 k ≡ cond (S k) 0 (rep c (suc k))
   unfolding besideIn
@@ -82,15 +64,15 @@ module _ (n : ℕ) (ws c : List ℕ) (seen : List Pair) (m after before : List �
       let e : k + 0 ≡ k = omega arith in
       let f : k + 0 + 0 + 1 ≡ suc k = omega arith in
       ap₂ (λ (i j : ℕ). cond (eqb (getD m i 0) 0) (getD c j 0) 0) e f
-      ∙ ap (λ (t : Bool). cond t (rep c (suc k)) 0) (mark-is k (omega arith)) ∙ turned (S k) (rep c (suc k))
+      ∙ ap (λ (t : Bool). cond t (rep c (suc k)) 0) (mark-is k (omega arith)) ∙ cond-not (S k) (rep c (suc k))
 
   next-open : (k : ℕ) → k < n → S (suc k) ≡ false → besideIn m c 1 k ≡ C (suc k)
   next-open k l h = next-is k l ∙ ap (λ (t : Bool). cond t 0 (C (suc k))) h
 
   next-of : (k y : ℕ) → k < n → besideIn m c 1 k ≡ y → 0 < y → (S (suc k) ≡ false) × (C (suc k) ≡ y)
-  next-of k y l e p = there (S (suc k)) (C (suc k)) y (sym (next-is k l) ∙ e) p
+  next-of k y l e p = cond-there (S (suc k)) (C (suc k)) y (sym (next-is k l) ∙ e) p
 
-  -- the place before one where no variable begins is there
+  -- the place before one where no variable begins is cond-there
   before-place : (k : ℕ) → S k ≡ false → rep c (suc k) ≡ C (pred k)
   before-place zero h = absurd (not-both (B .from) h)
   before-place (suc k) h = refl
@@ -100,7 +82,7 @@ module _ (n : ℕ) (ws c : List ℕ) (seen : List Pair) (m after before : List �
 
   previous-of : (k y : ℕ) → k < n → besideIn m c 0 k ≡ y → 0 < y → (S k ≡ false) × (C (pred k) ≡ y)
   previous-of k y l e p =
-      let g = there (S k) (rep c (suc k)) y (sym (previous-is k l) ∙ e) p in
+      let g = cond-there (S k) (rep c (suc k)) y (sym (previous-is k l) ∙ e) p in
       (g .0, sym (before-place k (g .0)) ∙ g .1)
 
   -- the lowest place of a class
@@ -181,7 +163,7 @@ module _ (n : ℕ) (ws c : List ℕ) (seen : List Pair) (m after before : List �
   pub goes-is : (i : ℕ) → i < n → goesIn m c after before i ≡ goesOn n ws (inClass c) i
   unfolding goesIn
   goes-is zero l = rw (mark-is 0 (omega arith), B .from) (unfold goesOn in refl)
-  goes-is (suc j) l = rw (mark-is (suc j) (omega arith)) (go (dec-lt (C (suc j)) 2))
+  goes-is (suc j) l = rw (mark-is (suc j) (omega arith)) (go (lt-or-le (C (suc j)) 2))
     where
       go : (C (suc j) < 2) ⊎ (2 ≤ C (suc j))
           → not (S (suc j)) && cond (ltb (C (suc j)) 2) (eqb (C j) (C (suc j))) (not (ltb (C j) 2) && eqb (getD after (C j) 0) 0 && eqb (getD before (C (suc j)) 0) 0)

@@ -11,7 +11,7 @@ use lib.ListN.{length, getD, set, length-reverse}
 use lib.Seq.{getD-set-same, getD-set-other}
 use borrow.Author.Tests.{eqb-true, eq-eqb, ne-eqb, lt-ltb, le-ltb, le-leb, lt-leb}
 use Rattle.laws.specs.Buffers.{overwrite}
-use Rattle.laws.proofs.Bools.{not-both}
+use Rattle.laws.proofs.Bools.{not-both, one-most}
 use Rattle.answers.specs.Pairs.{Pair}
 use Rattle.answers.specs.Classes.{rep, inClass}
 use Rattle.laws.specs.Lists.{tally}
@@ -19,22 +19,14 @@ use Rattle.answers.specs.Answer.{begins, variableAt, fixedTo, unfixed, goesOn, 
 use Rattle.answers.specs.declared.AnswerRow.{AnswerRow}
 use Rattle.laws.proofs.Bools.{same-test}
 use Rattle.laws.proofs.Numbers.{dec-eq}
-use Rattle.answers.proofs.Agreement.{dec-lt}
+use Rattle.laws.proofs.Numbers.{lt-or-le}
 use Rattle.answers.proofs.Relation.{fixed-is, unfixed-is, lowest-is}
 use Rattle.borders.specs.declared.Progress.{Progress}
 use Rattle.borders.specs.Borders.{numberIn, stepIn, rowWritten, Bordered, PutsPlaces}
 use Rattle.borders.proofs.Neighbours.{goes-is}
 use Rattle.borders.specs.Borders.{rowOf}
 use Rattle.borders.proofs.RowNumbers.{row-next, row-anew}
-
-one-most : (t : Bool) → cond {A = ℕ} t 1 0 ≤ 1
-one-most true = omega arith
-one-most false = omega arith
-
-tally-most : (n : ℕ) (f : ℕ → Bool) → tally n f ≤ n
-unfolding tally
-tally-most zero f = omega arith
-tally-most (suc n) f = omega (arith, tally-most n f, one-most (f n))
+use Rattle.laws.proofs.Tallies.{tally-most}
 
 placed-new : (r : AnswerRow) (rows : List AnswerRow) → placed false r rows ≡ r ∷ rows
 unfolding placed
@@ -74,7 +66,7 @@ module _ (n : ℕ) (ws c : List ℕ) (seen : List Pair) (m after before : List �
 
   appears-new : on ≡ false → A i ≡ eqb (C i) (suc (suc i))
   unfolding appears
-  appears-new h = rw (h, unfixed-is n c seen (B .classed) (B .apart) ws i) (go (dec-lt (C i) 2))
+  appears-new h = rw (h, unfixed-is n c seen (B .classed) (B .apart) ws i) (go (lt-or-le (C i) 2))
     where
       go : (C i < 2) ⊎ (2 ≤ C i) → eqb (lowest (inClass c) i) i && (leb 2 (C i) && true) ≡ eqb (C i) (suc (suc i))
       go (inl k) = rw (lt-leb 2 (C i) k, ne-eqb (C i) (suc (suc i)) (omega arith)) (and-false (eqb (lowest (inClass c) i) i))
@@ -93,7 +85,7 @@ module _ (n : ℕ) (ws c : List ℕ) (seen : List Pair) (m after before : List �
   number-is : (numbers : List ℕ) → ((j : ℕ) → j < suc i → getD numbers j 0 ≡ tally j (appears n ws (inClass c)))
       → numberIn numbers (C i) ≡ cond (unfixed (inClass c) i) (tally (lowest (inClass c) i) (appears n ws (inClass c))) 0
   unfolding numberIn
-  number-is numbers h = rw (unfixed-is n c seen (B .classed) (B .apart) ws i) (go (dec-lt (C i) 2))
+  number-is numbers h = rw (unfixed-is n c seen (B .classed) (B .apart) ws i) (go (lt-or-le (C i) 2))
     where
       go : (C i < 2) ⊎ (2 ≤ C i) → cond (ltb (C i) 2) 0 (getD numbers (C i - 2) 0) ≡ cond (leb 2 (C i)) (tally (lowest (inClass c) i) A) 0
       go (inl k) = rw (lt-ltb (C i) 2 k, lt-leb 2 (C i) k)

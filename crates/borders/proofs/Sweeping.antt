@@ -1,7 +1,7 @@
 -- The sweep that marks the representatives whose places have different neighbours.
 use mathlib.Core.Path.{_≡_, refl, sym, _∙_}
 use mathlib.Core.Logic.{_⊎_, inl, inr, _≢_}
-use mathlib.Core.Bool.{Bool, true, false, _&&_, cond}
+use mathlib.Core.Bool.{Bool, _&&_, cond}
 use mathlib.Core.List.{List}
 use Prim.Native.Nat.{ℕ, suc, _+_, _-_, _≤_}
 use native.Mathlib.Omega.{arith}
@@ -15,6 +15,7 @@ use Rattle.laws.specs.Lists.{below}
 use Rattle.answers.specs.Answer.{implies}
 use Rattle.laws.proofs.Numbers.{dec-eq}
 use Rattle.borders.specs.Borders.{besideIn, evenAt, MarksUneven, unevenWith}
+use Rattle.laws.proofs.Bools.{mark-next}
 
 -- with k places passed, the marks are those of the first k
 pub record Swept (m c : List ℕ) (side k : ℕ) (u₀ u : List ℕ) : Type 0 where
@@ -24,11 +25,6 @@ pub record Swept (m c : List ℕ) (side k : ℕ) (u₀ u : List ℕ) : Type 0 wh
 pub swept-first : (m c : List ℕ) (side : ℕ) (u : List ℕ) → Swept m c side 0 u u
 unfolding evenAt below
 swept-first m c side u = record { len = refl; marks = λ r l. refl }
-
--- a mark once set stays
-mark-next : (a b : Bool) (x : ℕ) → cond a (cond b x 1) 1 ≡ cond (a && b) x 1
-mark-next true b x = refl
-mark-next false b x = refl
 
 uneven-more : (m c : List ℕ) (side k : ℕ) (u₀ u u′ : List ℕ) → length u ≡ length u₀ → MarksUneven m c side k u₀ u → u′ ≡ unevenWith m c side k u
     → MarksUneven m c side (k + 1) u₀ u′

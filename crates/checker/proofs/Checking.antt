@@ -1,7 +1,7 @@
 -- The one pass of the check: with r rows passed, the widths' buffer has their widths, the totals count them, none of
 -- them breaks a rule, and the lowest fault of the rows left is that of the table.
 use mathlib.Core.Path.{_≡_, refl, sym, _∙_, ap, ap₂}
-use mathlib.Core.Bool.{Bool, true, false, not, _||_, cond}
+use mathlib.Core.Bool.{Bool, true, false, not, _||_, cond, or-true}
 use mathlib.Core.List.{List, [], _∷_}
 use Prim.Native.Nat.{ℕ, suc, _+_, _-_, _%_, _<_, _≤_}
 use native.Mathlib.Omega.{arith}
@@ -19,7 +19,7 @@ use Rattle.terms.specs.Faults.{breaks11, breaks12, breaks13, breaks14, breaks15
 use Rattle.checker.specs.Check.{faultIn, rowsBefore, rowsPassed, rulesIn}
 use Rattle.laws.specs.Buffers.{overwrite}
 use Rattle.terms.proofs.RowKinds.{kind-same}
-use Rattle.laws.proofs.Bools.{or-true, not-both}
+use Rattle.laws.proofs.Bools.{not-both}
 use Rattle.terms.proofs.Rows.{rows-length}
 use Rattle.laws.proofs.Buffers.{overwrite-length, overwrite-read, overwrite-more}
 use Rattle.terms.proofs.Widths.{widths-count, width-row, width-early, widths-more, width-same, bits-more, count-more}

@@ -5,14 +5,16 @@ use mathlib.Core.List.{List}
 use Prim.Native.Nat.{ℕ, _+_, _≤_, _<_, min, max}
 use native.Mathlib.Omega.{arith}
 use lib.ListN.{length, getD, set, length-set, length-map}
-use lib.Seq.{getD-set-same, getD-set-other, ext-getD}
+use lib.Seq.{getD-set-other, ext-getD}
 use borrow.Author.Tests.{eq-eqb, ne-eqb}
 use Rattle.answers.specs.Pairs.{Pair}
 use Rattle.answers.specs.Classes.{rep, relabel, merge}
 use Rattle.laws.proofs.Numbers.{dec-eq}
 use Rattle.answers.proofs.Relabelling.{relabel-miss, hi, lo, next, next-low, next-root, next-lo, next-hi}
-use Rattle.answers.proofs.Agreement.{map-read, relabel-zero}
-use Rattle.answers.proofs.Exact.{relabel-same, map-same}
+use Rattle.laws.proofs.Lists.{map-read, set-cases}
+use Rattle.answers.proofs.Agreement.{relabel-zero}
+use Rattle.answers.proofs.Exact.{relabel-same}
+use Rattle.laws.proofs.Lists.{map-same}
 use Rattle.classes.specs.Links.{Low, pair, linked}
 
 -- a class list: each entry is the lowest source of its class
@@ -41,14 +43,6 @@ pub record Linked (h h′ : List ℕ) (s t r : ℕ) : Type 0 where
 
 pub start : (c : List ℕ) → Canon c → Stands c c
 start c k = record { canon = k; len = refl; low = k .low; keep = k .root; top = λ i e. e }
-
--- a store, at x or elsewhere
-pub set-cases : (h : List ℕ) (x v i : ℕ) → x < length h → ((i ≡ x) × (getD (set h x v) i 0 ≡ v)) ⊎ ((i ≢ x) × (getD (set h x v) i 0 ≡ getD h i 0))
-set-cases h x v i l = go (dec-eq i x)
-  where
-    go : (i ≡ x) ⊎ (i ≢ x) → ((i ≡ x) × (getD (set h x v) i 0 ≡ v)) ⊎ ((i ≢ x) × (getD (set h x v) i 0 ≡ getD h i 0))
-    go (inl e) = inl (e, rw e (getD-set-same h x v 0 l))
-    go (inr e) = inr (e, getD-set-other h x i v 0 e)
 
 pub set-low : (h : List ℕ) (x v : ℕ) → Low h → x < length h → v ≤ x → Low (set h x v)
 set-low h x v k l a i = go (set-cases h x v i l)

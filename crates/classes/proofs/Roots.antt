@@ -10,7 +10,9 @@ use Rattle.laws.specs.Lists.{countUp}
 use Rattle.answers.specs.Classes.{rep, merge}
 use Rattle.laws.proofs.Numbers.{dec-eq}
 use Rattle.answers.proofs.Relabelling.{next}
-use Rattle.answers.proofs.Agreement.{map-read, start-at, start-past, start-length, dec-lt}
+use Rattle.laws.proofs.Lists.{map-read}
+use Rattle.laws.proofs.CountUp.{count-at, count-past, count-up}
+use Rattle.laws.proofs.Numbers.{lt-or-le}
 use Rattle.classes.specs.Links.{Low, climb, rootsOf, RootFound, pair, linked, PairTaken}
 use Rattle.classes.proofs.Links.{Canon, start, Stands, Found, Linked, set-low, link-tie}
 
@@ -50,13 +52,13 @@ module _ (h : List ℕ) (low : Low h) where
 
   root-at : (i : ℕ) → rep (rootsOf h) i ≡ climb i h i
   unfolding rootsOf climb
-  root-at i = map-read (λ j. climb j h j) refl (countUp 0 (length h)) i ∙ go (dec-lt i (length h))
+  root-at i = map-read (λ j. climb j h j) refl (countUp 0 (length h)) i ∙ go (lt-or-le i (length h))
     where
       go : (i < length h) ⊎ (length h ≤ i) → climb (rep (countUp 0 (length h)) i) h (rep (countUp 0 (length h)) i) ≡ climb i h i
       go (inl l) =
-          let z : rep (countUp 0 (length h)) i ≡ i = omega (arith, start-at 0 (length h) i l) in
+          let z : rep (countUp 0 (length h)) i ≡ i = omega (arith, count-at 0 (length h) i l) in
           ap (λ (j : ℕ). climb j h j) z
-      go (inr l) = ap (λ (j : ℕ). climb j h j) (start-past 0 (length h) i l) ∙ sym (out i l)
+      go (inr l) = ap (λ (j : ℕ). climb j h j) (count-past 0 (length h) i l) ∙ sym (out i l)
         where
           out : (k : ℕ) → length h ≤ k → climb k h k ≡ 0
           out zero m = refl
@@ -64,7 +66,7 @@ module _ (h : List ℕ) (low : Low h) where
 
   pub roots-length : length (rootsOf h) ≡ length h
   unfolding rootsOf
-  roots-length = length-map (countUp 0 (length h)) _ ∙ start-length 0 (length h)
+  roots-length = length-map (countUp 0 (length h)) _ ∙ count-up 0 (length h)
 
   -- one step more or less is the same
   climb-more : (n x : ℕ) → climb (suc n) h x ≡ getD h (climb n h x) 0

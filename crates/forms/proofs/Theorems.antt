@@ -17,7 +17,8 @@ use Rattle.terms.proofs.Equations.{IsConcat, IsExtract, equation-1, equation-2,
 use Rattle.terms.proofs.Faults.{kept, kept-bounds, widths-small}
 use Rattle.laws.proofs.Lists.{map-append}
 use Rattle.terms.proofs.Separation.{same-sources}
-use Rattle.terms.proofs.Sources.{count-up, source-length}
+use Rattle.laws.proofs.CountUp.{count-up}
+use Rattle.terms.proofs.Sources.{source-length}
 use Rattle.terms.proofs.Values.{Sound, value-concat, value-extract, width-variable}
 use Rattle.terms.proofs.Words.{extract-join, extract-whole}
 use Rattle.forms.specs.Form.{fill, part, bitsUp, placePieces, pieceOf, meets, merged, add, addAll, group, formFrom, formOf, numbersOf, formWidth, formValue}

@@ -4,7 +4,7 @@ use mathlib.Core.List.{List, [], _∷_, _++_, append-assoc}
 use Prim.Native.Nat.{ℕ, zero, suc, _+_, _<_, _≤_}
 use native.Mathlib.Omega.{arith}
 use native.Mathlib.Numerals.{add-one}
-use lib.ListN.{length, getD, take, drop, set, length-append, length-set}
+use lib.ListN.{length, getD, take, drop, set, length-append, length-set, replicate, length-replicate}
 use lib.Seq.{take-suc, take-all, length-take-le, set-out}
 use Rattle.laws.specs.Buffers.{overwrite, Written, setFour}
 
@@ -120,3 +120,26 @@ four-out buffer at a b c d h =
 pub four-length : (buffer : List ℕ) (at a b c d : ℕ) → length (setFour buffer at a b c d) ≡ length buffer
 unfolding setFour
 four-length buffer at a b c d = simp length-set
+
+pub overwrite-none : (old : List ℕ) → old ≡ overwrite [] old
+unfolding overwrite
+overwrite-none old = refl
+
+pub overwrite-whole : (new old : List ℕ) → length new ≡ length old → overwrite new old ≡ new
+unfolding overwrite
+overwrite-whole [] [] e = refl
+overwrite-whole [] (y ∷ old) e = absurd (omega arith)
+overwrite-whole (x ∷ new) [] e = absurd (omega arith)
+overwrite-whole (x ∷ new) (y ∷ old) e = ap (λ (l : List ℕ). x ∷ l) (overwrite-whole new old (omega arith))
+
+pub zeros-more : (i : ℕ) → _++_ {A = ℕ} (replicate i 0) (0 ∷ []) ≡ replicate (suc i) 0
+zeros-more zero = refl
+zeros-more (suc i) = ap (λ (l : List ℕ). 0 ∷ l) (zeros-more i)
+
+pub clear-more : (work₀ work : List ℕ) (i : ℕ) → work ≡ overwrite (replicate i 0) work₀ → set work i 0 ≡ overwrite (replicate (i + 1) 0) work₀
+clear-more work₀ work i e =
+    ap (λ (w : List ℕ). set w i 0) e ∙ overwrite-more (replicate i 0) work₀ 0 i (length-replicate i 0)
+    ∙ ap (λ (l : List ℕ). overwrite l work₀) (zeros-more i ∙ ap (λ (x : ℕ). replicate x 0) (sym (add-one i)))
+
+pub clear-all : (work₀ work : List ℕ) (i : ℕ) → work ≡ overwrite (replicate i 0) work₀ → i ≡ length work₀ → work ≡ replicate (length work₀) 0
+clear-all work₀ work i e l = e ∙ overwrite-whole (replicate i 0) work₀ (length-replicate i 0 ∙ l) ∙ ap (λ (x : ℕ). replicate x 0) l

@@ -4,3 +4,5 @@ pub mod Buffers
 pub mod Lists
 pub mod Numbers
 pub mod Tallies
+pub mod CountUp
+pub mod Least

@@ -1,14 +1,15 @@
 -- Counting below a bound: tests that hold at every number, at how many they do, and the k-th at which they do.
-use mathlib.Core.Path.{_≡_, refl, sym, ap, _∙_}
+use mathlib.Core.Path.{_≡_, refl, sym, ap, _∙_, ap₂}
 use mathlib.Core.Logic.{_⊎_, inl, inr, _≢_}
 use mathlib.Core.Bool.{Bool, true, false, not, _&&_, _||_, cond, and-false}
-use mathlib.Core.List.{List, [], _∷_}
+use mathlib.Core.List.{List, [], _∷_, _++_}
 use Prim.Native.Nat.{ℕ, zero, suc, _+_, _-_, _≤_, _<_}
 use native.Mathlib.Omega.{arith}
 use lib.Dec.{eqb}
+use lib.ListN.{length}
 use borrow.Author.Tests.{eqb-true, eq-eqb, ne-eqb, not-true}
 use Rattle.laws.specs.Lists.{below, tally, member, distinct}
-use Rattle.laws.proofs.Bools.{and-first, and-second, and-both}
+use Rattle.laws.proofs.Bools.{and-first, and-second, and-both, or-right, or-left}
 use Rattle.laws.proofs.Numbers.{dec-eq}
 
 pub below-of : (n : ℕ) (f : ℕ → Bool) → ((i : ℕ) → i < n → f i ≡ true) → below n f ≡ true
@@ -155,3 +156,106 @@ select-mark (suc n) f k l = go (f n) refl (dec-eq (tally n f) k) (λ (q : k < ta
     go false e d r =
         let w = r (omega (arith, rw e at l)) in
         rw e (omega (arith, w .0), w .1, w .2)
+
+pub member-more : (b : Bool) (x k : ℕ) (l : List ℕ) → member k l ≡ true → member k (cond b (x ∷ l) l) ≡ true
+unfolding member
+member-more false x k l h = h
+member-more true x k l h = or-right (eqb k x) (member k l) h
+
+-- how many different numbers there are in a list that has exactly those below a bound
+pub tally-all : (n : ℕ) → tally n (λ i. true) ≡ n
+unfolding tally
+tally-all zero = refl
+tally-all (suc n) = omega (arith, tally-all n)
+
+pub tally-more : (n x : ℕ) (f : ℕ → Bool) → x < n → tally n (λ k. eqb k x || f k) ≡ cond (f x) 0 1 + tally n f
+unfolding tally
+tally-more zero x f l = absurd (omega arith)
+tally-more (suc n) x f l = go (dec-eq n x) (λ (q : x < n). tally-more n x f q)
+  where
+    apart : (m : ℕ) → m ≤ x → tally m (λ k. eqb k x || f k) ≡ tally m f
+    apart zero q = refl
+    apart (suc m) q = rw (ne-eqb m x (omega arith)) (ap (λ (y : ℕ). cond (f m) 1 0 + y) (apart m (omega arith)))
+
+    go : (n ≡ x) ⊎ (n ≢ x) → (x < n → tally n (λ k. eqb k x || f k) ≡ cond (f x) 0 1 + tally n f)
+        → cond {A = ℕ} (eqb n x || f n) 1 0 + tally n (λ k. eqb k x || f k) ≡ cond {A = ℕ} (f x) 0 1 + (cond {A = ℕ} (f n) 1 0 + tally n f)
+    go (inl e) r = rw (eq-eqb n x e, apart n (omega arith), e) (two (f x))
+      where
+        two : (b : Bool) → 1 + tally x f ≡ cond {A = ℕ} b 0 1 + (cond {A = ℕ} b 1 0 + tally x f)
+        two true = omega arith
+        two false = omega arith
+    go (inr e) r = rw (ne-eqb n x e, r (omega arith)) (omega arith)
+
+pub distinct-tally : (n : ℕ) (xs : List ℕ) → ((x : ℕ) → member x xs ≡ true → x < n) → distinct xs ≡ tally n (λ k. member k xs)
+unfolding distinct member
+distinct-tally n [] h = sym (tally-none n (λ k. false) (λ i l. refl))
+distinct-tally n (x ∷ xs) h =
+    ap (λ (y : ℕ). cond (member x xs) 0 1 + y) (distinct-tally n xs (λ y q. h y (or-right (eqb y x) (member y xs) q)))
+    ∙ sym (tally-more n x (λ k. member k xs) (h x (or-left (eqb x x) (member x xs) (eq-eqb x x refl))))
+
+pub tally-most : (n : ℕ) (f : ℕ → Bool) → tally n f ≤ n
+unfolding tally
+tally-most zero f = omega arith
+tally-most (suc n) f = go (f n) (tally-most n f)
+  where
+    go : (b : Bool) → tally n f ≤ n → cond {A = ℕ} b 1 0 + tally n f ≤ suc n
+    go true l = omega arith
+    go false l = omega arith
+
+pub distinct-is : (n : ℕ) (xs : List ℕ) → ((x : ℕ) → member x xs ≡ true → x < n) → ((k : ℕ) → k < n → member k xs ≡ true) → distinct xs ≡ n
+distinct-is n xs h k =
+    omega (arith, distinct-tally n xs h, tally-most n (λ k. member k xs), pigeon xs n (λ i. true) (λ i. i) (λ i l t. k i l) (λ i j a b s t e. e), tally-all n)
+
+-- a variable has as many places as its width
+pub tally-apart : (w m : ℕ) (f : ℕ → Bool) → tally (w + m) f ≡ tally w f + tally m (λ k. f (w + k))
+unfolding tally
+tally-apart w zero f = let e : w + 0 ≡ w = omega arith in ap (λ (x : ℕ). tally x f) e ∙ omega arith
+tally-apart w (suc m) f = let e : w + suc m ≡ suc (w + m) = omega arith in ap (λ (x : ℕ). tally x f) e ∙ omega (arith, tally-apart w m f)
+
+pub tally-ext : (m : ℕ) (f g : ℕ → Bool) → ((i : ℕ) → i < m → f i ≡ g i) → tally m f ≡ tally m g
+unfolding tally
+tally-ext zero f g h = refl
+tally-ext (suc m) f g h = ap₂ (λ (b : Bool) (x : ℕ). cond b 1 0 + x) (h m (omega arith)) (tally-ext m f g (λ i l. h i (omega arith)))
+
+pub tally-no : (m : ℕ) → tally m (λ k. false) ≡ 0
+unfolding tally
+tally-no zero = refl
+tally-no (suc m) = omega (arith, tally-no m)
+
+-- a tally from its first number on
+pub tally-front : (m : ℕ) (f : ℕ → Bool) → tally (suc m) f ≡ cond {A = ℕ} (f 0) 1 0 + tally m (λ i. f (suc i))
+unfolding tally
+tally-front zero f = refl
+tally-front (suc m) f = omega (arith, tally-front m f)
+
+pub tally-up : (a b : ℕ) (f : ℕ → Bool) → a ≤ b → tally a f ≤ tally b f
+unfolding tally
+tally-up a zero f l = let e : a ≡ 0 = omega arith in rw e (omega arith)
+tally-up a (suc b) f l = go (dec-eq a (suc b)) (λ (q : a ≤ b). tally-up a b f q)
+  where
+    go : (a ≡ suc b) ⊎ (a ≢ suc b) → (a ≤ b → tally a f ≤ tally b f) → tally a f ≤ cond {A = ℕ} (f b) 1 0 + tally b f
+    go (inl e) r = rw e (omega arith)
+    go (inr e) r = omega (arith, r (omega arith))
+
+pub distinct-most : (xs : List ℕ) → distinct xs ≤ length xs
+unfolding distinct
+distinct-most [] = omega arith
+distinct-most (x ∷ xs) = go (member x xs) (distinct-most xs)
+  where
+    go : (b : Bool) → distinct xs ≤ length xs → cond {A = ℕ} b 0 1 + distinct xs ≤ suc (length xs)
+    go true l = omega arith
+    go false l = omega arith
+
+pub member-left : (x : ℕ) (xs ys : List ℕ) → member x xs ≡ true → member x (xs ++ ys) ≡ true
+unfolding member
+member-left x [] ys h = cc
+member-left x (y ∷ xs) ys h = go (eqb x y) h (member-left x xs ys)
+  where
+    go : (t : Bool) → t || member x xs ≡ true → (member x xs ≡ true → member x (xs ++ ys) ≡ true) → t || member x (xs ++ ys) ≡ true
+    go true k on = refl
+    go false k on = on k
+
+pub member-right : (x : ℕ) (xs ys : List ℕ) → member x ys ≡ true → member x (xs ++ ys) ≡ true
+unfolding member
+member-right x [] ys h = h
+member-right x (y ∷ xs) ys h = or-right (eqb x y) (member x (xs ++ ys)) (member-right x xs ys h)

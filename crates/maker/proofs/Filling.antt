@@ -13,7 +13,7 @@ use Rattle.laws.specs.Buffers.{overwrite, Written, Behind}
 use Rattle.laws.proofs.Buffers.{overwrite-length, written-more}
 use Rattle.answers.specs.declared.AnswerRow.{AnswerRow}
 use Rattle.answers.specs.Answer.{isFresh, freshStart, rowBits, bitsOfRows, instantiate}
-use Rattle.answers.proofs.Agreement.{dec-lt}
+use Rattle.laws.proofs.Numbers.{lt-or-le}
 use Rattle.answers.specs.Answer.{answerRowsOf}
 use Rattle.assignments.specs.Form.{patternBits}
 use Rattle.maker.specs.Making.{Shaped, byteIn, bytesIn, WritesRows}
@@ -89,7 +89,7 @@ row-bytes : (rows : List AnswerRow) (starts fresh : List ℕ) (bits free : ℕ) 
     → (j : ℕ) → j < length rows
     → bytesIn fresh (answerRowAt rows j .kind) (getD starts (answerRowAt rows j .fresh) 0) (answerRowAt rows j .width) ≡ rowBits rows fresh (answerRowAt rows j)
 unfolding rowBits
-row-bytes rows starts fresh bits free k n j l = go (dec-lt (answerRowAt rows j .kind) 2)
+row-bytes rows starts fresh bits free k n j l = go (lt-or-le (answerRowAt rows j .kind) 2)
   where
     r : AnswerRow
     r = answerRowAt rows j

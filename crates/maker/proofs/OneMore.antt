@@ -1,5 +1,5 @@
 -- One row more behind the rows of an answer table: what each definition of the form and of the fresh pieces makes of it.
-use mathlib.Core.Path.{_≡_, refl, sym, ap₂}
+use mathlib.Core.Path.{_≡_, refl, ap₂}
 use mathlib.Core.Logic.{_⊎_, inl, inr, _≢_}
 use mathlib.Core.Bool.{Bool, true, false, _&&_, _||_, cond}
 use mathlib.Core.List.{List, [], _∷_, _++_}
@@ -7,21 +7,12 @@ use Prim.Native.Nat.{ℕ, zero, suc, _+_, _≤_, _<_}
 use native.Mathlib.Omega.{arith}
 use lib.Dec.{eqb}
 use lib.ListN.{take}
-use borrow.Author.Tests.{eq-eqb, ne-eqb, le-ltb}
-use Rattle.laws.specs.Lists.{least}
+use borrow.Author.Tests.{le-ltb}
 use Rattle.answers.specs.declared.AnswerRow.{AnswerRow}
 use Rattle.answers.specs.Answer.{isFresh, freshNumbers, freshWidth, freshStart}
 use Rattle.laws.specs.Lists.{member}
-use Rattle.laws.proofs.Numbers.{dec-eq}
+use Rattle.laws.proofs.Numbers.{dec-eq, eqb-turn}
 use Rattle.assignments.specs.Form.{variableFine, neighboursFine, widthIn, patternBits}
-
--- a test of equal numbers, turned round
-pub eqb-turn : (a b : ℕ) → eqb a b ≡ eqb b a
-eqb-turn a b = go (dec-eq a b)
-  where
-    go : (a ≡ b) ⊎ (a ≢ b) → eqb a b ≡ eqb b a
-    go (inl e) = rw (eq-eqb a b e, eq-eqb b a (sym e))
-    go (inr e) = rw (ne-eqb a b e, ne-eqb b a (λ q. e (sym q)))
 
 -- the last row alone counts for variables and neighbours
 pub variable-last : (before : List AnswerRow) (s r : AnswerRow) → variableFine (before ++ (s ∷ [])) r ≡ variableFine (s ∷ []) r
@@ -118,13 +109,3 @@ starts-rise rows k (suc m) l = go (dec-eq k m) (λ (q : k < m). starts-rise rows
     go : (k ≡ m) ⊎ (k ≢ m) → (k < m → freshStart rows k + freshWidth rows k ≤ freshStart rows m) → freshStart rows k + freshWidth rows k ≤ freshStart rows m + freshWidth rows m
     go (inl e) r = rw e (omega arith)
     go (inr e) r = omega (arith, r (omega arith))
-
--- the least number that passes
-pub least-is : (f : ℕ → Bool) (d k m : ℕ) → k ≤ m → m ≤ k + d → f m ≡ true → ((j : ℕ) → j < m → f j ≡ false) → least f k d ≡ m
-unfolding least
-least-is f zero k m a b t h = omega arith
-least-is f (suc d) k m a b t h = go (dec-eq k m) (λ (l : k < m). least-is f d (suc k) m l (omega arith) t h)
-  where
-    go : (k ≡ m) ⊎ (k ≢ m) → (k < m → least f (suc k) d ≡ m) → cond (f k) k (least f (suc k) d) ≡ m
-    go (inl e) r = rw (e, t)
-    go (inr e) r = rw (h k (omega arith)) (r (omega arith))

@@ -11,13 +11,14 @@ use borrow.Author.Tests.{eqb-true, ne-eqb, lt-ltb, le-ltb}
 use Rattle.answers.specs.declared.AnswerRow.{AnswerRow}
 use Rattle.answers.specs.Answer.{isFresh, freshNumbers, freshWidth, freshStart}
 use Rattle.laws.specs.Lists.{member}
-use Rattle.answers.proofs.Agreement.{dec-lt}
+use Rattle.laws.proofs.Numbers.{lt-or-le}
 use Rattle.laws.proofs.Bools.{and-second}
 use Rattle.maker.specs.declared.Progress.{Progress}
 use Rattle.assignments.specs.Form.{variableFine, kindFine, widthFine, widthIn, variableWide, patternBits, patternWide, fillFine, neighboursFine, lowestUnseen, freshFine, rowFine}
 use Rattle.maker.specs.Making.{widthBefore, variableIn, widthsIn, fillIn, freshIn, fineIn}
 use Rattle.answers.specs.Answer.{answerRowAt}
-use Rattle.maker.proofs.OneMore.{neighbours-fresh, least-is}
+use Rattle.maker.proofs.OneMore.{neighbours-fresh}
+use Rattle.laws.proofs.Least.{least-is}
 
 -- A row's fresh piece was seen, with the row's width.
 pub record Piece (before : List AnswerRow) (pieces : ℕ) (r : AnswerRow) : Type 0 where
@@ -105,7 +106,7 @@ module _ (before : List AnswerRow) (p : Progress) (widths starts : List ℕ) (k 
 
     fresh-is : 2 ≤ r .kind → freshFine before r ≡ cond (ltb (r .fresh) (p .pieces)) (eqb (getD widths (r .fresh) 0) (r .width)) (eqb (r .fresh) (p .pieces))
     unfolding freshFine
-    fresh-is l = rw (le-ltb (r .kind) 2 l, lowest-is, k .seen (r .fresh)) (go (dec-lt (r .fresh) (p .pieces)))
+    fresh-is l = rw (le-ltb (r .kind) 2 l, lowest-is, k .seen (r .fresh)) (go (lt-or-le (r .fresh) (p .pieces)))
       where
         or-none : (b : Bool) → b || false ≡ b
         or-none true = refl
@@ -121,7 +122,7 @@ module _ (before : List AnswerRow) (p : Progress) (widths starts : List ℕ) (k 
     last-is : kindFine r && (fillFine r && neighboursFine before r && freshFine before r)
         ≡ cond (ltb (r .kind) 2) (fillIn p r) (freshIn p r (getD widths (r .fresh) 0))
     unfolding kindFine fillFine
-    last-is = go (dec-lt (r .kind) 2)
+    last-is = go (lt-or-le (r .kind) 2)
       where
         go : (r .kind < 2) ⊎ (2 ≤ r .kind)
             → ltb (r .kind) 3 && ((isFresh s || eqb (r .fresh) 0) && neighboursFine before s && freshFine before s) ≡ cond (ltb (r .kind) 2) (fillIn p r) (freshIn p r (getD widths (r .fresh) 0))

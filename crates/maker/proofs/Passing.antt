@@ -1,7 +1,7 @@
 -- A fine row more is passed: the state, the widths and the starts are those of the rows with it.
 use mathlib.Core.Path.{_≡_, refl, sym, ap, _∙_}
 use mathlib.Core.Logic.{_⊎_, inl, inr, _≢_}
-use mathlib.Core.Bool.{Bool, true, false, not, _&&_, _||_, cond, and-false}
+use mathlib.Core.Bool.{Bool, true, false, not, _&&_, _||_, cond, and-false, and-comm}
 use mathlib.Core.List.{List, [], _∷_, _++_}
 use Prim.Native.Nat.{ℕ, suc, _+_, _%_, _≤_, _<_}
 use native.Mathlib.Omega.{arith}
@@ -14,13 +14,14 @@ use Rattle.answers.specs.declared.AnswerRow.{AnswerRow}
 use Rattle.answers.specs.Answer.{isFresh, freshNumbers, freshWidth, freshStart}
 use Rattle.laws.specs.Lists.{member}
 use Rattle.laws.proofs.Numbers.{dec-eq}
-use Rattle.answers.proofs.Agreement.{dec-lt}
-use Rattle.laws.proofs.Bools.{and-first, and-second}
+use Rattle.laws.proofs.Numbers.{lt-or-le}
+use Rattle.laws.proofs.Bools.{and-first, and-second, cond-most, not-and}
 use Rattle.maker.specs.declared.Progress.{Progress}
 use Rattle.assignments.specs.Form.{variableFine, widthIn, neighboursFine}
 use Rattle.maker.specs.Making.{widthBefore, isNew, variableIn, widthsIn, fillIn, freshIn, fineIn, advanced}
 use Rattle.answers.specs.Answer.{answerRowAt, noAnswerRow}
-use Rattle.maker.proofs.OneMore.{eqb-turn, variable-last, neighbours-last, width-more, bits-more, member-more, piece-more, starts-same}
+use Rattle.laws.proofs.Numbers.{eqb-turn}
+use Rattle.maker.proofs.OneMore.{variable-last, neighbours-last, width-more, bits-more, member-more, piece-more, starts-same}
 use Rattle.maker.proofs.Passed.{Piece, Passed}
 
 -- what a fine row's fresh number is: none, one seen with its width, or the lowest unseen
@@ -46,7 +47,7 @@ fine-facts p r w h = record {
   some = ltb-true 0 (r .width) (and-first (ltb 0 (r .width)) (ltb (widthBefore p (r .variable) + r .width) 1025) hb);
   in-variable = omega (arith, ltb-true (widthBefore p (r .variable) + r .width) 1025 (and-second (ltb 0 (r .width)) (ltb (widthBefore p (r .variable) + r .width) 1025) hb));
   in-pattern = omega (arith, ltb-true (p .bits + r .width) 4097 (and-second (ltb 0 (r .width) && ltb (widthBefore p (r .variable) + r .width) 1025) (ltb (p .bits + r .width) 4097) hw));
-  number = numbered (dec-lt (r .kind) 2);
+  number = numbered (lt-or-le (r .kind) 2);
 }
   where
     last : Bool
@@ -76,7 +77,7 @@ fine-facts p r w h = record {
 
     numbered : (r .kind < 2) ⊎ (2 ≤ r .kind) → Number p r w
     numbered (inl l) = none l
-    numbered (inr l) = two (dec-lt (r .fresh) (p .pieces))
+    numbered (inr l) = two (lt-or-le (r .fresh) (p .pieces))
       where
         inner : cond (ltb (r .fresh) (p .pieces)) (eqb w (r .width)) (eqb (r .fresh) (p .pieces)) ≡ true
         inner = and-second (ltb (r .kind) 3) (cond (ltb (r .fresh) (p .pieces)) (eqb w (r .width)) (eqb (r .fresh) (p .pieces))) (rw (le-ltb (r .kind) 2 l) at hl)
@@ -97,21 +98,6 @@ step-of p r w (none l) = kept (unfold isNew in rw (lt-ltb (r .kind) 2 l)) (λ f.
     never e = let z : _≡_ {A = ℕ} 0 1 = cc in omega arith
 step-of p r w (again l c e) = kept (unfold isNew in rw (le-ltb (r .kind) 2 l, ne-eqb (r .fresh) (p .pieces) (omega arith))) (λ f. (c, e))
 step-of p r w (first l e) = opened (unfold isNew in rw (le-ltb (r .kind) 2 l, eq-eqb (r .fresh) (p .pieces) e)) l e
-
--- two tests turned round, denied, and a number under one
-and-turn : (a b : Bool) → a && b ≡ b && a
-and-turn true true = refl
-and-turn true false = refl
-and-turn false true = refl
-and-turn false false = refl
-
-not-and : (a b : Bool) → not a || not b ≡ not (a && b)
-not-and true b = refl
-not-and false b = refl
-
-cond-most : (t : Bool) (n : ℕ) → cond t n 0 ≤ n
-cond-most true n = omega arith
-cond-most false n = omega arith
 
 module _ (before : List AnswerRow) (p : Progress) (widths starts : List ℕ) (k : Passed before p widths starts) (r : AnswerRow)
     (fine : fineIn p r (getD widths (r .fresh) 0) ≡ true) (room : 4096 ≤ length widths) (space : 4096 ≤ length starts) where
@@ -172,11 +158,11 @@ module _ (before : List AnswerRow) (p : Progress) (widths starts : List ℕ) (k 
   unfolding variableFine
   variable-then q =
       variable-last before s q
-      ∙ rw (add-one) (and-turn (eqb (q .variable) (r .variable) || eqb (q .variable) (suc (r .variable))) (ltb (q .variable) 64))
+      ∙ rw (add-one) (and-comm (eqb (q .variable) (r .variable) || eqb (q .variable) (suc (r .variable))) (ltb (q .variable) 64))
 
   neighbours-then : (q : AnswerRow) → q .kind < 2 → neighboursFine after q ≡ not (eqb (q .variable) (r .variable) && eqb (q .kind) (r .kind))
   unfolding neighboursFine
-  neighbours-then q l = neighbours-last before s q ∙ rw (lt-ltb (q .kind) 2 l) (go (dec-lt (r .kind) 2))
+  neighbours-then q l = neighbours-last before s q ∙ rw (lt-ltb (q .kind) 2 l) (go (lt-or-le (r .kind) 2))
     where
       go : (r .kind < 2) ⊎ (2 ≤ r .kind) → isFresh s || not (eqb (r .variable) (q .variable)) || not (eqb (r .kind) (q .kind)) ≡ not (eqb (q .variable) (r .variable) && eqb (q .kind) (r .kind))
       go (inl h) = rw (lt-ltb (r .kind) 2 h, eqb-turn (r .variable) (q .variable), eqb-turn (r .kind) (q .kind)) (not-and (eqb (q .variable) (r .variable)) (eqb (q .kind) (r .kind)))
@@ -208,12 +194,12 @@ module _ (before : List AnswerRow) (p : Progress) (widths starts : List ℕ) (k 
   seen-then j = member-more before s j ∙ rw (k .seen j) (go step)
     where
       in-old : (b : Bool) → isFresh s ≡ b → (b ≡ true → r .fresh < p .pieces) → ltb j (p .pieces) || (b && eqb j (r .fresh)) ≡ ltb j (p .pieces + 0)
-      in-old false e h = two (dec-lt j (p .pieces))
+      in-old false e h = two (lt-or-le j (p .pieces))
         where
           two : (j < p .pieces) ⊎ (p .pieces ≤ j) → ltb j (p .pieces) || false ≡ ltb j (p .pieces + 0)
           two (inl l) = rw (lt-ltb j (p .pieces) l, lt-ltb j (p .pieces + 0) (omega arith))
           two (inr l) = rw (le-ltb j (p .pieces) l, le-ltb j (p .pieces + 0) (omega arith))
-      in-old true e h = two (dec-lt j (p .pieces))
+      in-old true e h = two (lt-or-le j (p .pieces))
         where
           two : (j < p .pieces) ⊎ (p .pieces ≤ j) → ltb j (p .pieces) || eqb j (r .fresh) ≡ ltb j (p .pieces + 0)
           two (inl l) = rw (lt-ltb j (p .pieces) l, lt-ltb j (p .pieces + 0) (omega arith))
@@ -229,7 +215,7 @@ module _ (before : List AnswerRow) (p : Progress) (widths starts : List ℕ) (k 
 
       go : Step p r (getD widths (r .fresh) 0) → ltb j (p .pieces) || (isFresh s && eqb j (r .fresh)) ≡ ltb j (p .pieces + cond (isNew p r) 1 0)
       go (kept e h) = rw e (in-old (isFresh s) refl (λ f. h f .0))
-      go (opened e l c) = rw (e, le-ltb (r .kind) 2 l) (in-new (dec-lt j (p .pieces)) c)
+      go (opened e l c) = rw (e, le-ltb (r .kind) 2 l) (in-new (lt-or-le j (p .pieces)) c)
 
   -- an entry below the new count: an old one, or the one that was stored
   entry : (j : ℕ) → j < p .pieces + cond (isNew p r) 1 0 → (j < p .pieces) ⊎ ((j ≡ p .pieces) × ((2 ≤ r .kind) × (r .fresh ≡ p .pieces)))
@@ -237,7 +223,7 @@ module _ (before : List AnswerRow) (p : Progress) (widths starts : List ℕ) (k 
     where
       go : Step p r (getD widths (r .fresh) 0) → (j < p .pieces) ⊎ ((j ≡ p .pieces) × ((2 ≤ r .kind) × (r .fresh ≡ p .pieces)))
       go (kept e h) = inl (omega (arith, rw e at l))
-      go (opened e a c) = two (dec-lt j (p .pieces))
+      go (opened e a c) = two (lt-or-le j (p .pieces))
         where
           two : (j < p .pieces) ⊎ (p .pieces ≤ j) → (j < p .pieces) ⊎ ((j ≡ p .pieces) × ((2 ≤ r .kind) × (r .fresh ≡ p .pieces)))
           two (inl q) = inl q
@@ -268,7 +254,7 @@ module _ (before : List AnswerRow) (p : Progress) (widths starts : List ℕ) (k 
       go (opened e l c) = unfold freshStart in rw (e, add-one) (omega (arith, old, width-new l c))
 
   pieces-then : (j : ℕ) → j < length after → isFresh (answerRowAt after j) ≡ true → Piece after (p .pieces + cond (isNew p r) 1 0) (answerRowAt after j)
-  pieces-then j l = go (dec-lt j (length before))
+  pieces-then j l = go (lt-or-le j (length before))
     where
       old : j < length before → isFresh (answerRowAt before j) ≡ true → Piece after (p .pieces + cond (isNew p r) 1 0) (answerRowAt before j)
       old q f =

@@ -11,7 +11,7 @@ use lib.Seq.{take-suc, take-all, drop-cons}
 use borrow.Author.Tests.{ltb-true, lt-ltb}
 use Rattle.answers.specs.declared.AnswerRow.{AnswerRow}
 use Rattle.answers.specs.Answer.{freshNumbers, freshPieces, freshStart, freeBits}
-use Rattle.answers.proofs.Instantiating.{distinct-is}
+use Rattle.laws.proofs.Tallies.{distinct-is}
 use Rattle.maker.specs.declared.Progress.{Progress}
 use Rattle.answers.specs.Answer.{answerRowsOf}
 use Rattle.assignments.specs.Form.{rowsFine, hasForm}

@@ -16,7 +16,8 @@ use Rattle.terms.specs.Faults.{absent}
 use Rattle.terms.proofs.AcceptedTable.{Table, accepted-table, term-there}
 use Rattle.laws.proofs.Buffers.{overwrite-fits}
 use Rattle.terms.proofs.Faults.{totals-small}
-use Rattle.terms.proofs.Sources.{value-sources, count-up}
+use Rattle.terms.proofs.Sources.{value-sources}
+use Rattle.laws.proofs.CountUp.{count-up}
 use Rattle.terms.proofs.Values.{Sound}
 use Rattle.forms.specs.declared.Piece.{Piece}
 use Rattle.forms.specs.Form.{formOf, numbersOf}

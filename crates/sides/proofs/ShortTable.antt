@@ -18,7 +18,7 @@ use Rattle.laws.proofs.Numbers.{by-strong}
 use Rattle.terms.proofs.Widths.{width-row, width-early, width-same, widths-count}
 use Rattle.terms.proofs.Faults.{Term, Kept, kept, unbroken, kept-names, concat-names}
 use Rattle.terms.proofs.Values.{Sound, values-count, value-variable, value-constant, value-concat, value-extract, value-equation, width-extract}
-use Rattle.terms.proofs.Sources.{count-up}
+use Rattle.laws.proofs.CountUp.{count-up}
 use Rattle.answers.specs.Pairs.{pairsIn}
 use Rattle.sides.specs.Shortened.{shortened}
 use Rattle.sides.proofs.Alike.{AlikeRow, Alike, alike-kinds, alike-take, alike-bits, alike-count, alike-pairs, same-pairs}

@@ -17,7 +17,7 @@ use Rattle.laws.specs.Buffers.{overwrite}
 use Rattle.terms.specs.Calls.{completed}
 use Rattle.terms.proofs.AcceptedTable.{accepted-table}
 use Rattle.terms.proofs.Faults.{totals-small}
-use Rattle.answers.proofs.Instantiating.{tally-most}
+use Rattle.laws.proofs.Tallies.{tally-most}
 use Rattle.answers.specs.Pairs.{Pair, pairsIn}
 use Rattle.answers.specs.Classes.{inClass}
 use Rattle.answers.specs.declared.AnswerRow.{AnswerRow}

@@ -15,7 +15,8 @@ use Rattle.laws.specs.Lists.{countUp}
 use Rattle.answers.specs.Pairs.{Pair, pairsOf, pairsIn}
 use Rattle.answers.specs.Classes.{rep, relabel, merge, run, runAll, links, conflictAt, linksBefore}
 use Rattle.laws.proofs.Numbers.{dec-eq}
-use Rattle.answers.proofs.Agreement.{relabel-zero, base, start-at, start-length}
+use Rattle.answers.proofs.Agreement.{relabel-zero, base}
+use Rattle.laws.proofs.CountUp.{count-at, count-up}
 use Rattle.classes.specs.Links.{Low, rootsOf, pair, linked, PairTaken}
 use Rattle.classes.proofs.Links.{Canon, canon-merge, merge-len, merge-is}
 use Rattle.classes.proofs.Roots.{roots-settled}
@@ -169,8 +170,8 @@ module _ (t : List Row) where
       record {
         canon = subst Canon (sym s) k;
         low = subst Low (sym e) (base (bitsOf t) .low);
-        one = ap (λ (v : List ℕ). rep v 1) s ∙ start-at 0 (suc (suc (bitsOf t))) 1 (omega arith);
-        len = ap length e ∙ start-length 0 (suc (suc (bitsOf t)));
+        one = ap (λ (v : List ℕ). rep v 1) s ∙ count-at 0 (suc (suc (bitsOf t))) 1 (omega arith);
+        len = ap length e ∙ count-up 0 (suc (suc (bitsOf t)));
         roots-len = ap length (s ∙ sym e);
         stopped = rw s (omega arith);
         joined = rw s (omega arith);

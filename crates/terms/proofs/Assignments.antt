@@ -1,12 +1,13 @@
 -- Assignments are the lists of so many bits; a test over all of them, and how often it holds, say what it says at
 -- each.
 use mathlib.Core.Path.{_≡_, refl, ap, ap₂}
-use mathlib.Core.Bool.{Bool, true, false, _&&_, cond}
+use mathlib.Core.Bool.{Bool, true, false}
 use mathlib.Core.List.{List, [], _∷_}
 use Prim.Native.Nat.{ℕ, zero, suc, _+_, _^_, _<_, _≤_}
 use native.Mathlib.Omega.{arith}
 use lib.ListN.{length, getD}
 use Rattle.terms.specs.Assignments.{Assignment, done, off, on, every, count}
+use Rattle.laws.proofs.Bools.{and-first, and-both, one-most, zero-false, one-true, and-second}
 
 -- An assignment of n bits has n elements.
 pub assignment-length : {n : ℕ} {p : List ℕ} → Assignment n p → length p ≡ n
@@ -33,18 +34,6 @@ assignment-of (suc n) (b ∷ p) e h = go b (h 0 (omega arith)) (assignment-of n 
     go zero l r = off r
     go (suc zero) l r = on r
     go (suc (suc b)) l r = absurd (omega arith)
-
-and-first : (a b : Bool) → a && b ≡ true → a ≡ true
-and-first true b t = refl
-and-first false b t = t
-
-and-second : (a b : Bool) → a && b ≡ true → b ≡ true
-and-second true b t = t
-and-second false b t = cc
-
-and-both : (a b : Bool) → a ≡ true → b ≡ true → a && b ≡ true
-and-both true b s t = t
-and-both false b s t = s
 
 -- What holds at every assignment holds at each.
 pub every-at : (n : ℕ) (f : List ℕ → Bool) → every n f ≡ true → (p : List ℕ) → Assignment n p → f p ≡ true
@@ -84,10 +73,6 @@ count-ext (suc n) f g h =
     ap₂ _+_ (count-ext n (λ p. f (0 ∷ p)) (λ p. g (0 ∷ p)) (λ p q. h (0 ∷ p) (off q)))
     (count-ext n (λ p. f (1 ∷ p)) (λ p. g (1 ∷ p)) (λ p q. h (1 ∷ p) (on q)))
 
-one-most : (b : Bool) → cond {A = ℕ} b 1 0 ≤ 1
-one-most true = omega arith
-one-most false = omega arith
-
 -- There are 2 ^ n assignments of n bits, and no test holds at more.
 pub count-most : (n : ℕ) (f : List ℕ → Bool) → count n f ≤ 2 ^ n
 unfolding count
@@ -100,10 +85,6 @@ unfolding count
 count-none-of zero f h = rw (h [] done)
 count-none-of (suc n) f h =
     omega (arith, count-none-of n (λ p. f (0 ∷ p)) (λ p q. h (0 ∷ p) (off q)), count-none-of n (λ p. f (1 ∷ p)) (λ p q. h (1 ∷ p) (on q)))
-
-zero-false : (b : Bool) → cond {A = ℕ} b 1 0 ≡ 0 → b ≡ false
-zero-false true e = absurd (omega arith)
-zero-false false e = refl
 
 -- A test that is counted 0 times holds at no assignment.
 pub count-none-at : (n : ℕ) (f : List ℕ → Bool) → count n f ≡ 0 → (p : List ℕ) → Assignment n p → f p ≡ false
@@ -118,10 +99,6 @@ unfolding count
 count-all-of zero f h = rw (h [] done)
 count-all-of (suc n) f h =
     omega (arith, count-all-of n (λ p. f (0 ∷ p)) (λ p q. h (0 ∷ p) (off q)), count-all-of n (λ p. f (1 ∷ p)) (λ p q. h (1 ∷ p) (on q)))
-
-one-true : (b : Bool) → cond {A = ℕ} b 1 0 ≡ 1 → b ≡ true
-one-true true e = refl
-one-true false e = absurd (omega arith)
 
 -- A test that is counted 2 ^ n times holds at each assignment.
 pub count-all-at : (n : ℕ) (f : List ℕ → Bool) → count n f ≡ 2 ^ n → (p : List ℕ) → Assignment n p → f p ≡ true

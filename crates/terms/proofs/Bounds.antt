@@ -1,7 +1,7 @@
 -- Where widths and bounds end: a variable of 1 to 1,024 bits is accepted and any other is not, and an extraction from
 -- it may reach up to its highest bit and not past it. Worked cases 7 and 8 of document 01 are instances.
 use mathlib.Core.Path.{_≡_, refl, _∙_}
-use mathlib.Core.Bool.{Bool, true, false, not, _||_, cond}
+use mathlib.Core.Bool.{Bool, true, false, not, _||_, cond, or-true}
 use mathlib.Core.List.{[], _∷_}
 use mathlib.Core.Logic.{_⊎_, inl, inr}
 use Prim.Native.Nat.{ℕ, _+_, _-_, _<_, _≤_}
@@ -12,7 +12,6 @@ use Rattle.terms.specs.declared.Fault.the-variants.{Accepted, Width, Bou
 use Rattle.terms.specs.Table.{rowsOf, byKind, byRows, widthIn, widthsOf, bitsIn, bitsOf, countKind}
 use Rattle.terms.specs.Faults.{breaks11, breaks12, breaks13, breaks14, breaks15, breaks16, breaks17, breaks18, unusedColumn, notTerm, misnamed, outside, wrongWidth, wrongBounds, tooMany, unequalSides, firstRule, rulesAt, faultAt, isAccepted, lowestFault, firstFault}
 use Rattle.terms.specs.Calls.{refusal, faultRecord}
-use Rattle.laws.proofs.Bools.{or-true}
 
 -- A variable of 1 to 1,024 bits is accepted.
 pub variable-accepted : (w : ℕ) → 1 ≤ w → w ≤ 1024 → firstFault (0 ∷ w ∷ 0 ∷ 0 ∷ []) ≡ Accepted

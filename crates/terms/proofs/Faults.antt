@@ -2,7 +2,7 @@
 use mathlib.Core.Path.{_≡_, refl, sym, _∙_, ap}
 use mathlib.Core.Bool.{Bool, true, false, not, _||_}
 use mathlib.Core.List.{List, _∷_}
-use mathlib.Core.Logic.{_⊎_, inl, inr, ⊎-elim}
+use mathlib.Core.Logic.{_⊎_, ⊎-elim}
 use Prim.Native.Nat.{ℕ, zero, suc, _+_, _-_, _<_, _≤_}
 use native.Mathlib.Omega.{arith}
 use lib.Dec.{eqb, ltb}
@@ -15,8 +15,8 @@ use Rattle.terms.specs.Table.{rowAt, byKind, widthIn, widthOf, bitsOf, c
 use Rattle.terms.specs.Faults.{breaks12, breaks13, breaks14, breaks15, breaks16, breaks17, breaks18, notTerm, misnamed, outside, wrongWidth, wrongBounds, tooMany, unequalSides, firstRule, rulesAt, faultAt, isAccepted, lowestFault}
 use Rattle.terms.proofs.RowKinds.{else-kind, KindOf, is-variable, is-constant, is-concat, is-extract, is-equation, kind-of}
 use Rattle.laws.proofs.Bools.{not-both, or-first, or-second}
-use Rattle.laws.proofs.Numbers.{lt-or-le}
 use Rattle.terms.proofs.Widths.{width-row}
+use Rattle.laws.proofs.Numbers.{below-or-at, at-or-after}
 
 -- ---- rules read from the top
 
@@ -151,9 +151,6 @@ module _ (t : List Row) (r : ℕ) (k : Kept t r) where
 abbrev pub Passed : List Row → ℕ → Type 0
 Passed t r = (i : ℕ) → i < r → isAccepted (faultAt t i) ≡ true
 
-below-or-at : (i r : ℕ) → i < suc r → (i < r) ⊎ (i ≡ r)
-below-or-at i r h = ⊎-elim (λ l. inl l) (λ l. inr (omega arith)) (lt-or-le i r)
-
 -- a row that breaks no rule has a width of at most 1,024, where the rows before it have
 width-next : (t : List Row) (r : ℕ) → r < length t → Kept t r → ((i : ℕ) → i < r → widthOf t i ≤ 1024) → widthOf t r ≤ 1024
 unfolding widthIn byKind
@@ -195,9 +192,6 @@ lowest-here t r n h = rw h
 
 is-accepted : (f : Fault) → f ≡ Accepted → isAccepted f ≡ true
 is-accepted f e = ap isAccepted e
-
-at-or-after : (r i : ℕ) → r ≤ i → (i ≡ r) ⊎ (suc r ≤ i)
-at-or-after r i h = ⊎-elim (λ l. inr l) (λ l. inl (omega arith)) (lt-or-le r i)
 
 -- a table without a lowest fault has no row that breaks a rule
 pub passed-from : (t : List Row) (r n : ℕ) → lowestFault t r n ≡ Accepted → (i : ℕ) → r ≤ i → i < r + n → isAccepted (faultAt t i) ≡ true

@@ -1,6 +1,6 @@
--- What it is that an assignment satisfies a table: in each equation both sides have the same value.
+-- What it is that an assignment satisfies a table: in each equation and-parts sides have the same value.
 use mathlib.Core.Path.{_≡_, refl, sym, ap₂}
-use mathlib.Core.Bool.{Bool, true, false, _&&_}
+use mathlib.Core.Bool.{Bool, true}
 use mathlib.Core.List.{List, [], _∷_}
 use Prim.Native.Nat.{ℕ, zero, suc, _<_, _≤_}
 use native.Mathlib.Omega.{arith}
@@ -10,11 +10,7 @@ use borrow.Author.Tests.{eqb-true, eq-eqb}
 use Rattle.terms.specs.declared.Row.{Row}
 use Rattle.terms.specs.Table.{rowAt, valuesOf, valueOf, sameWord, sidesAgree, allRows, satisfies}
 use Rattle.terms.proofs.RowKinds.{each-kind, else-kind}
-use Rattle.laws.proofs.Bools.{not-both}
-
-both : (a b : Bool) → a && b ≡ true → (a ≡ true) × (b ≡ true)
-both true b h = (refl, h)
-both false b h = absurd (not-both h refl)
+use Rattle.laws.proofs.Bools.{not-both, and-parts}
 
 -- Words that are found equal bit for bit are equal.
 pub same-word : (v w : List ℕ) → sameWord v w ≡ true → v ≡ w
@@ -23,7 +19,7 @@ same-word [] [] h = refl
 same-word [] (y ∷ w) h = absurd (not-both h refl)
 same-word (x ∷ v) [] h = absurd (not-both h refl)
 same-word (x ∷ v) (y ∷ w) h =
-    let b = both (eqb x y) (sameWord v w) h in
+    let b = and-parts (eqb x y) (sameWord v w) h in
     ap₂ (λ (z : ℕ) (l : List ℕ). z ∷ l) (eqb-true x y (b .0)) (same-word v w (b .1))
 
 -- A word is found equal to itself bit for bit.
@@ -36,8 +32,8 @@ word-same (x ∷ v) = rw (eq-eqb x x refl) (word-same v)
 all-at : (f : Row → Bool) (t : List Row) → allRows f t ≡ true → (r : ℕ) → r < length t → f (rowAt t r) ≡ true
 unfolding allRows
 all-at f [] h r l = absurd (omega arith)
-all-at f (x ∷ t) h zero l = both (f x) (allRows f t) h .0
-all-at f (x ∷ t) h (suc r) l = all-at f t (both (f x) (allRows f t) h .1) r (omega arith)
+all-at f (x ∷ t) h zero l = and-parts (f x) (allRows f t) h .0
+all-at f (x ∷ t) h (suc r) l = all-at f t (and-parts (f x) (allRows f t) h .1) r (omega arith)
 
 all-of : (f : Row → Bool) (t : List Row) → ((r : ℕ) → r < length t → f (rowAt t r) ≡ true) → allRows f t ≡ true
 unfolding allRows
@@ -56,13 +52,13 @@ agree-of vs r h =
     (λ k. sym (rw (h k) (word-same (getD vs (r .b) [])))))
 
 module _ (t : List Row) (p : List ℕ) where
-  -- In a table that an assignment satisfies both sides of each equation have the same value.
+  -- In a table that an assignment satisfies and-parts sides of each equation have the same value.
   pub satisfies-at : satisfies t p ≡ true → (r : ℕ) → r < length t → 4 ≤ rowAt t r .kind
       → valueOf t p (rowAt t r .a) ≡ valueOf t p (rowAt t r .b)
   unfolding satisfies
   satisfies-at h r l k = agree-at (valuesOf t p) (rowAt t r) k (all-at (sidesAgree (valuesOf t p)) t h r l)
 
-  -- An assignment under which both sides of each equation have the same value satisfies the table.
+  -- An assignment under which and-parts sides of each equation have the same value satisfies the table.
   pub satisfies-of : ((r : ℕ) → r < length t → 4 ≤ rowAt t r .kind → valueOf t p (rowAt t r .a) ≡ valueOf t p (rowAt t r .b))
       → satisfies t p ≡ true
   unfolding satisfies

@@ -2,7 +2,7 @@
 -- the same sources.
 use mathlib.Core.Path.{_≡_, refl, sym, _∙_, ap}
 use mathlib.Core.List.{List, [], _∷_, _++_, map}
-use mathlib.Core.Logic.{_⊎_, inl, inr, ⊎-elim}
+use mathlib.Core.Logic.{_⊎_, ⊎-elim}
 use Prim.Native.Nat.{ℕ, zero, suc, _+_, _-_, _<_, _≤_}
 use native.Mathlib.Omega.{arith}
 use lib.ListN.{length, getD, take, drop, replicate, set, length-replicate, length-set, getD-replicate}
@@ -13,7 +13,7 @@ use Rattle.laws.specs.Lists.{countUp}
 use Rattle.terms.specs.Assignments.{Assignment}
 use Rattle.terms.proofs.Assignments.{assignment-of, assignment-length}
 use Rattle.terms.proofs.RowKinds.{KindOf, is-variable, is-constant, is-concat, is-extract, is-equation, kind-of}
-use Rattle.laws.proofs.Numbers.{by-strong, lt-or-le}
+use Rattle.laws.proofs.Numbers.{by-strong, lt-or-le, dec-eq}
 use Rattle.terms.proofs.Faults.{Kept, kept, kept-names, kept-bit, concat-names, extract-names}
 use Rattle.terms.proofs.Sources.{value-sources}
 use Rattle.terms.proofs.Values.{Sound, value-variable, value-constant, value-concat, value-extract, value-equation}
@@ -95,17 +95,13 @@ marked-there n j h = getD-set-same {A = ℕ} (blank n) j 1 0 (omega (arith, leng
 marked-else : (n j i : ℕ) → (i ≡ j → ⊥) → i < n → getD (marked n j) i 0 ≡ 0
 marked-else n j i d h = getD-set-other {A = ℕ} (blank n) j i 1 0 d ∙ blank-bit n i h
 
-same-or-not : (a b : ℕ) → (a ≡ b) ⊎ (a ≡ b → ⊥)
-same-or-not a b =
-    ⊎-elim (λ l. inr (λ e. omega arith)) (λ m. ⊎-elim (λ l. inr (λ e. omega arith)) (λ k. inl (omega arith)) (lt-or-le b a)) (lt-or-le a b)
-
 zeros : (n : ℕ) → Assignment n (blank n)
 zeros n = assignment-of n (blank n) (length-replicate n 0) (λ i h. omega (arith, blank-bit n i h))
 
 at-place : (n j : ℕ) → j < n → Assignment n (marked n j)
 at-place n j l =
     assignment-of n (marked n j) (length-set (blank n) j 1 ∙ length-replicate n 0)
-    (λ i h. ⊎-elim (λ e. omega (arith, ap (λ (k : ℕ). getD (marked n j) k 0) e, marked-there n j l)) (λ d. omega (arith, marked-else n j i d h)) (same-or-not i j))
+    (λ i h. ⊎-elim (λ e. omega (arith, ap (λ (k : ℕ). getD (marked n j) k 0) e, marked-there n j l)) (λ d. omega (arith, marked-else n j i d h)) (dec-eq i j))
 
 -- two sources that every assignment gives one bit are one
 lower-same : (n x y : ℕ) → x < y → y < n + 2 → ((p : List ℕ) → Assignment n p → bitOf p x ≡ bitOf p y) → ⊥

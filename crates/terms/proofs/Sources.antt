@@ -13,6 +13,7 @@ use Rattle.terms.proofs.Faults.{Kept, kept, kept-names, kept-bit, conca
 use Rattle.terms.proofs.Values.{Sound, value-length, value-variable, value-constant, value-concat, value-extract, value-equation}
 use Rattle.laws.proofs.Lists.{map-append, map-take, map-drop, map-replicate, read-places}
 use Rattle.terms.proofs.Words.{extract-map}
+use Rattle.laws.proofs.CountUp.{count-up}
 
 -- the places of an assignment have its bits
 pub all-places : (p : List ℕ) (n : ℕ) → length p ≡ n → map (bitOf p) (countUp 2 n) ≡ p
@@ -74,11 +75,6 @@ value-sources t p sound whole = by-strong (λ (r : ℕ). r < length t → valueO
             ∙ extract-map (bitOf p) (valueOf t places (row .a)) (row .b) (row .c)
             ∙ ap (map (bitOf p)) (sym (value-extract t places r h k e))
         go (is-equation e) = value-equation t p r h e ∙ ap (map (bitOf p)) (sym (value-equation t places r h e))
-
-pub count-up : (k n : ℕ) → length (countUp k n) ≡ n
-unfolding countUp
-count-up k zero = refl
-count-up k (suc n) = ap suc (count-up (suc k) n)
 
 -- a row of an accepted table has as many sources as it is wide
 pub source-length : (t : List Row) → Sound t → (r : ℕ) → r < length t → length (sourceOf t r) ≡ widthOf t r

@@ -1,6 +1,6 @@
 -- The value call's record and output, for each way in which the call ends.
 use mathlib.Core.Path.{_≡_, sym, _∙_}
-use mathlib.Core.Bool.{true, false}
+use mathlib.Core.Bool.{true, false, or-true}
 use mathlib.Core.List.{List}
 use Prim.Native.Nat.{ℕ, _<_, _≤_}
 use lib.Dec.{eqb}
@@ -13,7 +13,6 @@ use Rattle.terms.specs.Faults.{absent, isAccepted, firstFault}
 use Rattle.terms.specs.Calls.{refusal, completed, faultRecord, stopAt}
 use Rattle.laws.specs.Buffers.{overwrite}
 use Rattle.terms.proofs.AcceptedTable.{fault-numbered}
-use Rattle.laws.proofs.Bools.{or-true}
 use Rattle.laws.specs.Lists.{allBits}
 use Rattle.terms.specs.Value.{wrongPattern, valueRecord, valueAfter}
 

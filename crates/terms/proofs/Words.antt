@@ -1,18 +1,13 @@
 -- The laws of extraction on words, at every width: equations 1 to 5 and 7 of definition 3.2 of document 001, and what
 -- extraction does to a length, to a bit, to a `map` and to a constant. Equation 6 is `append-assoc` of the library.
 use mathlib.Core.Path.{_≡_, sym, _∙_}
-use mathlib.Core.List.{List, [], _∷_, _++_, map}
-use Prim.Native.Nat.{ℕ, zero, suc, _+_, _-_, _<_, _≤_}
+use mathlib.Core.List.{List, _++_, map}
+use Prim.Native.Nat.{ℕ, _+_, _-_, _<_, _≤_}
 use native.Mathlib.Omega.{arith}
 use lib.ListN.{length, getD, take, drop, replicate, length-append, length-take, length-drop, length-map, length-replicate, getD-replicate}
-use lib.Seq.{take-all, take-nil, take-append-le, take-append-add, drop-append-le, drop-append-add, take-add, take-take, drop-drop, getD-take, getD-drop, ext-getD}
+use lib.Seq.{take-all, take-append-le, take-append-add, drop-append-add, take-add, take-take, drop-drop, getD-take, getD-drop, ext-getD}
 use Rattle.terms.specs.Table.{extract}
-use Rattle.laws.proofs.Lists.{map-take, map-drop}
-
-drop-take : (m n : ℕ) (w : List ℕ) → drop m (take (n + m) w) ≡ take n (drop m w)
-drop-take zero n w = let all : n + 0 ≡ n = omega arith in rw all
-drop-take (suc m) n [] = simp take-nil
-drop-take (suc m) n (x ∷ w) = let more : n + suc m ≡ suc (n + m) = omega arith in rw more (drop-take m n w)
+use Rattle.laws.proofs.Lists.{map-take, map-drop, drop-left, drop-take}
 
 -- Bits high down to low of a word are high + 1 - low bits.
 pub extract-length : (w : List ℕ) (high low : ℕ) → low ≤ high → high < length w → length (extract w high low) ≡ high + 1 - low
@@ -31,13 +26,6 @@ unfolding extract
 extract-right s u i j h =
     let from : length (s ++ u) - (i + 1) ≡ length s + (length u - (i + 1)) = omega (arith, length-append s u) in
     rw (from, drop-append-add)
-
--- what is left of two parts from a place in the left part on
-drop-left : (s u : List ℕ) (i : ℕ) → length u ≤ i → i < length s + length u
-    → drop (length (s ++ u) - (i + 1)) (s ++ u) ≡ drop (length s - (i - length u + 1)) s ++ u
-drop-left s u i l h =
-    let from : length (s ++ u) - (i + 1) ≡ length s - (i - length u + 1) = omega (arith, length-append s u) in
-    rw from (drop-append-le (length s - (i - length u + 1)) s u (omega arith))
 
 -- Equation 2: what lies in the left part is extracted from the left part.
 pub extract-left : (s u : List ℕ) (i j : ℕ) → length u ≤ j → j ≤ i → i < length s + length u

@@ -1,7 +1,7 @@
 -- `bad_width` meets its contract: rule 15, kind by kind. Assumes nothing.
+use mathlib.Core.Bool.{or-true}
 use Rattle.terms.specs.Faults.{wrongWidth, outside}
 use Rattle.terms.proofs.RowKinds.{each-kind}
-use Rattle.laws.proofs.Bools.{or-true}
 use mathlib.Core.Path.{refl}
 use native.Mathlib.Omega.{arith}
 use borrow.Author.Tests.{lt-ltb, le-ltb, ne-eqb}

@@ -1,10 +1,10 @@
 -- `unused` meets its contract: rule 13, kind by kind. Assumes nothing.
+use mathlib.Core.Bool.{or-true}
 use mathlib.Core.Path.{refl}
 use native.Mathlib.Omega.{arith}
 use borrow.Author.Tests.{ne-eqb}
 use Rattle.terms.specs.Faults.{unusedColumn}
 use Rattle.terms.proofs.RowKinds.{each-kind}
-use Rattle.laws.proofs.Bools.{or-true}
 use Rattle.checker.proofs.unused.Statement.{statement}
 use Rattle.checker.proofs.unused.Tie as tie
 

@@ -6,7 +6,7 @@ use native.Mathlib.Omega.{arith}
 use lib.ListN.{length, replicate}
 use denote.Ref.{now}
 use Rattle.laws.specs.Buffers.{overwrite}
-use Rattle.solver.proofs.Filling.{overwrite-none, clear-more, clear-all}
+use Rattle.laws.proofs.Buffers.{overwrite-none, clear-more, clear-all}
 use Rattle.solver.proofs.clear.Statement.{statement}
 use Rattle.solver.proofs.clear.Tie as tie
 

@@ -6,7 +6,8 @@ use native.Mathlib.Omega.{arith}
 use lib.ListN.{length}
 use Rattle.laws.specs.Lists.{countUp}
 use Rattle.laws.specs.Buffers.{overwrite}
-use Rattle.solver.proofs.Filling.{overwrite-none, unlink-more, unlink-all}
+use Rattle.laws.proofs.Buffers.{overwrite-none}
+use Rattle.solver.proofs.Filling.{unlink-more, unlink-all}
 use Rattle.solver.proofs.unlink.Statement.{statement}
 use Rattle.solver.proofs.unlink.Tie as tie
 
