@@ -20,7 +20,6 @@ pub mod Variables
 pub mod Together
 pub mod Tables
 pub mod Demands
-pub mod WorkedCases
 pub mod Lent
 pub mod RowSides
 pub mod OurSystem

@@ -7,9 +7,9 @@ use native.Mathlib.Omega.{arith}
 use lib.ListN.{length, take}
 use Rattle.terms.specs.declared.Row.{Row}
 use Rattle.terms.specs.declared.Fault.the-variants.{Accepted}
-use Rattle.terms.specs.Table.{rowsOf, rowAt, byKind, byRows, widthIn, widthsOf, widthOf, bitsIn, bitsOf, countKind, extract, sourcesOf, sourceOf, valueIn, valuesOf, valueOf}
+use Rattle.terms.specs.Table.{rowsOf, rowAt, widthsOf, widthOf, bitsOf, countKind, extract, sourcesOf, sourceOf, valueOf}
 use Rattle.laws.specs.Lists.{countUp}
-use Rattle.terms.specs.Faults.{firstFault, breaks11, lowestFault, faultAt, firstRule, rulesAt, breaks12, breaks13, breaks14, breaks15, breaks16, breaks17, breaks18, unusedColumn, misnamed, notTerm, wrongWidth, outside, wrongBounds, tooMany, unequalSides}
+use Rattle.terms.specs.Faults.{firstFault}
 use Rattle.terms.specs.Assignments.{Assignment}
 use Rattle.terms.proofs.AcceptedTable.{accepted-table, term-present}
 use Rattle.terms.proofs.Assignments.{assignment-length}
@@ -21,7 +21,7 @@ use Rattle.laws.proofs.CountUp.{count-up}
 use Rattle.terms.proofs.Sources.{source-length}
 use Rattle.terms.proofs.Values.{Sound, value-concat, value-extract, width-variable}
 use Rattle.terms.proofs.Words.{extract-join, extract-whole}
-use Rattle.forms.specs.Form.{fill, part, bitsUp, placePieces, pieceOf, meets, merged, add, addAll, group, formFrom, formOf, numbersOf, formWidth, formValue}
+use Rattle.forms.specs.Form.{fill, part, pieceOf, addAll, group, formFrom, formOf, numbersOf, formWidth, formValue}
 use Rattle.forms.specs.Numbered.{Numbered, variablesIn}
 use Rattle.forms.proofs.FormNumbers.{numbers-length}
 use Rattle.forms.proofs.FormValues.{form-value}
@@ -167,11 +167,3 @@ module _ (table : List ℕ) (accepted : firstFault table ≡ Accepted) where
       ∙ extract-join w (widthOf t r - 1) k 0 (omega arith) bx (omega arith)
       ∙ ap (λ (m : ℕ). extract w m 0) top ∙ extract-whole w (omega arith))
       ∙ form-variable r h e
-
--- Worked case 9: a variable of 8, cut 7 to 4 joined with cut 3 to 0, has a normal form of one piece.
-abbrev pub case-9-table : List ℕ
-case-9-table = 0 ∷ 8 ∷ 0 ∷ 0 ∷ 3 ∷ 0 ∷ 7 ∷ 4 ∷ 3 ∷ 0 ∷ 3 ∷ 0 ∷ 2 ∷ 1 ∷ 2 ∷ 0 ∷ []
-
-pub case-9 : (firstFault case-9-table ≡ Accepted) × (formOf (rowsOf case-9-table) 3 ≡ part 0 7 0 ∷ [])
-unfolding firstFault breaks11 lowestFault faultAt firstRule rulesAt breaks12 breaks13 breaks14 breaks15 breaks16 breaks17 breaks18 unusedColumn misnamed notTerm wrongWidth outside wrongBounds tooMany unequalSides rowsOf byKind byRows widthIn widthsOf countKind bitsIn bitsOf formOf formFrom group addAll add meets merged pieceOf placePieces bitsUp sourcesOf valuesOf valueIn extract countUp
-case-9 = (refl, refl)

@@ -1,3 +1,2 @@
-pub mod SheetsSolved
 pub mod RowsHeld
 pub mod LocalArray

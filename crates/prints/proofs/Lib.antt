@@ -2,5 +2,4 @@ pub mod Printing
 pub mod Lines
 pub mod Solving
 pub mod Prints
-pub mod Cases
 pub mod Theorems

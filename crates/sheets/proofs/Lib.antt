@@ -7,7 +7,6 @@ pub mod Decimal
 pub mod Orders
 pub mod Writing
 pub mod Written
-pub mod SheetCases
 pub mod Theorems
 pub mod PrintedText
 pub mod TableRead

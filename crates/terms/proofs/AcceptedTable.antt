@@ -55,17 +55,20 @@ accepted-table numbers e = go (breaks11 numbers) refl e
     go true b f = absurd (not-both (ap isAccepted f) refl)
     go false b f = shaped numbers b (λ r h. passed-from (rowsOf numbers) 0 n f r (omega arith) (omega arith))
 
--- a fault's number is not 0
+-- a fault's number is 11 or more, and not 0
+pub fault-high : (f : Fault) → isAccepted f ≡ false → 11 ≤ faultNumber f
+fault-high Accepted h = absurd (not-both refl h)
+fault-high Shape h = omega arith
+fault-high (Kind r) h = omega arith
+fault-high (Unused r) h = omega arith
+fault-high (Named r) h = omega arith
+fault-high (Width r) h = omega arith
+fault-high (Bounds r) h = omega arith
+fault-high (Count r) h = omega arith
+fault-high (Sides r) h = omega arith
+
 pub fault-numbered : (f : Fault) → isAccepted f ≡ false → eqb (faultNumber f) 0 ≡ false
-fault-numbered Accepted h = absurd (not-both refl h)
-fault-numbered Shape h = refl
-fault-numbered (Kind r) h = refl
-fault-numbered (Unused r) h = refl
-fault-numbered (Named r) h = refl
-fault-numbered (Width r) h = refl
-fault-numbered (Bounds r) h = refl
-fault-numbered (Count r) h = refl
-fault-numbered (Sides r) h = refl
+fault-numbered f h = ne-eqb (faultNumber f) 0 (λ e. omega (arith, e, fault-high f h))
 
 -- a row that is not absent is a term
 pub term-there : (t : List Row) (row : ℕ) → absent t row ≡ false → Term t (length t) row

@@ -1,5 +1,5 @@
 -- Where widths and bounds end: a variable of 1 to 1,024 bits is accepted and any other is not, and an extraction from
--- it may reach up to its highest bit and not past it. Worked cases 7 and 8 of document 01 are instances.
+-- it may reach up to its highest bit and not past it. Assumes nothing.
 use mathlib.Core.Path.{_≡_, refl, _∙_}
 use mathlib.Core.Bool.{Bool, true, false, not, _||_, cond, or-true}
 use mathlib.Core.List.{[], _∷_}
@@ -9,18 +9,17 @@ use native.Mathlib.Omega.{arith}
 use lib.Dec.{ltb}
 use borrow.Author.Tests.{lt-ltb, le-ltb, ne-eqb}
 use Rattle.terms.specs.declared.Fault.the-variants.{Accepted, Width, Bounds}
-use Rattle.terms.specs.Table.{rowsOf, byKind, byRows, widthIn, widthsOf, bitsIn, bitsOf, countKind}
-use Rattle.terms.specs.Faults.{breaks11, breaks12, breaks13, breaks14, breaks15, breaks16, breaks17, breaks18, unusedColumn, notTerm, misnamed, outside, wrongWidth, wrongBounds, tooMany, unequalSides, firstRule, rulesAt, faultAt, isAccepted, lowestFault, firstFault}
-use Rattle.terms.specs.Calls.{refusal, faultRecord}
+use Rattle.terms.specs.Faults.{isAccepted, firstFault}
+use Rattle.terms.proofs.Computed.{faultComputed}
 
 -- A variable of 1 to 1,024 bits is accepted.
 pub variable-accepted : (w : ℕ) → 1 ≤ w → w ≤ 1024 → firstFault (0 ∷ w ∷ 0 ∷ 0 ∷ []) ≡ Accepted
-unfolding rowsOf byKind byRows widthIn widthsOf bitsIn bitsOf countKind breaks11 breaks12 breaks13 breaks14 breaks15 breaks16 breaks17 breaks18 unusedColumn notTerm misnamed outside wrongWidth wrongBounds tooMany unequalSides firstRule rulesAt faultAt lowestFault firstFault
+unfolding faultComputed
 variable-accepted w l h = rw (ne-eqb w 0 (λ e. omega arith), le-ltb 1024 w h, le-ltb 4096 (w + 0) (omega arith))
 
 -- A variable of no bits, or of more than 1,024, is refused at its row for its width.
 pub variable-refused : (w : ℕ) → (w ≡ 0) ⊎ (1024 < w) → firstFault (0 ∷ w ∷ 0 ∷ 0 ∷ []) ≡ Width 0
-unfolding rowsOf byKind byRows widthIn widthsOf bitsIn bitsOf countKind breaks11 breaks12 breaks13 breaks14 breaks15 breaks16 breaks17 breaks18 unusedColumn notTerm misnamed outside wrongWidth wrongBounds tooMany unequalSides firstRule rulesAt faultAt lowestFault firstFault
+unfolding faultComputed
 variable-refused w (inl e) = rw e
 variable-refused w (inr h) = rw (lt-ltb 1024 w h, or-true)
 
@@ -31,7 +30,7 @@ last-row false = refl
 -- an extraction of bits b down to c from a variable: the bounds' test decides
 cut-fault : (w b c : ℕ) → 1 ≤ w → w ≤ 1024
     → firstFault (0 ∷ w ∷ 0 ∷ 0 ∷ 3 ∷ 0 ∷ b ∷ c ∷ []) ≡ cond (not (ltb b w) || ltb b c) (Bounds 1) Accepted
-unfolding rowsOf byKind byRows widthIn widthsOf bitsIn bitsOf countKind breaks11 breaks12 breaks13 breaks14 breaks15 breaks16 breaks17 breaks18 unusedColumn notTerm misnamed outside wrongWidth wrongBounds tooMany unequalSides firstRule rulesAt faultAt lowestFault firstFault
+unfolding faultComputed
 cut-fault w b c l h = rw (ne-eqb w 0 (λ e. omega arith), le-ltb 1024 w h, le-ltb 4096 (w + 0) (omega arith)) (last-row (not (ltb b w) || ltb b c))
 
 -- An extraction from a variable is accepted where its bounds are in order and below the width.
@@ -50,12 +49,3 @@ whole-cut w l h = cut-accepted w (w - 1) 0 l h (omega arith) (omega arith)
 -- An extraction that reaches one bit past a variable's highest is refused at its row for its bounds.
 pub cut-past : (w : ℕ) → 1 ≤ w → w ≤ 1024 → firstFault (0 ∷ w ∷ 0 ∷ 0 ∷ 3 ∷ 0 ∷ w ∷ 0 ∷ []) ≡ Bounds 1
 cut-past w l h = cut-refused w w 0 l h (inl (omega arith))
-
--- Worked case 7: width 1,024 accepted; 1,025 refused 15.
-pub case-7 : (firstFault (0 ∷ 1024 ∷ 0 ∷ 0 ∷ []) ≡ Accepted) × (faultRecord (firstFault (0 ∷ 1025 ∷ 0 ∷ 0 ∷ [])) ≡ refusal 15 0)
-case-7 = (variable-accepted 1024 (omega arith) (omega arith), rw (variable-refused 1025 (inr (omega arith))))
-
--- Worked case 8: cut of a word of 8 at 7 to 0 accepted; at 8 to 0 refused 16.
-pub case-8 : (firstFault (0 ∷ 8 ∷ 0 ∷ 0 ∷ 3 ∷ 0 ∷ 7 ∷ 0 ∷ []) ≡ Accepted)
-    × (faultRecord (firstFault (0 ∷ 8 ∷ 0 ∷ 0 ∷ 3 ∷ 0 ∷ 8 ∷ 0 ∷ [])) ≡ refusal 16 1)
-case-8 = (whole-cut 8 (omega arith) (omega arith), rw (cut-past 8 (omega arith) (omega arith)))

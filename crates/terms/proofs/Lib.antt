@@ -6,6 +6,7 @@ pub mod Words
 pub mod Values
 pub mod Sources
 pub mod Assignments
+pub mod Computed
 pub mod Bounds
 pub mod AcceptedTable
 pub mod Equations

@@ -21,8 +21,8 @@ use Rattle.laws.specs.Lists.{distinct, below, tally, member}
 use Rattle.answers.specs.Solve.{solvedRows, answerRecord, solvedRecord}
 use Rattle.laws.proofs.Tallies.{below-at}
 use Rattle.answers.proofs.Variables.{begins-first}
-use Rattle.cases.specs.Cases.{Solved, Holds, row, times, figures}
-use Rattle.cases.proofs.Holding.{every-fails, met-by-some, solved-case}
+use Rattle.worked.specs.Cases.{Solved, Holds, row, times, figures}
+use Rattle.worked.proofs.Holding.{every-fails, met-by-some, solved-case}
 
 -- a row of variable 0
 abbrev rowOf : ℕ → ℕ → ℕ → AnswerRow

@@ -10,23 +10,32 @@ use lib.Seq.{take-all}
 use borrow.Author.Tests.{le-ltb, lt-ltb, eq-eqb, ne-eqb}
 use Rattle.terms.specs.declared.Fault.the-variants.{Accepted}
 use Rattle.terms.specs.Calls.{faultRecord}
-use Rattle.terms.specs.Faults.{absent, isAccepted, firstFault, breaks11, lowestFault, faultAt, firstRule, rulesAt, breaks12, breaks13, breaks14, breaks15, breaks16, breaks17, breaks18, unusedColumn, misnamed, notTerm, wrongWidth, outside, wrongBounds, tooMany, unequalSides}
-use Rattle.terms.specs.Table.{rowsOf, byKind, byRows, widthIn, widthsOf, bitsIn, bitsOf, countKind, extract, valueIn, valuesOf, sameWord, sidesAgree, allRows, satisfies}
+use Rattle.terms.specs.Faults.{isAccepted, firstFault}
+use Rattle.terms.specs.Table.{rowsOf, extract, sameWord, satisfies}
+use Rattle.terms.specs.Assignments.{every}
+use Rattle.laws.specs.Lists.{least}
 use Rattle.terms.proofs.Assignments.{assignment-length}
+use Rattle.terms.proofs.Computed.{faultComputed, satisfiesComputed}
 use Rattle.terms.proofs.Bounds.{variable-accepted, variable-refused, cut-accepted, cut-refused}
 use Rattle.terms.proofs.Satisfies.{same-word, word-same}
 use Rattle.terms.proofs.Words.{extract-bit, extract-replicate}
 use Rattle.forms.specs.Form.{part, formOf, numbersOf}
 use Rattle.forms.proofs.Theorems.{cut-and-joined}
 use Rattle.answers.specs.Answer.{variableWidths}
-use Rattle.answers.specs.Solve.{alwaysRecord}
-use Rattle.answers.proofs.WorkedCases.{itself, itself-always, fills, fills-never}
-use Rattle.cases.specs.Cases.{Solved, Refused, Form, Holds, row, times, figures}
-use Rattle.cases.proofs.Holding.{met-by-all, solved-case, refused-case, form-case}
-use Rattle.cases.proofs.OneWord.{all-alike, zeros-alone, alike-alone}
+use Rattle.answers.specs.Pairs.{ties, pairsOf, pairsIn}
+use Rattle.answers.specs.Solve.{valid, unsatisfiable, unsatRow, satisfiesTo, tiesTo, pairsTogether, alwaysRecord, neverRecord, answerRecord}
+use Rattle.worked.specs.Cases.{Solved, Refused, Form, Holds, row, times, figures}
+use Rattle.worked.proofs.Holding.{met-by-all, solved-case, refused-case, form-case}
+use Rattle.worked.proofs.OneWord.{all-alike, zeros-alone, alike-alone}
 
--- A variable equal to a fill of zeros; one whose bits but the lowest are equal to its bits but the highest, so that each bit is equal to
--- the next; one that is cut at bit k and joined again.
+-- A variable equal to itself; a fill of zeros equal to one of ones; a variable equal to a fill of zeros; one whose bits but the lowest
+-- are equal to its bits but the highest, so that each bit is equal to the next; one that is cut at bit k and joined again.
+abbrev pub itself : ℕ → List ℕ
+itself w = row 0 w 0 0 ++ row 4 0 0 0
+
+abbrev pub fills : ℕ → List ℕ
+fills w = row 1 0 w 0 ++ row 1 1 w 0 ++ row 4 0 1 0
+
 abbrev pub filled : ℕ → List ℕ
 filled w = row 0 w 0 0 ++ row 1 0 w 0 ++ row 4 0 1 0
 
@@ -36,51 +45,61 @@ chained w = row 0 w 0 0 ++ row 3 0 (w - 1) 1 ++ row 3 0 (w - 2) 0 ++ row 4 1 2 0
 abbrev pub joined : ℕ → ℕ → List ℕ
 joined w k = row 0 w 0 0 ++ row 3 0 (w - 1) k ++ row 3 0 (k - 1) 0 ++ row 2 1 2 0
 
-module _ (w : ℕ) (least : 1 ≤ w) (most : w ≤ 1024) where
+-- Cases 3 and 4: every assignment satisfies the one table, none the other.
+pub itself-always : (w : ℕ) → answerRecord (rowsOf (itself w)) ≡ alwaysRecord w
+unfolding satisfiesComputed
+itself-always w =
+    let bits : w + 0 ≡ w = omega arith in
+    met-by-all (itself w) (λ p. rw (word-same (take w p)) refl) ∙ ap alwaysRecord bits
+
+pub fills-never : (w : ℕ) → 1 ≤ w → answerRecord (rowsOf (fills w)) ≡ neverRecord 0 2
+unfolding answerRecord valid unsatisfiable unsatRow satisfiesTo tiesTo pairsTogether ties pairsIn pairsOf least every sameWord satisfiesComputed
+fills-never zero l = absurd (omega arith)
+fills-never (suc w) l = refl
+
+module _ (w : ℕ) (one : 1 ≤ w) (most : w ≤ 1024) where
   -- these tables break no rule
-  itself-accepted : firstFault (row 0 w 0 0 ++ row 4 0 0 0) ≡ Accepted
-  unfolding rowsOf byKind byRows widthIn widthsOf bitsIn bitsOf countKind breaks11 breaks12 breaks13 breaks14 breaks15 breaks16 breaks17 breaks18 unusedColumn notTerm misnamed outside wrongWidth wrongBounds tooMany unequalSides firstRule rulesAt faultAt lowestFault firstFault
+  itself-accepted : firstFault (itself w) ≡ Accepted
+  unfolding faultComputed
   itself-accepted = rw (ne-eqb w 0 (λ e. omega arith), le-ltb 1024 w most, le-ltb 4096 (w + 0) (omega arith), eq-eqb w w refl)
 
-  fills-accepted : firstFault (row 1 0 w 0 ++ row 1 1 w 0 ++ row 4 0 1 0) ≡ Accepted
-  unfolding rowsOf byKind byRows widthIn widthsOf bitsIn bitsOf countKind breaks11 breaks12 breaks13 breaks14 breaks15 breaks16 breaks17 breaks18 unusedColumn notTerm misnamed outside wrongWidth wrongBounds tooMany unequalSides firstRule rulesAt faultAt lowestFault firstFault
+  fills-accepted : firstFault (fills w) ≡ Accepted
+  unfolding faultComputed
   fills-accepted = rw (ne-eqb w 0 (λ e. omega arith), le-ltb 1024 w most, eq-eqb w w refl)
 
   filled-accepted : firstFault (filled w) ≡ Accepted
-  unfolding rowsOf byKind byRows widthIn widthsOf bitsIn bitsOf countKind breaks11 breaks12 breaks13 breaks14 breaks15 breaks16 breaks17 breaks18 unusedColumn notTerm misnamed outside wrongWidth wrongBounds tooMany unequalSides firstRule rulesAt faultAt lowestFault firstFault
+  unfolding faultComputed
   filled-accepted = rw (ne-eqb w 0 (λ e. omega arith), le-ltb 1024 w most, le-ltb 4096 (w + 0) (omega arith), eq-eqb w w refl)
 
   bits-are : w + 0 ≡ w
   bits-are = omega arith
 
   -- Case 3: a variable equal to itself.
-  pub itself-any : Holds (Solved (row 0 w 0 0 ++ row 4 0 0 0) (figures 0 0 0 w 0 0) [] (2 ^ w))
-  unfolding itself
+  pub itself-any : Holds (Solved (itself w) (figures 0 0 0 w 0 0) [] (2 ^ w))
   itself-any = solved-case (itself w) (figures 0 0 0 w 0 0) itself-accepted (itself-always w) [] refl
 
   -- Case 4: fill 0 equal to fill 1.
-  pub fills-any : Holds (Solved (row 1 0 w 0 ++ row 1 1 w 0 ++ row 4 0 1 0) (figures 1 0 0 0 0 2) [] 0)
-  unfolding fills
-  fills-any = solved-case (fills w) (figures 1 0 0 0 0 2) fills-accepted (fills-never w least) [] refl
+  pub fills-any : Holds (Solved (fills w) (figures 1 0 0 0 0 2) [] 0)
+  fills-any = solved-case (fills w) (figures 1 0 0 0 0 2) fills-accepted (fills-never w one) [] refl
 
   -- Case 7: a variable.
   pub variable-any : Holds (Solved (row 0 w 0 0) (figures 0 0 0 w 0 0) [] (2 ^ w))
-  unfolding rowsOf bitsOf bitsIn byKind satisfies allRows sidesAgree
+  unfolding satisfiesComputed
   variable-any =
-      solved-case (row 0 w 0 0) (figures 0 0 0 w 0 0) (variable-accepted w least most)
+      solved-case (row 0 w 0 0) (figures 0 0 0 w 0 0) (variable-accepted w one most)
       (met-by-all (row 0 w 0 0) (λ p. refl) ∙ ap alwaysRecord bits-are) [] refl
 
   -- A variable equal to a fill of zeros: a pattern's bits against zeros.
   filled-sides : (p : List ℕ) → length p ≡ w → satisfies (rowsOf (filled w)) p ≡ sameWord p (replicate w 0)
-  unfolding rowsOf bitsOf bitsIn byKind satisfies allRows sidesAgree valuesOf byRows valueIn
+  unfolding satisfiesComputed
   filled-sides p e =
       and-true (sameWord (take w p) (replicate w 0))
       ∙ ap (λ (word : List ℕ). sameWord word (replicate w 0)) (take-all w p (omega (arith, e)))
 
   pub filled-any : Holds (Solved (filled w) (figures 2 1 0 0 w 0) (row 0 0 w 0) 1)
-  unfolding rowsOf bitsOf bitsIn byKind variableWidths
+  unfolding satisfiesComputed variableWidths
   filled-any =
-      zeros-alone (filled w) w least filled-accepted bits-are refl
+      zeros-alone (filled w) w one filled-accepted bits-are refl
       (λ p a e i l.
       let zeros : p ≡ replicate w 0 = same-word p (replicate w 0) (sym (filled-sides p (assignment-length a)) ∙ e) in
       ap (λ (word : List ℕ). getD word i 0) zeros ∙ all-alike w 0 i l)
@@ -89,7 +108,7 @@ module _ (w : ℕ) (least : 1 ≤ w) (most : w ≤ 1024) where
   -- A variable with each bit equal to the next: a pattern's bits but the last against its bits but the first.
   module _ (two : 2 ≤ w) where
     chained-accepted : firstFault (chained w) ≡ Accepted
-    unfolding rowsOf byKind byRows widthIn widthsOf bitsIn bitsOf countKind breaks11 breaks12 breaks13 breaks14 breaks15 breaks16 breaks17 breaks18 unusedColumn notTerm misnamed outside wrongWidth wrongBounds tooMany unequalSides firstRule rulesAt faultAt lowestFault firstFault
+    unfolding faultComputed
     chained-accepted =
         let sides : w - 1 + 1 - 1 ≡ w - 2 + 1 - 0 = omega arith in
         rw (
@@ -105,7 +124,7 @@ module _ (w : ℕ) (least : 1 ≤ w) (most : w ≤ 1024) where
 
     chained-sides : (p : List ℕ) → length p ≡ w
         → satisfies (rowsOf (chained w)) p ≡ sameWord (extract p (w - 1) 1) (extract p (w - 2) 0)
-    unfolding rowsOf bitsOf bitsIn byKind satisfies allRows sidesAgree valuesOf byRows valueIn
+    unfolding satisfiesComputed
     chained-sides p e =
         and-true (sameWord (extract (take w p) (w - 1) 1) (extract (take w p) (w - 2) 0))
         ∙ ap (λ (word : List ℕ). sameWord (extract word (w - 1) 1) (extract word (w - 2) 0)) (take-all w p (omega (arith, e)))
@@ -126,9 +145,9 @@ module _ (w : ℕ) (least : 1 ≤ w) (most : w ≤ 1024) where
             ∙ ap (λ (j : ℕ). getD p j 0) a
 
     pub chained-any : Holds (Solved (chained w) (figures 2 w 1 1 (w - 1) 0) (times w (row 0 2 1 0)) 2)
-    unfolding rowsOf bitsOf bitsIn byKind variableWidths
+    unfolding satisfiesComputed variableWidths
     chained-any =
-        alike-alone (chained w) w least chained-accepted bits-are refl two
+        alike-alone (chained w) w one chained-accepted bits-are refl two
         (λ p a e.
         let n = assignment-length a in
         first-bit p n (same-word (extract p (w - 1) 1) (extract p (w - 2) 0) (sym (chained-sides p n) ∙ e)))
@@ -142,20 +161,20 @@ module _ (w : ℕ) (least : 1 ≤ w) (most : w ≤ 1024) where
 
   -- Case 8: a cut of a variable.
   pub cut-any : (b c : ℕ) → c ≤ b → b < w → Holds (Solved (row 0 w 0 0 ++ row 3 0 b c) (figures 0 0 0 w 0 0) [] (2 ^ w))
-  unfolding rowsOf bitsOf bitsIn byKind satisfies allRows sidesAgree
+  unfolding satisfiesComputed
   cut-any b c l m =
-      solved-case (row 0 w 0 0 ++ row 3 0 b c) (figures 0 0 0 w 0 0) (cut-accepted w b c least most l m)
+      solved-case (row 0 w 0 0 ++ row 3 0 b c) (figures 0 0 0 w 0 0) (cut-accepted w b c one most l m)
       (met-by-all (row 0 w 0 0 ++ row 3 0 b c) (λ p. refl) ∙ ap alwaysRecord bits-are) [] refl
 
   pub cut-refused-any : (b c : ℕ) → (w ≤ b) ⊎ (b < c) → Holds (Refused (row 0 w 0 0 ++ row 3 0 b c) (figures 16 0 0 0 0 1))
   cut-refused-any b c h =
-      let e = cut-refused w b c least most h in
-      refused-case (row 0 w 0 0 ++ row 3 0 b c) (figures 16 0 0 0 0 1) (ap isAccepted e) (ap faultRecord e) refl
+      let e = cut-refused w b c one most h in
+      refused-case (row 0 w 0 0 ++ row 3 0 b c) (figures 16 0 0 0 0 1) (ap isAccepted e) (ap faultRecord e)
 
   -- Case 9: a variable cut in two and joined again.
   module _ (k : ℕ) (low : 1 ≤ k) (high : k < w) where
     joined-accepted : firstFault (joined w k) ≡ Accepted
-    unfolding rowsOf byKind byRows widthIn widthsOf bitsIn bitsOf countKind breaks11 breaks12 breaks13 breaks14 breaks15 breaks16 breaks17 breaks18 unusedColumn notTerm misnamed outside wrongWidth wrongBounds tooMany unequalSides firstRule rulesAt faultAt lowestFault firstFault
+    unfolding faultComputed
     joined-accepted =
         let all : w - 1 + 1 - k + (k - 1 + 1 - 0) ≡ w = omega arith in
         rw (
@@ -172,7 +191,7 @@ module _ (w : ℕ) (least : 1 ≤ w) (most : w ≤ 1024) where
         )
 
     pub joined-any : Holds (Form (joined w k) 3 (figures 0 1 0 w 0 0) (row 2 0 (w - 1) 0))
-    unfolding rowsOf byKind byRows widthIn widthsOf countKind absent notTerm numbersOf
+    unfolding faultComputed numbersOf
     joined-any =
         form-case (joined w k) joined-accepted 3 refl (part 0 (w - 1) 0 ∷ []) form w (omega arith)
       where
@@ -189,4 +208,4 @@ module _ (w : ℕ) (least : 1 ≤ w) (most : w ≤ 1024) where
 pub variable-refused-any : (w : ℕ) → (w ≡ 0) ⊎ (1024 < w) → Holds (Refused (row 0 w 0 0) (figures 15 0 0 0 0 0))
 variable-refused-any w h =
     let e = variable-refused w h in
-    refused-case (row 0 w 0 0) (figures 15 0 0 0 0 0) (ap isAccepted e) (ap faultRecord e) refl
+    refused-case (row 0 w 0 0) (figures 15 0 0 0 0 0) (ap isAccepted e) (ap faultRecord e)

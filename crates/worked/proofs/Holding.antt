@@ -7,14 +7,15 @@ use Prim.Native.Nat.{ℕ, _-_, _^_}
 use native.Mathlib.Omega.{arith}
 use lib.Dec.{eqb}
 use lib.ListN.{length}
-use borrow.Author.Tests.{le-ltb}
+use borrow.Author.Tests.{le-ltb, ne-eqb}
 use Rattle.terms.specs.declared.Record.{Record}
 use Rattle.terms.specs.declared.Fault.the-variants.{Accepted}
 use Rattle.terms.specs.Assignments.{Assignment, every, count}
-use Rattle.terms.specs.Calls.{completed, faultRecord, stopAt}
+use Rattle.terms.specs.Calls.{completed, faultNumber, faultRecord, stopAt}
 use Rattle.laws.specs.Buffers.{overwrite}
 use Rattle.terms.specs.Faults.{firstFault, isAccepted, absent}
 use Rattle.terms.specs.Table.{rowsOf, bitsOf, widthOf, satisfies}
+use Rattle.terms.proofs.AcceptedTable.{fault-high}
 use Rattle.terms.proofs.Assignments.{every-at, every-of}
 use Rattle.terms.specs.Value.{valueRecord}
 use Rattle.forms.specs.declared.Piece.{Piece}
@@ -24,10 +25,10 @@ use Rattle.answers.specs.Answer.{answerNumbers, freeBits}
 use Rattle.answers.specs.Solve.{valid, unsatisfiable, alwaysRecord, solvedRecord, solvedRows, answerRecord, solveRecord, answerAfter}
 use Rattle.answers.proofs.Demands.{demand-3, solved-sum}
 use Rattle.answers.proofs.Lent.{call-record}
-use Rattle.cases.specs.Cases.{Solved, Refused, Form, Holds}
+use Rattle.worked.specs.Cases.{Solved, Refused, Form, Holds}
 
 -- what a call leaves: the new numbers for one outcome, else what was there
-written : (b : Bool) (new old : List ℕ) → cond b (overwrite new old) old ≡ overwrite (cond b new []) old
+pub written : (b : Bool) (new old : List ℕ) → cond b (overwrite new old) old ≡ overwrite (cond b new []) old
 unfolding overwrite
 written true new old = refl
 written false new old = refl
@@ -91,17 +92,21 @@ module _ (table : List ℕ) where
     )
 
     -- A refused table: its fault.
-    pub refused-case : isAccepted (firstFault table) ≡ false → faultRecord (firstFault table) ≡ found → eqb (found .outcome) 2 ≡ false
-        → Holds (Refused table found)
+    pub refused-case : isAccepted (firstFault table) ≡ false → faultRecord (firstFault table) ≡ found → Holds (Refused table found)
     unfolding answerAfter solveRecord valueRecord formRecord stopAt overwrite
-    refused-case h is two = (
+    refused-case h is = (
       λ old work room memory.
           let r : solveRecord table (length old) (length work) ≡ found =
           rw (le-ltb (length old) 16384 room, le-ltb (length work) 16384 memory, h) is in
-          (r, rw (r, two) refl),
+          (r, rw (r, not-2) refl),
       λ r pattern room. rw h is,
       λ r room. rw h is,
     )
+      where
+        not-2 : eqb (found .outcome) 2 ≡ false
+        not-2 =
+            ap (λ (r : Record). eqb (r .outcome) 2) (sym is)
+            ∙ ne-eqb (faultNumber (firstFault table)) 2 (λ e. omega (arith, e, fault-high (firstFault table) h))
 
   -- A normal form: the row's pieces and its width.
   pub form-case : firstFault table ≡ Accepted → (r : ℕ) → absent (rowsOf table) r ≡ false

@@ -1,4 +1,0 @@
-pub mod Holding
-pub mod OneWord
-pub mod AnyWidth
-pub mod Worked
