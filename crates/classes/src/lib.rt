@@ -1,27 +1,7 @@
 // Classes of equal bits (document 01, "tied bits") over a lent run of numbers: each source links to a lower one of its class, or to
 // itself. Sources 0 and 1 are the fixed bits, place i is i + 2. Each function takes every input; what it promises of the classes is for
 // links that point down.
-ghost use mathlib.Core.Path.{_≡_};
-ghost use Prim.Native.Nat.{min, max};
 ghost use Rattle.classes.specs.Links.{numberOf, Finds, Takes, Settles};
-
-fn higher(a: u16, b: u16) -> u16
-    ensures { λ r. ⌜ r ≡ max a b ⌝ }
-{
-    if a < b {
-        return b;
-    }
-    a
-}
-
-fn lower(a: u16, b: u16) -> u16
-    ensures { λ r. ⌜ r ≡ min a b ⌝ }
-{
-    if a < b {
-        return a;
-    }
-    b
-}
 
 // The root of a source; each second link on the way is halved. A link to a root stays.
 pub fn find(links: &mut [u16], s: u16) -> u16
@@ -60,11 +40,11 @@ pub fn take_pair(links: &mut [u16], s: u16, t: u16) -> Pairing
     if a == b {
         return Pairing::Nothing;
     }
-    let top = higher(a, b);
+    let top = numbers::higher(a, b);
     if top == 1 {
         return Pairing::Conflict;
     }
-    numbers::store(links, numbers::wide(top), lower(a, b));
+    numbers::store(links, numbers::wide(top), numbers::lower(a, b));
     Pairing::Tie
 }
 

@@ -1,11 +1,12 @@
 // Numbers: read and written where they are there, added and compared within their widths.
 ghost use mathlib.Core.Path.{_≡_};
 ghost use mathlib.Core.Bool.{cond};
-ghost use Prim.Native.Nat.{_+_, _-_, _%_, _≤_, min};
+ghost use Prim.Native.Nat.{_+_, _-_, _%_, _≤_, min, max};
 ghost use lib.Dec.{eqb};
 ghost use lib.ListN.{getD, set};
 ghost use Rattle.laws.specs.Lists.{allBits};
 ghost use Rattle.laws.specs.Buffers.{setFour};
+ghost use lib.ListN.{length, replicate};
 
 // x as an index.
 pub fn wide(x: u16) -> usize
@@ -121,4 +122,41 @@ pub fn store_four(buffer: &mut [u16], at: usize, a: u16, b: u16, c: u16, d: u16)
     store(buffer, at + 1, b);
     store(buffer, at + 2, c);
     store(buffer, at + 3, d);
+}
+
+// The higher of two numbers, and the lower.
+pub fn higher(a: u16, b: u16) -> u16
+    ensures { λ r. ⌜ r ≡ max a b ⌝ }
+{
+    if a < b {
+        return b;
+    }
+    a
+}
+
+pub fn lower(a: u16, b: u16) -> u16
+    ensures { λ r. ⌜ r ≡ min a b ⌝ }
+{
+    if a < b {
+        return a;
+    }
+    b
+}
+
+// x in 32 bits.
+pub fn short(x: usize) -> u32
+    ensures { λ r. ⌜ r ≡ x % 4294967296 ⌝ }
+{
+    (x % 4294967296) as u32
+}
+
+// Sets every number to 0.
+pub fn clear(run: &mut [u16])
+    ensures { λ _. ⌜ now (run .exit) ≡ replicate (length (now (run .entry))) 0 ⌝ }
+{
+    let mut i = 0;
+    while i < run.len() {
+        store(run, i, 0);
+        i += 1;
+    }
 }

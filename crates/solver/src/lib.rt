@@ -3,7 +3,7 @@
 // rows (borders).
 ghost use mathlib.Core.Path.{_≡_};
 ghost use Prim.Native.Nat.{_%_};
-ghost use lib.ListN.{length, replicate};
+ghost use lib.ListN.{length};
 ghost use Rattle.answers.specs.Solve.{solveRecord, answerAfter, workAfter};
 ghost use Rattle.solver.specs.Equations.{TakesEquations};
 ghost use Rattle.solver.specs.Call.{Unlinks, Concludes, AnswersTable, SolvesAccepted};
@@ -55,13 +55,6 @@ fn take_equations(
     Taken { row: r, ties: ties }
 }
 
-// x in 32 bits.
-fn short(x: usize) -> u32
-    ensures { λ r. ⌜ r ≡ x % 4294967296 ⌝ }
-{
-    (x % 4294967296) as u32
-}
-
 // Links each source to itself.
 fn unlink(links: &mut [u16])
     ensures { λ _. ⌜ Unlinks (now (links .entry)) (now (links .exit)) ⌝ }
@@ -69,17 +62,6 @@ fn unlink(links: &mut [u16])
     let mut i = 0;
     while i < links.len() {
         numbers::store(links, i, (i % 65536) as u16);
-        i += 1;
-    }
-}
-
-// Sets every number to 0.
-fn clear(work: &mut [u16])
-    ensures { λ _. ⌜ now (work .exit) ≡ replicate (length (now (work .entry))) 0 ⌝ }
-{
-    let mut i = 0;
-    while i < work.len() {
-        numbers::store(work, i, 0);
         i += 1;
     }
 }
@@ -101,21 +83,21 @@ fn conclude(
             pieces: 0,
             fresh: 0,
             free: 0,
-            ties: short(ties),
-            row: short(row),
+            ties: numbers::short(ties),
+            row: numbers::short(row),
         };
     }
     if ties == 0 {
-        return records::complete(0, short(bits));
+        return records::complete(0, numbers::short(bits));
     }
     classes::settle(links);
     let counts = borders::put_rows(table, links, answer);
     Record {
         outcome: 2,
-        pieces: short(counts.pieces),
-        fresh: short(counts.fresh),
-        free: short(numbers::minus(bits, ties)),
-        ties: short(ties),
+        pieces: numbers::short(counts.pieces),
+        fresh: numbers::short(counts.fresh),
+        free: numbers::short(numbers::minus(bits, ties)),
+        ties: numbers::short(ties),
         row: 0,
     }
 }
@@ -183,6 +165,6 @@ pub fn solve(table: &[u16], answer: &mut [u16], work: &mut [u16]) -> Record
         return records::fault_record(fault);
     }
     let found = solve_accepted(table, &widths[..], answer, work);
-    clear(work);
+    numbers::clear(work);
     found
 }

@@ -8,11 +8,9 @@ use borrow.Author.Needs.{needs}
 use Rattle.checker.proofs.bad_bounds.Statement.{statement}
 use Rattle.checker.proofs.bad_bounds.Tie as tie
 
--- src/lib.rt:221:21
 wide-requires : tie.Need-wide-requires
 wide-requires c κs = search needs
 
--- src/lib.rt:222:13
 returns : tie.Need-returns
 unfolding wrongBounds
 returns c =
@@ -20,7 +18,6 @@ returns c =
     each-kind _ _ (λ h. absurd (omega arith)) (λ h. absurd (omega arith)) (λ h. absurd (omega arith))
     (λ h. rw (le-ltb (row .b) (c .before .before .before .args .width) (omega arith))) (λ h. absurd (omega arith))
 
--- src/lib.rt:225:13
 returns-2 : tie.Need-returns-2
 unfolding wrongBounds
 returns-2 c =
@@ -28,7 +25,6 @@ returns-2 c =
     each-kind _ _ (λ h. absurd (omega arith)) (λ h. absurd (omega arith)) (λ h. absurd (omega arith))
     (λ h. rw (lt-ltb (row .b) (c .before .before .before .before .args .width) (omega arith), lt-ltb (row .b) (row .c) (omega arith))) (λ h. absurd (omega arith))
 
--- src/lib.rt:214:1
 returns-3 : tie.Need-returns-3
 unfolding wrongBounds
 returns-3 c =
@@ -36,7 +32,6 @@ returns-3 c =
     each-kind _ _ (λ h. refl) (λ h. refl) (λ h. refl)
     (λ h. rw (lt-ltb (row .b) (c .before .before .before .before .args .width) (omega arith), le-ltb (row .b) (row .c) (omega arith))) (λ h. refl)
 
--- src/lib.rt:214:1
 returns-4 : tie.Need-returns-4
 unfolding wrongBounds
 returns-4 c = each-kind _ _ (λ h. refl) (λ h. refl) (λ h. refl) (λ h. absurd (omega arith)) (λ h. refl)

@@ -7,19 +7,16 @@ use borrow.Author.Tests.{eq-eqb, ne-eqb}
 use Rattle.checker.proofs.bad_sides.Statement.{statement}
 use Rattle.checker.proofs.bad_sides.Tie as tie
 
--- src/lib.rt:253:9
 returns : tie.Need-returns
 unfolding unequalSides
 returns c = each-kind _ _ (λ h. refl) (λ h. refl) (λ h. refl) (λ h. refl) (λ h. absurd (omega arith))
 
--- src/lib.rt:256:9
 returns-2 : tie.Need-returns-2
 unfolding unequalSides
 returns-2 c =
     each-kind _ _ (λ h. absurd (omega arith)) (λ h. absurd (omega arith)) (λ h. absurd (omega arith)) (λ h. absurd (omega arith))
     (λ h. rw (ne-eqb _ _ (c .if2 .taken)))
 
--- src/lib.rt:248:1
 returns-3 : tie.Need-returns-3
 unfolding unequalSides
 returns-3 c = each-kind _ _ (λ h. refl) (λ h. refl) (λ h. refl) (λ h. refl) (λ h. rw (eq-eqb _ _ (c .if2 .left)))

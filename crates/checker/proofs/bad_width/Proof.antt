@@ -8,31 +8,26 @@ use borrow.Author.Tests.{lt-ltb, le-ltb, ne-eqb}
 use Rattle.checker.proofs.bad_width.Statement.{statement}
 use Rattle.checker.proofs.bad_width.Tie as tie
 
--- src/lib.rt:197:9
 returns : tie.Need-returns
 unfolding wrongWidth
 returns c = each-kind _ _ (λ h. absurd (omega arith)) (λ h. absurd (omega arith)) (λ h. absurd (omega arith)) (λ h. refl) (λ h. refl)
 
--- src/lib.rt:200:9
 returns-2 : tie.Need-returns-2
 unfolding wrongWidth outside
 returns-2 c =
     let z = c .if2 .taken in
     each-kind _ _ (λ h. rw z) (λ h. rw z) (λ h. rw z) (λ h. absurd (omega arith)) (λ h. absurd (omega arith))
 
--- src/lib.rt:203:9
 returns-3 : tie.Need-returns-3
 unfolding wrongWidth outside
 returns-3 c =
     let z = lt-ltb _ _ (c .if3 .taken) in
     each-kind _ _ (λ h. rw (z, or-true)) (λ h. rw (z, or-true)) (λ h. rw (z, or-true)) (λ h. absurd (omega arith)) (λ h. absurd (omega arith))
 
--- src/lib.rt:207:13
 returns-4 : tie.Need-returns-4
 unfolding wrongWidth
 returns-4 c = each-kind _ _ (λ h. absurd (omega arith)) (λ h. rw (lt-ltb _ _ (c .if5 .taken), or-true)) (λ h. absurd (omega arith)) (λ h. absurd (omega arith)) (λ h. absurd (omega arith))
 
--- src/lib.rt:191:1
 returns-5 : tie.Need-returns-5
 unfolding wrongWidth outside
 returns-5 c =
@@ -40,7 +35,6 @@ returns-5 c =
     let m = le-ltb _ _ (c .before .before .if3 .left) in
     each-kind _ _ (λ h. rw (z, m)) (λ h. rw (z, m, le-ltb _ _ (c .if5 .left))) (λ h. rw (z, m)) (λ h. refl) (λ h. refl)
 
--- src/lib.rt:191:1
 returns-6 : tie.Need-returns-6
 unfolding wrongWidth outside
 returns-6 c =

@@ -8,16 +8,13 @@ use borrow.Author.Needs.{needs}
 use Rattle.checker.proofs.not_term.Statement.{statement}
 use Rattle.checker.proofs.not_term.Tie as tie
 
--- src/lib.rt:183:9
 returns : tie.Need-returns
 unfolding notTerm
 returns c = rw (le-ltb _ _ (c .if1 .taken))
 
--- src/lib.rt:185:9
 row-at-requires : tie.Need-row-at-requires
 row-at-requires c κs = search needs
 
--- src/lib.rt:188:9
 returns-2 : tie.Need-returns-2
 unfolding notTerm
 returns-2 c =
@@ -25,7 +22,6 @@ returns-2 c =
     let e : rowAt (rowsOf (now (a .table))) (a .x) .kind ≡ 4 = ap (λ row. row .kind) (sym (c .before .row-at .ensures)) ∙ c .if2 .taken in
     rw (lt-ltb (a .x) (a .r) (c .before .before .if1 .left), e)
 
--- src/lib.rt:179:1
 returns-3 : tie.Need-returns-3
 unfolding notTerm
 returns-3 c =

@@ -7,15 +7,12 @@ use borrow.Author.Needs.{needs}
 use Rattle.checker.proofs.row_bits.Statement.{statement}
 use Rattle.checker.proofs.row_bits.Tie as tie
 
--- src/lib.rt:315:13
 wide-requires : tie.Need-wide-requires
 wide-requires c κs = search needs
 
--- src/lib.rt:316:16
 cast-result : tie.Need-cast-result
 cast-result c = search needs
 
--- src/lib.rt:316:9
 returns : tie.Need-returns
 unfolding bitsIn
 returns c = (
@@ -24,7 +21,6 @@ returns c = (
   omega arith,
 )
 
--- src/lib.rt:310:1
 returns-2 : tie.Need-returns-2
 unfolding bitsIn
 returns-2 c = (each-kind _ _ (λ h. absurd (omega arith)) (λ h. refl) (λ h. refl) (λ h. refl) (λ h. refl), omega arith)

@@ -9,64 +9,50 @@ use borrow.Author.Needs.{needs}
 use Rattle.checker.proofs.row_width.Statement.{statement}
 use Rattle.checker.proofs.row_width.Tie as tie
 
--- src/lib.rt:171:9
 wide-requires : tie.Need-wide-requires
 wide-requires c κs = search needs
 
--- src/lib.rt:171:9
 returns : tie.Need-returns
 unfolding widthIn
 returns c = (each-kind _ _ (λ h. c .wide .ensures .0) (λ h. absurd (omega arith)) (λ h. absurd (omega arith)) (λ h. absurd (omega arith)) (λ h. absurd (omega arith)), omega arith)
 
--- src/lib.rt:174:9
 wide-requires-2 : tie.Need-wide-requires-2
 wide-requires-2 c κs = search needs
 
--- src/lib.rt:174:9
 returns-2 : tie.Need-returns-2
 unfolding widthIn
 returns-2 c = (each-kind _ _ (λ h. absurd (omega arith)) (λ h. c .wide2 .ensures .0) (λ h. absurd (omega arith)) (λ h. absurd (omega arith)) (λ h. absurd (omega arith)), omega arith)
 
--- src/lib.rt:177:16
 width-at-requires : tie.Need-width-at-requires
 width-at-requires c κs = search needs
 
--- src/lib.rt:177:42
 width-at-requires-2 : tie.Need-width-at-requires-2
 width-at-requires-2 c κs = search needs
 
--- src/lib.rt:177:16
 add-result : tie.Need-add-result
 add-result c = search needs
 
--- src/lib.rt:177:9
 returns-3 : tie.Need-returns-3
 unfolding widthIn
 returns-3 c = (each-kind _ _ (λ h. absurd (omega arith)) (λ h. absurd (omega arith)) (λ h. ap₂ _+_ (c .before .width-at .ensures .0) (c .width-at2 .ensures .0)) (λ h. absurd (omega arith)) (λ h. absurd (omega arith)), omega arith)
 
--- src/lib.rt:180:13
 wide-requires-3 : tie.Need-wide-requires-3
 wide-requires-3 c κs = search needs
 
--- src/lib.rt:181:13
 wide-requires-4 : tie.Need-wide-requires-4
 wide-requires-4 c κs = search needs
 
--- src/lib.rt:183:20
 add-result-2 : tie.Need-add-result-2
 add-result-2 c = search needs
 
--- src/lib.rt:183:13
 returns-4 : tie.Need-returns-4
 unfolding widthIn
 returns-4 c = (each-kind _ _ (λ h. absurd (omega arith)) (λ h. absurd (omega arith)) (λ h. absurd (omega arith)) (λ h. omega arith) (λ h. absurd (omega arith)), omega arith)
 
--- src/lib.rt:185:9
 returns-5 : tie.Need-returns-5
 unfolding widthIn
 returns-5 c = (each-kind _ _ (λ h. absurd (omega arith)) (λ h. absurd (omega arith)) (λ h. absurd (omega arith)) (λ h. omega arith) (λ h. absurd (omega arith)), omega arith)
 
--- src/lib.rt:166:1
 returns-6 : tie.Need-returns-6
 unfolding widthIn
 returns-6 c = (each-kind _ _ (λ h. absurd (omega arith)) (λ h. absurd (omega arith)) (λ h. absurd (omega arith)) (λ h. absurd (omega arith)) (λ h. refl), omega arith)

@@ -4,22 +4,18 @@ use borrow.Author.Tests.{lt-ltb, le-ltb}
 use Rattle.checker.proofs.too_many.Statement.{statement}
 use Rattle.checker.proofs.too_many.Tie as tie
 
--- src/lib.rt:236:9
 returns : tie.Need-returns
 unfolding tooMany
 returns c = rw (lt-ltb _ _ (c .if1 .taken))
 
--- src/lib.rt:239:9
 returns-2 : tie.Need-returns-2
 unfolding tooMany
 returns-2 c = rw (le-ltb _ _ (c .before .if1 .left), lt-ltb _ _ (c .if2 .taken))
 
--- src/lib.rt:242:9
 returns-3 : tie.Need-returns-3
 unfolding tooMany
 returns-3 c = rw (le-ltb _ _ (c .before .before .if1 .left), le-ltb _ _ (c .before .if2 .left), lt-ltb _ _ (c .if3 .taken))
 
--- src/lib.rt:232:1
 returns-4 : tie.Need-returns-4
 unfolding tooMany
 returns-4 c = rw (le-ltb _ _ (c .before .before .if1 .left), le-ltb _ _ (c .before .if2 .left), le-ltb _ _ (c .if3 .left))

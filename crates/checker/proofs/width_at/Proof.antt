@@ -8,29 +8,23 @@ use borrow.Author.Needs.{needs}
 use Rattle.checker.proofs.width_at.Statement.{statement}
 use Rattle.checker.proofs.width_at.Tie as tie
 
--- src/lib.rt:151:9
 wide-requires : tie.Need-wide-requires
 wide-requires c κs = search needs
 
--- src/lib.rt:153:14
 mul-wide : tie.Need-mul-wide
 mul-wide c = search needs
 
--- src/lib.rt:153:14
 shared-slice-read-wide : tie.Need-shared-slice-read-wide
 shared-slice-read-wide c = search needs
 
--- src/lib.rt:153:9
 wide-requires-2 : tie.Need-wide-requires-2
 wide-requires-2 c κs = search needs
 
--- src/lib.rt:148:1
 returns : tie.Need-returns
 returns c =
     let ws = now (c .before .before .before .before .before .args .widths) in
     (c .wide2 .ensures .0 ∙ ap (λ (n : ℕ). getD ws n 0) (c .before .before .before .wide .ensures .0), omega arith)
 
--- src/lib.rt:148:1
 returns-2 : tie.Need-returns-2
 returns-2 c = (sym (List·getD-eq-default (now (c .before .before .before .args .widths)) 0 (omega arith)), omega arith)
 

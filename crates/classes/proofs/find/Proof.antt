@@ -15,23 +15,18 @@ Inv-loop links₀ s x₀ p₀ links x p = (length links ≡ length links₀) × 
 abbrev μ-loop : tie.MeasureT-loop
 μ-loop links₀ s x₀ p₀ links x p = x
 
--- src/lib.rt:40:9
 wide-requires : tie.Need-wide-requires Inv-loop μ-loop
 wide-requires c κs = tt
 
--- src/lib.rt:42:9
 returns : tie.Need-returns Inv-loop μ-loop
 returns c = λ low small. absurd (omega (arith, small, c .if1 .taken, c .before .wide .ensures .0))
 
--- src/lib.rt:44:17
 mul-p : tie.Need-mul-p Inv-loop μ-loop
 mul-p c = omega (arith, c .before .wide .ensures .1)
 
--- src/lib.rt:44:17
 slice-read-p : tie.Need-slice-read-p Inv-loop μ-loop
 slice-read-p c = omega (arith, c .before .if1 .left)
 
--- src/lib.rt:45:5
 loop-holds : tie.Need-loop-holds Inv-loop μ-loop
 loop-holds c = (
   refl,
@@ -41,27 +36,21 @@ loop-holds c = (
   λ low small. rw (c .before .before .wide .ensures .0) (finding-first _ _ _ low small refl),
 )
 
--- src/lib.rt:45:11
 wide-requires-2 : tie.Need-wide-requires-2 Inv-loop μ-loop
 wide-requires-2 c κs = tt
 
--- src/lib.rt:46:23
 wide-requires-3 : tie.Need-wide-requires-3 Inv-loop μ-loop
 wide-requires-3 c κs = tt
 
--- src/lib.rt:46:17
 mul-g : tie.Need-mul-g Inv-loop μ-loop
 mul-g c = omega (arith, c .wide3 .ensures .1)
 
--- src/lib.rt:46:17
 slice-read-g : tie.Need-slice-read-g Inv-loop μ-loop
 slice-read-g c = omega (arith, c .before .wide3 .ensures .0, c .before .before .if2 .taken, c .before .before .before .wide2 .ensures .0, c .before .before .before .before .loop .inv .1)
 
--- src/lib.rt:48:13
 same-length : tie.Need-same-length Inv-loop μ-loop
 same-length c = c .before .before .before .before .before .loop .inv .0
 
--- src/lib.rt:48:13
 returns-2 : tie.Need-returns-2 Inv-loop μ-loop
 returns-2 c =
     let w = c .before .before .before .before .before .loop in
@@ -69,27 +58,21 @@ returns-2 c =
     let f = w .inv .4 low small in
     found-is _ _ _ _ low (finding-near _ _ _ (w .x) (w .p) f (omega (arith, c .if3 .taken, ap (λ (n : ℕ). getD (w .links) n 0) (c .before .before .wide3 .ensures .0), f .low (w .p))))
 
--- src/lib.rt:50:9
 store-requires : tie.Need-store-requires Inv-loop μ-loop
 store-requires c κs = tt
 
--- src/lib.rt:51:9
 wide-requires-4 : tie.Need-wide-requires-4 Inv-loop μ-loop
 wide-requires-4 c κs = tt
 
--- src/lib.rt:52:13
 mul-p-2 : tie.Need-mul-p-2 Inv-loop μ-loop
 mul-p-2 c = omega (arith, c .wide4 .ensures .1)
 
--- src/lib.rt:52:13
 slice-read-p-2 : tie.Need-slice-read-p-2 Inv-loop μ-loop
 slice-read-p-2 c = omega (arith, c .before .wide4 .ensures .0, c .before .before .before .before .before .before .if3 .left, c .before .before .before .before .before .before .before .before .before .if2 .taken, c .before .before .before .before .before .before .before .before .before .before .wide2 .ensures .0, c .before .before .before .before .before .before .before .before .before .before .before .loop .inv .1, c .before .before .before .before .store .kept .0)
 
--- src/lib.rt:45:5
 loop-less : tie.Need-loop-less Inv-loop μ-loop
 loop-less c = omega (arith, c .before .wide4 .ensures .0, c .before .before .before .before .before .before .if3 .left, c .before .before .before .before .before .before .before .before .before .if2 .taken, c .before .before .before .before .before .before .before .before .before .before .wide2 .ensures .0)
 
--- src/lib.rt:45:5
 loop-again : tie.Need-loop-again Inv-loop μ-loop
 loop-again c =
     let w = c .before .before .before .before .before .before .before .before .before .before .before .loop in (
@@ -100,15 +83,12 @@ loop-again c =
       λ low small. rw (c .before .before .before .before .store .ensures, c .before .wide4 .ensures .0) (finding-more _ (w .links) _ (w .x) (w .p) _ (w .inv .4 low small) (ap (λ (n : ℕ). getD (w .links) n 0) (c .before .before .before .before .before .before .before .before .wide3 .ensures .0))),
     )
 
--- src/lib.rt:54:5
 cast-result : tie.Need-cast-result Inv-loop μ-loop
 cast-result c = omega (arith, c .before .before .loop .inv .2)
 
--- src/lib.rt:37:1
 same-length-2 : tie.Need-same-length-2 Inv-loop μ-loop
 same-length-2 c = c .before .before .loop .inv .0
 
--- src/lib.rt:37:1
 returns-3 : tie.Need-returns-3 Inv-loop μ-loop
 returns-3 c =
     let w = c .before .before .loop in

@@ -15,53 +15,41 @@ Inv-loop links₀ i₀ links i = (i ≤ length links) × (length links ≡ lengt
 abbrev μ-loop : tie.MeasureT-loop
 μ-loop links₀ i₀ links i = length links₀ - i
 
--- src/lib.rt:86:5
 loop-holds : tie.Need-loop-holds Inv-loop μ-loop
 loop-holds c = (omega arith, refl, λ low. swept-none _)
 
--- src/lib.rt:87:29
 mul-wide : tie.Need-mul-wide Inv-loop μ-loop
 mul-wide c = omega (arith, c .loop-test .taken)
 
--- src/lib.rt:87:29
 slice-read-wide : tie.Need-slice-read-wide Inv-loop μ-loop
 slice-read-wide c = omega (arith, c .before .loop-test .taken)
 
--- src/lib.rt:87:13
 wide-requires : tie.Need-wide-requires Inv-loop μ-loop
 wide-requires c κs = tt
 
--- src/lib.rt:89:13
 same-length : tie.Need-same-length Inv-loop μ-loop
 same-length c = c .before .before .before .before .loop .inv .1
 
--- src/lib.rt:89:13
 returns : tie.Need-returns Inv-loop μ-loop
 returns c =
     let w = c .before .before .before .before .loop in
     λ low. absurd (omega (arith, c .if1 .taken, c .before .wide .ensures .0, w .inv .2 low .rest (w .i) (omega arith), low (w .i), c .before .before .before .loop-test .taken))
 
--- src/lib.rt:91:17
 mul-g : tie.Need-mul-g Inv-loop μ-loop
 mul-g c = omega (arith, c .before .wide .ensures .1)
 
--- src/lib.rt:91:17
 slice-read-g : tie.Need-slice-read-g Inv-loop μ-loop
 slice-read-g c = omega (arith, c .before .if1 .left)
 
--- src/lib.rt:92:9
 store-requires : tie.Need-store-requires Inv-loop μ-loop
 store-requires c κs = tt
 
--- src/lib.rt:93:9
 add-i : tie.Need-add-i Inv-loop μ-loop
 add-i c = omega (arith, c .before .before .before .before .before .before .before .before .loop-test .taken)
 
--- src/lib.rt:86:5
 loop-less : tie.Need-loop-less Inv-loop μ-loop
 loop-less c = omega (arith, c .before .before .before .before .before .before .before .before .loop-test .taken, c .before .before .before .before .before .before .before .before .before .loop .inv .1)
 
--- src/lib.rt:86:5
 loop-again : tie.Need-loop-again Inv-loop μ-loop
 loop-again c =
     let w = c .before .before .before .before .before .before .before .before .before .loop in (
@@ -70,11 +58,9 @@ loop-again c =
       λ low. rw (c .before .before .store .ensures, c .before .before .before .before .before .before .wide .ensures .0) (swept-more _ (w .links) (w .i) (omega (arith, c .before .before .before .before .before .before .before .before .loop-test .taken)) low (w .inv .2 low)),
     )
 
--- src/lib.rt:82:1
 same-length-2 : tie.Need-same-length-2 Inv-loop μ-loop
 same-length-2 c = c .before .loop .inv .1
 
--- src/lib.rt:82:1
 returns-2 : tie.Need-returns-2 Inv-loop μ-loop
 returns-2 c = λ low. swept-all _ _ (c .before .loop .i) (c .before .loop .inv .1) (omega (arith, c .loop-test .left)) (c .before .loop .inv .2 low) _ (stands-roots _ low)
 

@@ -6,19 +6,15 @@ use Rattle.classes.proofs.Links.{link-same, link-conflict}
 use Rattle.classes.proofs.take_pair.Statement.{statement}
 use Rattle.classes.proofs.take_pair.Tie as tie
 
--- src/lib.rt:68:9
 find-requires : tie.Need-find-requires
 find-requires c κs = tt
 
--- src/lib.rt:69:9
 find-requires-2 : tie.Need-find-requires-2
 find-requires-2 c κs = tt
 
--- src/lib.rt:71:9
 same-length : tie.Need-same-length
 same-length c = c .before .before .before .find2 .kept .0 ∙ c .before .before .before .before .before .before .before .find .kept .0
 
--- src/lib.rt:71:9
 returns : tie.Need-returns
 returns c =
     let a = c .before .before .before .before .before .before .before .find in
@@ -28,15 +24,12 @@ returns c =
     let g = b .ensures (f .low) (omega (arith, ht, a .kept .0)) in
     taken-is _ _ _ _ _ low (g .low) (link-same _ (a .last .0) (b .last .0) _ _ (a .result) (b .result) (found-rel _ _ _ _ f) (found-rel _ _ _ _ g) (c .if1 .taken))
 
--- src/lib.rt:73:9
 higher-requires : tie.Need-higher-requires
 higher-requires c κs = tt
 
--- src/lib.rt:75:9
 same-length-2 : tie.Need-same-length-2
 same-length-2 c = c .before .before .before .before .before .find2 .kept .0 ∙ c .before .before .before .before .before .before .before .before .before .find .kept .0
 
--- src/lib.rt:75:9
 returns-2 : tie.Need-returns-2
 returns-2 c =
     let a = c .before .before .before .before .before .before .before .before .before .find in
@@ -46,23 +39,18 @@ returns-2 c =
     let g = b .ensures (f .low) (omega (arith, ht, a .kept .0)) in
     taken-is _ _ _ _ _ low (g .low) (link-conflict _ (a .last .0) (b .last .0) _ _ (a .result) (b .result) (found-rel _ _ _ _ f) (found-rel _ _ _ _ g) (c .before .before .if1 .left) (sym (c .before .higher .ensures) ∙ c .if2 .taken))
 
--- src/lib.rt:77:16
 wide-requires : tie.Need-wide-requires
 wide-requires c κs = tt
 
--- src/lib.rt:77:34
 lower-requires : tie.Need-lower-requires
 lower-requires c κs = tt
 
--- src/lib.rt:77:5
 store-requires : tie.Need-store-requires
 store-requires c κs = tt
 
--- src/lib.rt:65:1
 same-length-3 : tie.Need-same-length-3
 same-length-3 c = c .before .before .store .kept .0 ∙ c .before .before .before .before .before .before .before .before .before .before .before .find2 .kept .0 ∙ c .before .before .before .before .before .before .before .before .before .before .before .before .before .before .before .find .kept .0
 
--- src/lib.rt:65:1
 returns-3 : tie.Need-returns-3
 returns-3 c =
     let a = c .before .before .before .before .before .before .before .before .before .before .before .before .before .before .before .find in

@@ -4,11 +4,9 @@ use borrow.Author.Tests.{eq-eqb, ne-eqb}
 use Rattle.numbers.proofs.one_if.Statement.{statement}
 use Rattle.numbers.proofs.one_if.Tie as tie
 
--- src/lib.rt:310:9
 returns : tie.Need-returns
 returns c = (rw (eq-eqb _ _ (c .if1 .taken)), omega arith)
 
--- src/lib.rt:306:1
 returns-2 : tie.Need-returns-2
 returns-2 c = (rw (ne-eqb _ _ (c .if1 .left)), omega arith)
 

@@ -6,23 +6,18 @@ use borrow.Author.Needs.{needs}
 use Rattle.numbers.proofs.put.Statement.{statement}
 use Rattle.numbers.proofs.put.Tie as tie
 
--- src/lib.rt:364:9
 mul-buffer : tie.Need-mul-buffer
 mul-buffer c = search needs
 
--- src/lib.rt:364:9
 slice-write-buffer : tie.Need-slice-write-buffer
 slice-write-buffer c = search needs
 
--- src/lib.rt:360:1
 same-length : tie.Need-same-length
 same-length c = search needs
 
--- src/lib.rt:360:1
 returns : tie.Need-returns
 returns c = search needs
 
--- src/lib.rt:360:1
 returns-2 : tie.Need-returns-2
 returns-2 c = sym (set-out (now (c .before .args .buffer)) (c .before .args .i) (c .before .args .x) (c .if1 .left))
 

@@ -5,19 +5,15 @@ use borrow.Author.Needs.{needs}
 use Rattle.records.proofs.fault_record.Statement.{statement}
 use Rattle.records.proofs.fault_record.Tie as tie
 
--- src/lib.rt:133:12
 fault-number-requires : tie.Need-fault-number-requires
 fault-number-requires c κs = search needs
 
--- src/lib.rt:133:29
 fault-row-requires : tie.Need-fault-row-requires
 fault-row-requires c κs = search needs
 
--- src/lib.rt:133:5
 refuse-requires : tie.Need-refuse-requires
 refuse-requires c κs = search needs
 
--- src/lib.rt:130:1
 returns : tie.Need-returns
 returns c = c .refuse .ensures ∙ ap₂ refusal (c .before .before .fault-number .ensures) (c .before .fault-row .ensures)
 

@@ -23,7 +23,6 @@ abbrev put-digits-below : ℕ → In 0 put-digits-kinds.ps
 put-digits-below t =
     and 0 put-digits-kinds.ps (falls 0 put-digits-kinds.ps _<_ μ-put-digits t) put-digits.Pre
 
--- src/lib.rt:450:9
 put-digits-returns : (t : ℕ) → put-digits-lts.Need-returns (
   push-reads.Asked,
   push-reads.Learnt,
@@ -32,7 +31,6 @@ put-digits-returns : (t : ℕ) → put-digits-lts.Need-returns (
 ) (put-digits-at t) put-digits.Post
 put-digits-returns t c = push-digits-none _ _ _ (c .if1 .taken)
 
--- src/lib.rt:453:25
 put-digits-add-push : (t : ℕ) → put-digits-lts.Need-add-push (
   push-reads.Asked,
   push-reads.Learnt,
@@ -41,7 +39,6 @@ put-digits-add-push : (t : ℕ) → put-digits-lts.Need-add-push (
 ) (put-digits-at t) put-digits.Post
 put-digits-add-push t c = omega (arith, c .if2 .taken)
 
--- src/lib.rt:453:24
 put-digits-cast-push : (t : ℕ) → put-digits-lts.Need-cast-push (
   push-reads.Asked,
   push-reads.Learnt,
@@ -50,7 +47,6 @@ put-digits-cast-push : (t : ℕ) → put-digits-lts.Need-cast-push (
 ) (put-digits-at t) put-digits.Post
 put-digits-cast-push t c = omega (arith, c .if2 .taken)
 
--- src/lib.rt:453:9
 put-digits-push-requires : (t : ℕ) → put-digits-lts.Need-push-requires (
   push-reads.Asked,
   push-reads.Learnt,
@@ -59,7 +55,6 @@ put-digits-push-requires : (t : ℕ) → put-digits-lts.Need-push-requires (
 ) (put-digits-at t) put-digits.Post
 put-digits-push-requires t c κs = tt
 
--- src/lib.rt:453:9
 put-digits-returns-2 : (t : ℕ) → put-digits-lts.Need-returns-2 (
   push-reads.Asked,
   push-reads.Learnt,
@@ -68,7 +63,6 @@ put-digits-returns-2 : (t : ℕ) → put-digits-lts.Need-returns-2 (
 ) (put-digits-at t) put-digits.Post
 put-digits-returns-2 t c = c .push .ensures ∙ push-digits-one _ _ _ (c .before .before .if1 .left) (omega (arith, c .before .if2 .taken))
 
--- src/lib.rt:455:38
 put-digits-sub-put-digits : (t : ℕ) → put-digits-lts.Need-sub-put-digits (
   push-reads.Asked,
   push-reads.Learnt,
@@ -77,7 +71,6 @@ put-digits-sub-put-digits : (t : ℕ) → put-digits-lts.Need-sub-put-digits (
 ) (put-digits-at t) put-digits.Post
 put-digits-sub-put-digits t c = omega (arith, c .before .if1 .left)
 
--- src/lib.rt:455:9
 put-digits-put-digits-requires : (t : ℕ) → put-digits-lts.Need-put-digits-requires (
   push-reads.Asked,
   push-reads.Learnt,
@@ -86,7 +79,6 @@ put-digits-put-digits-requires : (t : ℕ) → put-digits-lts.Need-put-digits-re
 ) (put-digits-at t) put-digits.Post
 put-digits-put-digits-requires t c κs = (omega (arith, c .before .if1 .left, c .before .before .pre .0), tt)
 
--- src/lib.rt:456:17
 put-digits-add-push-2 : (t : ℕ) → put-digits-lts.Need-add-push-2 (
   push-reads.Asked,
   push-reads.Learnt,
@@ -95,7 +87,6 @@ put-digits-add-push-2 : (t : ℕ) → put-digits-lts.Need-add-push-2 (
 ) (put-digits-at t) put-digits.Post
 put-digits-add-push-2 t c = omega arith
 
--- src/lib.rt:456:16
 put-digits-cast-push-2 : (t : ℕ) → put-digits-lts.Need-cast-push-2 (
   push-reads.Asked,
   push-reads.Learnt,
@@ -104,7 +95,6 @@ put-digits-cast-push-2 : (t : ℕ) → put-digits-lts.Need-cast-push-2 (
 ) (put-digits-at t) put-digits.Post
 put-digits-cast-push-2 t c = omega arith
 
--- src/lib.rt:456:5
 put-digits-push-requires-2 : (t : ℕ) → put-digits-lts.Need-push-requires-2 (
   push-reads.Asked,
   push-reads.Learnt,
@@ -113,7 +103,6 @@ put-digits-push-requires-2 : (t : ℕ) → put-digits-lts.Need-push-requires-2 (
 ) (put-digits-at t) put-digits.Post
 put-digits-push-requires-2 t c κs = tt
 
--- src/lib.rt:446:1
 put-digits-returns-3 : (t : ℕ) → put-digits-lts.Need-returns-3 (
   push-reads.Asked,
   push-reads.Learnt,

@@ -5,27 +5,21 @@ use borrow.Author.Needs.{needs}
 use Rattle.sheets.proofs.answer_values.Statement.{statement}
 use Rattle.sheets.proofs.answer_values.Tie as tie
 
--- src/lib.rt:517:25
 empty-requires : tie.Need-empty-requires
 empty-requires c κs = search needs
 
--- src/lib.rt:517:9
 put-number-requires : tie.Need-put-number-requires
 put-number-requires c κs = search needs
 
--- src/lib.rt:518:9
 put-number-requires-2 : tie.Need-put-number-requires-2
 put-number-requires-2 c κs = search needs
 
--- src/lib.rt:519:9
 put-number-requires-3 : tie.Need-put-number-requires-3
 put-number-requires-3 c κs = search needs
 
--- src/lib.rt:520:5
 put-number-requires-4 : tie.Need-put-number-requires-4
 put-number-requires-4 c κs = search needs
 
--- src/lib.rt:514:1
 returns : tie.Need-returns
 unfolding answerValues
 returns c =

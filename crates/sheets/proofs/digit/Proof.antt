@@ -5,21 +5,17 @@ use borrow.Author.Needs.{needs}
 use Rattle.sheets.proofs.digit.Statement.{statement}
 use Rattle.sheets.proofs.digit.Tie as tie
 
--- src/lib.rt:19:9
 returns : tie.Need-returns
 unfolding digitOf
 returns c = (simp (lt-ltb _ _ (c .if1 .taken)), omega arith)
 
--- src/lib.rt:22:9
 returns-2 : tie.Need-returns-2
 unfolding digitOf
 returns-2 c = (simp (le-ltb _ _ (c .before .if1 .left), lt-ltb _ _ (c .if2 .taken)), omega arith)
 
--- src/lib.rt:25:5
 cast-result : tie.Need-cast-result
 cast-result c = search needs
 
--- src/lib.rt:15:1
 returns-3 : tie.Need-returns-3
 unfolding digitOf
 returns-3 c = (simp (le-ltb _ _ (c .before .if1 .left), le-ltb _ _ (c .if2 .left)), omega arith)

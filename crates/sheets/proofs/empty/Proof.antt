@@ -5,7 +5,6 @@ use Rattle.sheets.specs.Print.{lineOf}
 use Rattle.sheets.proofs.empty.Statement.{statement}
 use Rattle.sheets.proofs.empty.Tie as tie
 
--- src/lib.rt:478:1
 returns : tie.Need-returns
 unfolding lineOf overwrite
 returns c = refl

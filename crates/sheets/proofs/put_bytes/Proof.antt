@@ -14,34 +14,27 @@ Inv-loop bytes line₀ i₀ line i = (i ≤ length bytes) × (pushAll line (drop
 abbrev μ-loop : tie.MeasureT-loop
 μ-loop bytes line₀ i₀ line i = length bytes - i
 
--- src/lib.rt:471:5
 loop-holds : tie.Need-loop-holds Inv-loop μ-loop
 loop-holds c = (omega arith, refl)
 
--- src/lib.rt:472:27
 shared-slice-read-push : tie.Need-shared-slice-read-push Inv-loop μ-loop
 shared-slice-read-push c = omega (arith, c .before .loop-test .taken)
 
--- src/lib.rt:472:9
 push-requires : tie.Need-push-requires Inv-loop μ-loop
 push-requires c κs = tt
 
--- src/lib.rt:473:9
 add-i : tie.Need-add-i Inv-loop μ-loop
 add-i c = omega (arith, c .before .before .loop-test .taken)
 
--- src/lib.rt:471:5
 loop-less : tie.Need-loop-less Inv-loop μ-loop
 loop-less c = omega (arith, c .before .before .loop-test .taken)
 
--- src/lib.rt:471:5
 loop-again : tie.Need-loop-again Inv-loop μ-loop
 loop-again c = (
   omega (arith, c .before .before .loop-test .taken),
   push-next _ _ _ (c .before .before .before .loop .i) (omega (arith, c .before .before .loop-test .taken)) (c .push .ensures) ∙ c .before .before .before .loop .inv .1,
 )
 
--- src/lib.rt:466:1
 returns : tie.Need-returns Inv-loop μ-loop
 returns c = push-none _ _ (c .before .loop .i) (omega (arith, c .loop-test .left)) ∙ c .before .loop .inv .1
 

@@ -4,15 +4,12 @@ use borrow.Author.Needs.{needs}
 use Rattle.sheets.proofs.put_number.Statement.{statement}
 use Rattle.sheets.proofs.put_number.Tie as tie
 
--- src/lib.rt:463:10
 put-digits-requires : tie.Need-put-digits-requires
 put-digits-requires c κs = search needs
 
--- src/lib.rt:463:5
 push-requires : tie.Need-push-requires
 push-requires c κs = search needs
 
--- src/lib.rt:460:1
 returns : tie.Need-returns
 returns c = push-field _ _ _ _ _ (c .before .put-digits .ensures) (c .push .ensures)
 

@@ -5,19 +5,15 @@ use borrow.Author.Needs.{needs}
 use Rattle.sheets.proofs.record_names.Statement.{statement}
 use Rattle.sheets.proofs.record_names.Tie as tie
 
--- src/lib.rt:491:15
 empty-requires : tie.Need-empty-requires
 empty-requires c κs = search needs
 
--- src/lib.rt:491:24
 slice-aggregate-put-bytes : tie.Need-slice-aggregate-put-bytes
 slice-aggregate-put-bytes c = search needs
 
--- src/lib.rt:491:5
 put-bytes-requires : tie.Need-put-bytes-requires
 put-bytes-requires c κs = search needs
 
--- src/lib.rt:488:1
 returns : tie.Need-returns
 returns c = whole-line _ _ _ (omega arith) (c .before .before .empty .ensures) (c .put-bytes .ensures)
 

@@ -5,35 +5,27 @@ use borrow.Author.Needs.{needs}
 use Rattle.sheets.proofs.record_values.Statement.{statement}
 use Rattle.sheets.proofs.record_values.Tie as tie
 
--- src/lib.rt:498:25
 empty-requires : tie.Need-empty-requires
 empty-requires c κs = search needs
 
--- src/lib.rt:498:9
 put-number-requires : tie.Need-put-number-requires
 put-number-requires c κs = search needs
 
--- src/lib.rt:499:9
 put-number-requires-2 : tie.Need-put-number-requires-2
 put-number-requires-2 c κs = search needs
 
--- src/lib.rt:500:9
 put-number-requires-3 : tie.Need-put-number-requires-3
 put-number-requires-3 c κs = search needs
 
--- src/lib.rt:501:9
 put-number-requires-4 : tie.Need-put-number-requires-4
 put-number-requires-4 c κs = search needs
 
--- src/lib.rt:502:9
 put-number-requires-5 : tie.Need-put-number-requires-5
 put-number-requires-5 c κs = search needs
 
--- src/lib.rt:503:5
 put-number-requires-6 : tie.Need-put-number-requires-6
 put-number-requires-6 c κs = search needs
 
--- src/lib.rt:495:1
 returns : tie.Need-returns
 unfolding recordValues
 returns c =

@@ -13,73 +13,57 @@ use Rattle.solver.proofs.Concluding.{conclude-never, conclude-always, c
 use Rattle.solver.proofs.conclude.Statement.{statement}
 use Rattle.solver.proofs.conclude.Tie as tie
 
--- src/lib.rt:153:19
 short-requires : tie.Need-short-requires
 short-requires c κs = search needs
 
--- src/lib.rt:154:18
 short-requires-2 : tie.Need-short-requires-2
 short-requires-2 c κs = search needs
 
--- src/lib.rt:148:9
 returns : tie.Need-returns
 returns c =
     λ accepted bits E room.
     conclude-never (now (c .before .before .before .before .before .before .args .table)) accepted (now (c .before .before .before .before .before .before .args .links)) (now (c .before .before .before .before .before .before .args .answer)) (c .before .before .before .before .before .before .args .row) (c .before .before .before .before .before .before .args .ties) E
     (omega (arith, c .before .before .if1 .taken, rows-length (now (c .before .before .before .before .before .before .args .table)))) _ (ap₂ neverRecord (c .before .short .ensures) (c .short2 .ensures))
 
--- src/lib.rt:158:35
 short-requires-3 : tie.Need-short-requires-3
 short-requires-3 c κs = search needs
 
--- src/lib.rt:158:9
 complete-requires : tie.Need-complete-requires
 complete-requires c κs = search needs
 
--- src/lib.rt:158:9
 returns-2 : tie.Need-returns-2
 returns-2 c =
     λ accepted bits E room.
     conclude-always (now (c .before .before .before .before .before .before .before .args .table)) accepted (now (c .before .before .before .before .before .before .before .args .links)) (now (c .before .before .before .before .before .before .before .args .answer)) (c .before .before .before .before .before .before .before .args .row) (c .before .before .before .before .before .before .before .args .ties) E
     (omega (arith, c .before .before .before .if1 .left, rows-length (now (c .before .before .before .before .before .before .before .args .table)))) (c .before .before .if2 .taken) (c .before .before .before .before .before .before .before .args .bits) bits _ (c .complete .ensures ∙ ap (completed 0) (c .before .short3 .ensures))
 
--- src/lib.rt:160:5
 settle-requires : tie.Need-settle-requires
 settle-requires c κs = search needs
 
--- src/lib.rt:161:9
 put-rows-requires : tie.Need-put-rows-requires
 put-rows-requires c κs = search needs
 
--- src/lib.rt:164:17
 short-requires-4 : tie.Need-short-requires-4
 short-requires-4 c κs = search needs
 
--- src/lib.rt:165:16
 short-requires-5 : tie.Need-short-requires-5
 short-requires-5 c κs = search needs
 
--- src/lib.rt:166:21
 minus-requires : tie.Need-minus-requires
 minus-requires c κs = search needs
 
--- src/lib.rt:166:15
 short-requires-6 : tie.Need-short-requires-6
 short-requires-6 c κs = search needs
 
--- src/lib.rt:167:15
 short-requires-7 : tie.Need-short-requires-7
 short-requires-7 c κs = search needs
 
--- src/lib.rt:137:1
 same-length : tie.Need-same-length
 same-length c = search needs
 
--- src/lib.rt:137:1
 same-length-2 : tie.Need-same-length-2
 same-length-2 c = search needs
 
--- src/lib.rt:137:1
 returns-3 : tie.Need-returns-3
 returns-3 c =
     λ accepted bits E room.

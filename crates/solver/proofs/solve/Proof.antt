@@ -20,65 +20,50 @@ use Rattle.solver.proofs.solve.Tie as tie
 found : (d : tie.After-check) → d .check .result ≡ firstFault (now (d .before .before .before .before .before .before .before .args .table))
 found d = d .check .ensures .0 ∙ fault-found _ _ refl
 
--- src/lib.rt:372:9
 refuse-requires : tie.Need-refuse-requires
 refuse-requires c κs = search needs
 
--- src/lib.rt:372:9
 returns : tie.Need-returns
 returns c = stop-answer _ _ _ (c .before .if1 .taken) _ (c .refuse .ensures)
 
--- src/lib.rt:375:9
 refuse-requires-2 : tie.Need-refuse-requires-2
 refuse-requires-2 c κs = search needs
 
--- src/lib.rt:375:9
 returns-2 : tie.Need-returns-2
 returns-2 c = stop-work _ _ _ (c .before .before .if1 .left) (c .before .if2 .taken) _ (c .refuse2 .ensures)
 
--- src/lib.rt:378:37
 slice-aggregate-check : tie.Need-slice-aggregate-check
 slice-aggregate-check c = search needs
 
--- src/lib.rt:378:9
 check-requires : tie.Need-check-requires
 check-requires c κs = search needs
 
--- src/lib.rt:379:9
 accepted-requires : tie.Need-accepted-requires
 accepted-requires c κs = search needs
 
--- src/lib.rt:380:9
 fault-record-requires : tie.Need-fault-record-requires
 fault-record-requires c κs = search needs
 
--- src/lib.rt:380:9
 returns-3 : tie.Need-returns-3
 returns-3 c =
     let bad = ap isAccepted (sym (found (c .before .before .before .before))) ∙ sym (c .before .before .accepted .ensures) ∙ not-true _ (c .before .if3 .taken) in
     stop-fault _ _ _ (c .before .before .before .before .before .before .before .if1 .left) (c .before .before .before .before .before .before .if2 .left) bad _ (c .fault-record .ensures ∙ ap faultRecord (found (c .before .before .before .before)))
 
--- src/lib.rt:382:39
 slice-aggregate-solve-accepted : tie.Need-slice-aggregate-solve-accepted
 slice-aggregate-solve-accepted c = search needs
 
--- src/lib.rt:382:9
 solve-accepted-requires : tie.Need-solve-accepted-requires
 solve-accepted-requires c κs = search needs
 
--- src/lib.rt:383:5
 clear-requires : tie.Need-clear-requires
 clear-requires c κs = search needs
 
--- src/lib.rt:366:1
 same-length : tie.Need-same-length
 same-length c = search needs
 
--- src/lib.rt:366:1
 same-length-2 : tie.Need-same-length-2
 same-length-2 c = search needs
 
--- src/lib.rt:366:1
 returns-4 : tie.Need-returns-4
 returns-4 c =
     let good : isAccepted (firstFault (now (c .before .before .before .before .before .before .before .before .before .before .before .before .before .before .before .before .before .before .before .before .before .before .args .table))) ≡ true = ap isAccepted (sym (found (c .before .before .before .before .before .before .before .before .before .before .before .before .before .before .before))) ∙ sym (c .before .before .before .before .before .before .before .before .before .before .before .before .before .accepted .ensures) ∙ not-false _ (c .before .before .before .before .before .before .before .before .before .before .before .before .if3 .left) in

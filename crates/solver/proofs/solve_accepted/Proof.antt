@@ -12,51 +12,39 @@ use Rattle.terms.proofs.Faults.{totals-small}
 use Rattle.solver.proofs.solve_accepted.Statement.{statement}
 use Rattle.solver.proofs.solve_accepted.Tie as tie
 
--- src/lib.rt:350:35
 slice-aggregate-low-sources : tie.Need-slice-aggregate-low-sources
 slice-aggregate-low-sources c = search needs
 
--- src/lib.rt:350:9
 low-sources-requires : tie.Need-low-sources-requires
 low-sources-requires c κs = search needs
 
--- src/lib.rt:351:26
 lesser-requires : tie.Need-lesser-requires
 lesser-requires c κs = search needs
 
--- src/lib.rt:351:26
 add-lesser : tie.Need-add-lesser
 add-lesser c = search needs
 
--- src/lib.rt:351:9
 lesser-requires-2 : tie.Need-lesser-requires-2
 lesser-requires-2 c κs = search needs
 
--- src/lib.rt:355:9
 slice-aggregate-answer-table : tie.Need-slice-aggregate-answer-table
 slice-aggregate-answer-table c = search needs
 
--- src/lib.rt:357:9
 slice-relend-prefix-answer-table : tie.Need-slice-relend-prefix-answer-table
 slice-relend-prefix-answer-table c = search needs
 
--- src/lib.rt:357:9
 slice-aggregate-answer-table-2 : tie.Need-slice-aggregate-answer-table-2
 slice-aggregate-answer-table-2 c = sym (length-take-le (c .before .before .lesser2 .result) (now (c .before .before .before .before .before .before .before .before .before .before .before .args .work)) (c .before .before .lesser2 .ensures .1))
 
--- src/lib.rt:352:5
 answer-table-requires : tie.Need-answer-table-requires
 answer-table-requires c κs = search needs
 
--- src/lib.rt:346:1
 same-length : tie.Need-same-length
 same-length c = search needs
 
--- src/lib.rt:346:1
 same-length-2 : tie.Need-same-length-2
 same-length-2 c = search needs
 
--- src/lib.rt:346:1
 returns : tie.Need-returns
 returns c =
     λ accepted widths room memory.

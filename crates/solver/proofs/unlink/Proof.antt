@@ -17,27 +17,21 @@ Inv-loop links₀ i₀ links i = (i ≤ length links₀) × (length links ≡ le
 abbrev μ-loop : tie.MeasureT-loop
 μ-loop links₀ i₀ links i = length links₀ - i
 
--- src/lib.rt:119:5
 loop-holds : tie.Need-loop-holds Inv-loop μ-loop
 loop-holds c = (omega arith, refl, λ l. unfold countUp in (overwrite-none _))
 
--- src/lib.rt:120:32
 cast-store : tie.Need-cast-store Inv-loop μ-loop
 cast-store c = omega arith
 
--- src/lib.rt:120:9
 store-requires : tie.Need-store-requires Inv-loop μ-loop
 store-requires c κs = search needs
 
--- src/lib.rt:121:9
 add-i : tie.Need-add-i Inv-loop μ-loop
 add-i c = omega (arith, c .before .before .before .before .loop-test .taken, c .before .before .before .before .before .loop .inv .1, c .before .before .before .before .before .loop .inv .0)
 
--- src/lib.rt:119:5
 loop-less : tie.Need-loop-less Inv-loop μ-loop
 loop-less c = omega (arith, c .before .before .before .before .loop-test .taken, c .before .before .before .before .before .loop .inv .1)
 
--- src/lib.rt:119:5
 loop-again : tie.Need-loop-again Inv-loop μ-loop
 loop-again c =
     let l = c .before .before .before .before .before .loop in
@@ -47,11 +41,9 @@ loop-again c =
       λ m. s .ensures ∙ unlink-more _ _ _ _ (l .inv .2 m) (omega (arith, c .before .before .before .before .loop-test .taken, l .inv .1)),
     )
 
--- src/lib.rt:115:1
 same-length : tie.Need-same-length Inv-loop μ-loop
 same-length c = c .before .loop .inv .1
 
--- src/lib.rt:115:1
 returns : tie.Need-returns Inv-loop μ-loop
 returns c = λ m. unlink-all _ _ _ (c .before .loop .inv .2 m) (omega (arith, c .loop-test .left, c .before .loop .inv .0, c .before .loop .inv .1))
 

@@ -15,107 +15,86 @@ Inv-loop text from v₀ i₀ v i = (i ≤ length text) × ((v ≤ 65535) × (mor
 abbrev μ-loop : tie.MeasureT-loop
 μ-loop text from v₀ i₀ v i = length text - i
 
--- src/lib.rt:35:13
 returns : tie.Need-returns Inv-loop μ-loop
 returns c = past (now (c .before .before .args .text)) (c .before .before .args .self .at) (c .if1 .taken)
 
--- src/lib.rt:37:27
 shared-slice-read-digit : tie.Need-shared-slice-read-digit Inv-loop μ-loop
 shared-slice-read-digit c = omega arith
 
--- src/lib.rt:37:13
 digit-requires : tie.Need-digit-requires Inv-loop μ-loop
 digit-requires c κs = tt
 
--- src/lib.rt:38:21
 add-i : tie.Need-add-i Inv-loop μ-loop
 add-i c = omega arith
 
--- src/lib.rt:40:13
 returns-2 : tie.Need-returns-2 Inv-loop μ-loop
 returns-2 c =
     let a = c .before .before .before .before .before .args in
     not-digit (now (a .text)) (a .self .at) (c .before .before .before .if1 .left) (c .before .digit .result) (c .before .digit .ensures .0) (c .if2 .taken)
 
--- src/lib.rt:44:31
 shared-slice-read-digit-2 : tie.Need-shared-slice-read-digit-2 Inv-loop μ-loop
 shared-slice-read-digit-2 c = omega arith
 
--- src/lib.rt:44:21
 digit-requires-2 : tie.Need-digit-requires-2 Inv-loop μ-loop
 digit-requires-2 c κs = tt
 
--- src/lib.rt:46:21
 returns-3 : tie.Need-returns-3 Inv-loop μ-loop
 returns-3 c =
     let e = c .before .before .before .before .before .before in
     let a = e .before .before .before .before .args in
     zero-digit (now (a .text)) (a .self .at) (e .before .before .if1 .left) (e .digit .result) (e .digit .ensures .0) (c .before .before .before .before .if3 .taken) (c .before .before .before .if4 .taken) (omega (arith, c .before .digit2 .ensures .0, c .if5 .taken))
 
--- src/lib.rt:49:13
 returns-4 : tie.Need-returns-4 Inv-loop μ-loop
 returns-4 c =
     let e = c .before .before .before .before .before .before in
     let a = e .before .before .before .before .args in
     zero-other (now (a .text)) (a .self .at) (e .before .before .if1 .left) (e .digit .result) (e .digit .ensures .0) (c .before .before .before .before .if3 .taken) (c .before .before .before .if4 .taken) (omega (arith, c .before .digit2 .ensures .0, c .if5 .left))
 
--- src/lib.rt:49:13
 returns-5 : tie.Need-returns-5 Inv-loop μ-loop
 returns-5 c =
     let e = c .before .before .before in
     let a = e .before .before .before .before .args in
     zero-last (now (a .text)) (a .self .at) (e .before .before .if1 .left) (e .digit .result) (e .digit .ensures .0) (c .before .if3 .taken) (c .if4 .left)
 
--- src/lib.rt:51:9
 loop-holds : tie.Need-loop-holds Inv-loop μ-loop
 loop-holds c =
     let e = c .before .before in
     let a = e .before .before .before .before .args in
     (omega arith, (omega arith, starts (now (a .text)) (a .self .at) (e .before .before .if1 .left) (e .digit .result) (e .digit .ensures .0) (c .before .if2 .left) (c .if3 .left)))
 
--- src/lib.rt:52:27
 shared-slice-read-digit-3 : tie.Need-shared-slice-read-digit-3 Inv-loop μ-loop
 shared-slice-read-digit-3 c = omega arith
 
--- src/lib.rt:52:17
 digit-requires-3 : tie.Need-digit-requires-3 Inv-loop μ-loop
 digit-requires-3 c κs = tt
 
--- src/lib.rt:56:17
 mul-v : tie.Need-mul-v Inv-loop μ-loop
 mul-v c = omega arith
 
--- src/lib.rt:56:17
 add-v : tie.Need-add-v Inv-loop μ-loop
 add-v c = omega arith
 
--- src/lib.rt:58:17
 returns-6 : tie.Need-returns-6 Inv-loop μ-loop
 returns-6 c =
     let t = c .before .before .before .before in
     let p = t .before .loop in
     over (now (t .before .before .before .before .before .before .before .before .args .text)) (p .v) (p .i) (t .loop-test .taken) (c .before .before .digit3 .result) (c .before .before .digit3 .ensures .0) (c .before .if6 .left) (c .if7 .taken) ∙ p .inv .1 .1
 
--- src/lib.rt:60:13
 add-i-2 : tie.Need-add-i-2 Inv-loop μ-loop
 add-i-2 c = omega arith
 
--- src/lib.rt:51:9
 loop-less : tie.Need-loop-less Inv-loop μ-loop
 loop-less c = omega arith
 
--- src/lib.rt:51:9
 loop-again : tie.Need-loop-again Inv-loop μ-loop
 loop-again c =
     let t = c .before .before .before .before in
     let p = t .before .loop in
     (omega arith, (omega arith, goes-on (now (t .before .before .before .before .before .before .before .before .args .text)) (p .v) (p .i) (t .loop-test .taken) (c .before .before .digit3 .result) (c .before .before .digit3 .ensures .0) (c .before .if6 .left) (c .if7 .left) ∙ p .inv .1 .1))
 
--- src/lib.rt:62:22
 cast-t23 : tie.Need-cast-t23 Inv-loop μ-loop
 cast-t23 c = omega arith
 
--- src/lib.rt:30:5
 returns-7 : tie.Need-returns-7 Inv-loop μ-loop
 returns-7 c =
     let p = c .before .loop in

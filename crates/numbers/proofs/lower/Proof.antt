@@ -1,7 +1,7 @@
 -- `lower` meets its contract, for either order of a and b. Assumes nothing.
 use native.Mathlib.Omega.{arith}
-use Rattle.classes.proofs.lower.Statement.{statement}
-use Rattle.classes.proofs.lower.Tie as tie
+use Rattle.numbers.proofs.lower.Statement.{statement}
+use Rattle.numbers.proofs.lower.Tie as tie
 
 returns : tie.Need-returns
 returns c = omega (arith, c .if1 .taken)

@@ -1,7 +1,7 @@
 -- `higher` meets its contract, for either order of a and b. Assumes nothing.
 use native.Mathlib.Omega.{arith}
-use Rattle.classes.proofs.higher.Statement.{statement}
-use Rattle.classes.proofs.higher.Tie as tie
+use Rattle.numbers.proofs.higher.Statement.{statement}
+use Rattle.numbers.proofs.higher.Tie as tie
 
 returns : tie.Need-returns
 returns c = omega (arith, c .if1 .taken)
