@@ -2,6 +2,7 @@ pub mod Rows
 pub mod ByRows
 pub mod Widths
 pub mod Faults
+pub mod RuleOrder
 pub mod Words
 pub mod Values
 pub mod Sources
