@@ -1,6 +1,8 @@
 # The library, the program and what a packager installs. From the top of a clone:
 #
 #   make                        proves and builds the library and the program
+#   make check                  the quick look: the layout, every crate proved, the
+#                               programs run, and the C tests; no must-fail edits
 #   make install PREFIX=/usr    installs header, library, program, manual pages
 #                               and pkg-config file; DESTDIR is put before PREFIX
 #   make clean                  removes target/
@@ -14,7 +16,7 @@ PROGRAM = target/bin/solve
 SOURCES = crates.txt $(shell find crates -type f \( -name '*.rt' -o -name '*.antt' \))
 ROOT = $(DESTDIR)$(PREFIX)
 
-.PHONY: all install clean
+.PHONY: all check install clean
 
 all: $(LIB) $(PROGRAM)
 
@@ -25,6 +27,12 @@ $(LIB): $(SOURCES)
 $(PROGRAM): $(SOURCES)
 	rt check solve
 	touch $@
+
+check:
+	rt fmt --check
+	rt check
+	rt staticlib linkwords
+	$(MAKE) -C host test
 
 # bin/linkwords is the script linkwords over the program, for its exit status.
 install: all

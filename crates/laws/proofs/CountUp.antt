@@ -6,12 +6,6 @@ use native.Mathlib.Omega.{arith}
 use lib.ListN.{length, getD}
 use Rattle.laws.specs.Lists.{countUp}
 
-pub count-up : (k n : ℕ) → length (countUp k n) ≡ n
-unfolding countUp
-count-up k zero = refl
-count-up k (suc n) = ap suc (count-up (suc k) n)
-
--- before any pair
 pub count-at : (k m i : ℕ) → i < m → getD (countUp k m) i 0 ≡ k + i
 unfolding countUp
 count-at k zero i h = absurd (omega arith)
@@ -23,6 +17,11 @@ unfolding countUp
 count-past k zero i h = refl
 count-past k (suc m) zero h = absurd (omega arith)
 count-past k (suc m) (suc i) h = count-past (suc k) m i (omega arith)
+
+pub count-up : (k n : ℕ) → length (countUp k n) ≡ n
+unfolding countUp
+count-up k zero = refl
+count-up k (suc n) = ap suc (count-up (suc k) n)
 
 pub count-more : (k i : ℕ) → countUp k i ++ ((k + i) ∷ []) ≡ countUp k (suc i)
 unfolding countUp
