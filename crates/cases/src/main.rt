@@ -56,13 +56,13 @@ fn print_bits(found: Record, bits: &[u8], out: &mut [u8]) {
         line[i] = digit(bits[i]);
         i += 1;
     }
-    let at = prints::put_line(sheets::record_values(found), out, 0);
-    let end = prints::put_bytes(&line[..len + 1], out, at);
+    let at = writer::put_line(lines::record_values(found), out, 0);
+    let end = writer::put_bytes(&line[..len + 1], out, at);
     write_first(out, end);
 }
 
 fn print_record(found: Record, out: &mut [u8]) {
-    let end = prints::put_line(sheets::record_values(found), out, 0);
+    let end = writer::put_line(lines::record_values(found), out, 0);
     write_first(out, end);
 }
 
@@ -70,9 +70,9 @@ fn print_record(found: Record, out: &mut [u8]) {
 fn print_form(table: &[u16], row: usize, out: &mut [u8]) {
     let mut form = [0u16; FORM];
     let found = normalizer::normal_form(table, row, &mut form[..]);
-    let at = prints::put_line(sheets::record_values(found), out, 0);
+    let at = writer::put_line(lines::record_values(found), out, 0);
     let len = numbers::lesser(found.pieces as usize * 4, FORM);
-    let end = prints::put_rows(&form[..len], out, at);
+    let end = writer::put_rows(&form[..len], out, at);
     write_first(out, end);
 }
 
@@ -146,10 +146,10 @@ fn print_table(table: &[u16], out: &mut [u8]) {
 
 // All that is printed for a sheet behind its name.
 fn print_sheet(text: &[u8], out: &mut [u8]) {
-    let len = prints::put_print(text, out);
+    let len = printer::put_print(text, out);
     write_first(out, len);
     let mut table = [0u16; TABLE];
-    let read = sheets::read_sheet(text, &mut table[..]);
+    let read = reader::read_sheet(text, &mut table[..]);
     if read.outcome != 0 {
         return;
     }
@@ -173,7 +173,7 @@ fn print_case(name: &[u8], out: &mut [u8]) {
 }
 
 fn main() {
-    let mut out = [0u8; prints::PRINT_ROOM];
+    let mut out = [0u8; printer::PRINT_ROOM];
     let mut name = [0u8; MOST_NAME];
     let count = os::arg_count();
     let mut i = 1;

@@ -143,3 +143,7 @@ clear-more work₀ work i e =
 
 pub clear-all : (work₀ work : List ℕ) (i : ℕ) → work ≡ overwrite (replicate i 0) work₀ → i ≡ length work₀ → work ≡ replicate (length work₀) 0
 clear-all work₀ work i e l = e ∙ overwrite-whole (replicate i 0) work₀ (length-replicate i 0 ∙ l) ∙ ap (λ (x : ℕ). replicate x 0) l
+
+-- past its end a list has no more to take
+pub copy-short : (from : List ℕ) (i n : ℕ) → length from ≤ i → i ≤ n → take i from ≡ take n from
+copy-short from i n h l = take-all i from h ∙ sym (take-all n from (omega arith))

@@ -37,7 +37,7 @@ pub extern "C" fn lw_read_sheet(sheet: &[u8], table: &mut [u16]) -> Record
     ensures record { λ r. ⌜ r ≡ sheetRecord (now (sheet .entry)) (length (now (table .entry))) ⌝ }
     ensures table { λ r. ⌜ now (table .exit) ≡ tableAfter (now (sheet .entry)) (now (table .entry)) ⌝ }
 {
-    sheets::read_sheet(sheet, table)
+    reader::read_sheet(sheet, table)
 }
 
 // Solves a table.

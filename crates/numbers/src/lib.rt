@@ -3,10 +3,9 @@ ghost use mathlib.Core.Path.{_≡_};
 ghost use mathlib.Core.Bool.{cond};
 ghost use Prim.Native.Nat.{_+_, _-_, _%_, _≤_, min, max};
 ghost use lib.Dec.{eqb};
-ghost use lib.ListN.{getD, set};
+ghost use lib.ListN.{getD, length, replicate, set, take};
 ghost use Rattle.laws.specs.Lists.{allBits};
-ghost use Rattle.laws.specs.Buffers.{setFour};
-ghost use lib.ListN.{length, replicate};
+ghost use Rattle.laws.specs.Buffers.{overwrite, setFour};
 
 // x as an index.
 pub fn wide(x: u16) -> usize
@@ -157,6 +156,20 @@ pub fn clear(run: &mut [u16])
     let mut i = 0;
     while i < run.len() {
         store(run, i, 0);
+        i += 1;
+    }
+}
+
+// Copies the first n numbers of one table to another, as far as both reach.
+pub fn copy(from: &[u16], n: usize, table: &mut [u16])
+    ensures { λ _. ⌜ now (table .exit) ≡ overwrite (take n (now (from .entry))) (now (table .entry)) ⌝ }
+{
+    let mut i = 0;
+    while i < n {
+        if from.len() <= i {
+            return;
+        }
+        store(table, i, from[i]);
         i += 1;
     }
 }

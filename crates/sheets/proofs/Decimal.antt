@@ -8,9 +8,7 @@ use native.Mathlib.Omega.{arith}
 use lib.Dec.{ltb, eqb}
 use lib.ListN.{length, length-append}
 use borrow.Author.Tests.{lt-ltb, le-ltb, ne-eqb, ltb-true, ltb-false, eqb-true, eqb-false}
-use Rattle.sheets.specs.declared.Cursor.{Cursor}
-use Rattle.sheets.specs.declared.Number.the-variants.{Value, NoNumber}
-use Rattle.sheets.specs.Text.{place, digitOf, moreDigits, afterZero, numberHere}
+use Rattle.sheets.specs.Text.{Value, NoNumber, digitOf, moreDigits, afterZero, numberHere}
 use Rattle.sheets.specs.Writing.{digits, decimal}
 
 -- the byte of a digit, and the digit of a byte
@@ -77,19 +75,19 @@ pub data Ends : List ℕ → Type 0 where
   at-end : Ends []
   at-byte : {byte : ℕ} {s : List ℕ} → 9 < digitOf byte → Ends (byte ∷ s)
 
-more-ends : (v at : ℕ) {s : List ℕ} → Ends s → moreDigits v at s ≡ Value v (place at)
+more-ends : (v at : ℕ) {s : List ℕ} → Ends s → moreDigits v at s ≡ Value v at
 unfolding moreDigits
 more-ends v at at-end = refl
 more-ends v at (at-byte {byte} h) = rw (lt-ltb 9 (digitOf byte) h)
 
-zero-ends : (at : ℕ) {s : List ℕ} → Ends s → afterZero at s ≡ Value 0 (place at)
+zero-ends : (at : ℕ) {s : List ℕ} → Ends s → afterZero at s ≡ Value 0 at
 unfolding afterZero
 zero-ends at at-end = refl
 zero-ends at (at-byte {byte} h) = rw (lt-ltb 9 (digitOf byte) h)
 
 -- a number that was written is read back
 pub number-read : (n at : ℕ) {rest : List ℕ} → n ≤ 65535 → Ends rest
-    → numberHere at (decimal n ++ rest) ≡ Value n (place (at + length (decimal n)))
+    → numberHere at (decimal n ++ rest) ≡ Value n (at + length (decimal n))
 unfolding decimal digits power numberHere digitOf
 number-read zero at h e = zero-ends (at + 1) e
 number-read (suc n) at {rest} h e =
@@ -120,32 +118,32 @@ digit-written v d l h k =
     ∙ ap (λ (x : List ℕ). x ++ ((48 + d) ∷ [])) (sym (digits-enough 4 v l (omega arith)))
 
 -- what was read of a number behind its first digits
-record More (v at : ℕ) (s : List ℕ) (n : ℕ) (c : Cursor) : Type 0 where
+record More (v at : ℕ) (s : List ℕ) (n to : ℕ) : Type 0 where
   small : n ≤ 65535
   more : List ℕ
   rest : List ℕ
   split : s ≡ more ++ rest
   whole : decimal n ≡ decimal v ++ more
-  behind : c .at ≡ at + length more
+  behind : to ≡ at + length more
 
-more-none : (v at : ℕ) (s : List ℕ) (n : ℕ) (c : Cursor) → v ≤ 65535 → Value v (place at) ≡ Value n c → More v at s n c
-more-none v at s n c h e =
+more-none : (v at : ℕ) (s : List ℕ) (n to : ℕ) → v ≤ 65535 → Value v at ≡ Value n to → More v at s n to
+more-none v at s n to h e =
     let same : v ≡ n = cc in
-    let there : place at ≡ c = cc in
-    record { small = omega arith; more = []; rest = s; split = refl; whole = ap decimal (sym same) ∙ sym (append-nil (decimal v)); behind = ap (λ (x : Cursor). x .at) (sym there) ∙ omega arith }
+    let there : at ≡ to = cc in
+    record { small = omega arith; more = []; rest = s; split = refl; whole = ap decimal (sym same) ∙ sym (append-nil (decimal v)); behind = sym there ∙ omega arith }
 
-more-written : (v at : ℕ) (s : List ℕ) (n : ℕ) (c : Cursor) → 1 ≤ v → v ≤ 65535 → moreDigits v at s ≡ Value n c → More v at s n c
+more-written : (v at : ℕ) (s : List ℕ) (n to : ℕ) → 1 ≤ v → v ≤ 65535 → moreDigits v at s ≡ Value n to → More v at s n to
 unfolding moreDigits
-more-written v at [] n c l h e = more-none v at [] n c h e
-more-written v at (byte ∷ s) n c l h e =
-    go (ltb 9 (digitOf byte)) (ltb 65535 (v * 10 + digitOf byte)) refl refl e (more-written (v * 10 + digitOf byte) (at + 1) s n c)
+more-written v at [] n to l h e = more-none v at [] n to h e
+more-written v at (byte ∷ s) n to l h e =
+    go (ltb 9 (digitOf byte)) (ltb 65535 (v * 10 + digitOf byte)) refl refl e (more-written (v * 10 + digitOf byte) (at + 1) s n to)
   where
     go : (t u : Bool) → ltb 9 (digitOf byte) ≡ t → ltb 65535 (v * 10 + digitOf byte) ≡ u
-        → cond t (Value v (place at)) (cond u NoNumber (moreDigits (v * 10 + digitOf byte) (at + 1) s)) ≡ Value n c
-        → (1 ≤ v * 10 + digitOf byte → v * 10 + digitOf byte ≤ 65535 → moreDigits (v * 10 + digitOf byte) (at + 1) s ≡ Value n c
-        → More (v * 10 + digitOf byte) (at + 1) s n c)
-        → More v at (byte ∷ s) n c
-    go true u p q e later = more-none v at (byte ∷ s) n c h e
+        → cond t (Value v at) (cond u NoNumber (moreDigits (v * 10 + digitOf byte) (at + 1) s)) ≡ Value n to
+        → (1 ≤ v * 10 + digitOf byte → v * 10 + digitOf byte ≤ 65535 → moreDigits (v * 10 + digitOf byte) (at + 1) s ≡ Value n to
+        → More (v * 10 + digitOf byte) (at + 1) s n to)
+        → More v at (byte ∷ s) n to
+    go true u p q e later = more-none v at (byte ∷ s) n to h e
     go false true p q e later = let z : _≡_ {A = ℕ} 0 1 = cc in absurd (omega arith)
     go false false p q e later =
         let d : digitOf byte ≤ 9 = ltb-false 9 (digitOf byte) p in
@@ -164,45 +162,45 @@ more-written v at (byte ∷ s) n c l h e =
         }
 
 -- a number that was read stands there as it is written
-pub record Written (n at : ℕ) (s : List ℕ) (c : Cursor) : Type 0 where
+pub record Written (n at : ℕ) (s : List ℕ) (to : ℕ) : Type 0 where
   pub small : n ≤ 65535
   pub rest : List ℕ
   pub split : s ≡ decimal n ++ rest
-  pub behind : c .at ≡ at + length (decimal n)
+  pub behind : to ≡ at + length (decimal n)
 
 digit-alone : (d : ℕ) → d < 10 → decimal d ≡ (48 + d) ∷ []
 unfolding decimal
 digit-alone d h = digits-one 4 d h
 
-zero-written : (at : ℕ) (s : List ℕ) (n : ℕ) (c : Cursor) → afterZero at s ≡ Value n c → (n ≡ 0) × (c .at ≡ at)
+zero-written : (at : ℕ) (s : List ℕ) (n to : ℕ) → afterZero at s ≡ Value n to → (n ≡ 0) × (to ≡ at)
 unfolding afterZero
-zero-written at [] n c e = let same : 0 ≡ n = cc in let there : place at ≡ c = cc in (sym same, ap (λ (x : Cursor). x .at) (sym there))
-zero-written at (byte ∷ s) n c e = go (ltb 9 (digitOf byte)) e
+zero-written at [] n to e = let same : 0 ≡ n = cc in let there : at ≡ to = cc in (sym same, sym there)
+zero-written at (byte ∷ s) n to e = go (ltb 9 (digitOf byte)) e
   where
-    go : (t : Bool) → cond t (Value 0 (place at)) NoNumber ≡ Value n c → (n ≡ 0) × (c .at ≡ at)
-    go true e = let same : 0 ≡ n = cc in let there : place at ≡ c = cc in (sym same, ap (λ (x : Cursor). x .at) (sym there))
+    go : (t : Bool) → cond t (Value 0 at) NoNumber ≡ Value n to → (n ≡ 0) × (to ≡ at)
+    go true e = let same : 0 ≡ n = cc in let there : at ≡ to = cc in (sym same, sym there)
     go false e = let z : _≡_ {A = ℕ} 0 1 = cc in absurd (omega arith)
 
-pub number-written : (at : ℕ) (s : List ℕ) (n : ℕ) (c : Cursor) → numberHere at s ≡ Value n c → Written n at s c
+pub number-written : (at : ℕ) (s : List ℕ) (n to : ℕ) → numberHere at s ≡ Value n to → Written n at s to
 unfolding numberHere
-number-written at [] n c e = let z : _≡_ {A = ℕ} 0 1 = cc in absurd (omega arith)
-number-written at (byte ∷ s) n c e = go (ltb 9 (digitOf byte)) (eqb (digitOf byte) 0) refl refl e
+number-written at [] n to e = let z : _≡_ {A = ℕ} 0 1 = cc in absurd (omega arith)
+number-written at (byte ∷ s) n to e = go (ltb 9 (digitOf byte)) (eqb (digitOf byte) 0) refl refl e
   where
     go : (t u : Bool) → ltb 9 (digitOf byte) ≡ t → eqb (digitOf byte) 0 ≡ u
-        → cond t NoNumber (cond u (afterZero (at + 1) s) (moreDigits (digitOf byte) (at + 1) s)) ≡ Value n c → Written n at (byte ∷ s) c
+        → cond t NoNumber (cond u (afterZero (at + 1) s) (moreDigits (digitOf byte) (at + 1) s)) ≡ Value n to → Written n at (byte ∷ s) to
     go true u p q e = let z : _≡_ {A = ℕ} 0 1 = cc in absurd (omega arith)
     go false true p q e =
         let d : digitOf byte ≡ 0 = eqb-true (digitOf byte) 0 q in
         let b : byte ≡ 48 + digitOf byte = byte-of byte (omega arith) in
         let is : byte ≡ 48 = omega arith in
-        let f = zero-written (at + 1) s n c e in
+        let f = zero-written (at + 1) s n to e in
         let w : decimal n ≡ 48 ∷ [] = ap decimal (f .0) ∙ digit-alone 0 (omega arith) in
         record { small = omega (arith, f .0); rest = s; split = rw (w, is); behind = rw w (omega (arith, f .1)) }
     go false false p q e =
         let d : digitOf byte ≤ 9 = ltb-false 9 (digitOf byte) p in
         let z : digitOf byte ≡ 0 → ⊥ = eqb-false (digitOf byte) 0 q in
         let b : byte ≡ 48 + digitOf byte = byte-of byte d in
-        let m = more-written (digitOf byte) (at + 1) s n c (omega arith) (omega arith) e in
+        let m = more-written (digitOf byte) (at + 1) s n to (omega arith) (omega arith) e in
         let w : decimal n ≡ byte ∷ m .more =
         m .whole ∙ ap (λ (x : List ℕ). x ++ m .more) (digit-alone (digitOf byte) (omega arith)) ∙ ap (λ (x : ℕ). x ∷ m .more) (sym b) in
         record {

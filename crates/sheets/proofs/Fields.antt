@@ -1,21 +1,13 @@
 -- A byte that is seen stands within the text.
 use mathlib.Core.Path.{_≡_}
-use mathlib.Core.Bool.{Bool, true, false, _&&_}
+use mathlib.Core.Bool.{true, _&&_}
 use mathlib.Core.List.{List}
 use Prim.Native.Nat.{ℕ, _+_, _<_}
 use lib.Dec.{ltb, eqb}
 use lib.ListN.{length, getD}
 use borrow.Author.Tests.{ltb-true, eqb-true}
-use Rattle.laws.proofs.Bools.{not-both}
+use Rattle.laws.proofs.Bools.{and-first, and-second}
 use Rattle.sheets.specs.Text.{sees, seesKind}
-
-and-first : (a b : Bool) → a && b ≡ true → a ≡ true
-and-first true b h = mathlib.Core.Path.refl
-and-first false b h = h
-
-and-second : (a b : Bool) → a && b ≡ true → b ≡ true
-and-second true b h = h
-and-second false b h = absurd (not-both h mathlib.Core.Path.refl)
 
 pub seen-within : (text : List ℕ) (at byte : ℕ) → sees text at byte ≡ true → at < length text
 unfolding sees

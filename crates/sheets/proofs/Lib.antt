@@ -1,8 +1,5 @@
 pub mod Numbers
 pub mod Fields
-pub mod Reading
-pub mod Copying
-pub mod Printing
 pub mod Decimal
 pub mod Orders
 pub mod Writing
@@ -10,3 +7,9 @@ pub mod Written
 pub mod Theorems
 pub mod PrintedText
 pub mod TableRead
+pub mod Lengths
+pub mod PrintFits
+pub mod Printed
+pub mod ProgramText
+pub mod SheetCall
+pub mod Solving

@@ -6,8 +6,7 @@ use native.Mathlib.Numerals.{add-one}
 use lib.ListN.{length, getD, drop, drop-of-length-le}
 use lib.Seq.{drop-cons}
 use borrow.Author.Tests.{lt-ltb, le-ltb, ne-eqb}
-use Rattle.sheets.specs.declared.Number.the-variants.{Value, NoNumber}
-use Rattle.sheets.specs.Text.{place, digitOf, moreDigits, afterZero, numberHere, numberAt}
+use Rattle.sheets.specs.Text.{Value, NoNumber, digitOf, moreDigits, afterZero, numberHere, numberAt}
 
 pub at-byte : (s : List ℕ) (i : ℕ) → i < length s → drop i s ≡ getD s i 0 ∷ drop (i + 1) s
 at-byte s i l = drop-cons s i 0 l ∙ ap (λ (n : ℕ). getD s i 0 ∷ drop n s) (sym (add-one i))
@@ -26,7 +25,7 @@ module _ (s : List ℕ) (at : ℕ) where
     unfolding numberHere
     zero-is z = rw (at-byte s at l, ← e, z)
 
-    pub zero-last : d ≡ 0 → length s ≤ at + 1 → Value 0 (place (at + 1)) ≡ numberAt s at
+    pub zero-last : d ≡ 0 → length s ≤ at + 1 → Value 0 (at + 1) ≡ numberAt s at
     unfolding afterZero
     zero-last z k = rw (drop-of-length-le s k) at (zero-is z)
 
@@ -34,7 +33,7 @@ module _ (s : List ℕ) (at : ℕ) where
     unfolding afterZero
     zero-digit z k h = rw (at-byte s (at + 1) k, le-ltb 9 _ h) at (zero-is z)
 
-    pub zero-other : d ≡ 0 → at + 1 < length s → 9 < digitOf (getD s (at + 1) 0) → Value 0 (place (at + 1)) ≡ numberAt s at
+    pub zero-other : d ≡ 0 → at + 1 < length s → 9 < digitOf (getD s (at + 1) 0) → Value 0 (at + 1) ≡ numberAt s at
     unfolding afterZero
     zero-other z k h = rw (at-byte s (at + 1) k, lt-ltb 9 _ h) at (zero-is z)
 
@@ -43,12 +42,12 @@ module _ (s : List ℕ) (at : ℕ) where
     starts h z = rw (at-byte s at l, ← e, le-ltb 9 d h, ne-eqb d 0 z)
 
 module _ (s : List ℕ) (v i : ℕ) where
-  pub ends : length s ≤ i → Value v (place (i)) ≡ moreDigits v i (drop i s)
+  pub ends : length s ≤ i → Value v i ≡ moreDigits v i (drop i s)
   unfolding moreDigits
   ends k = rw (drop-of-length-le s k)
 
   module _ (l : i < length s) (d : ℕ) (e : d ≡ digitOf (getD s i 0)) where
-    pub stops : 9 < d → Value v (place (i)) ≡ moreDigits v i (drop i s)
+    pub stops : 9 < d → Value v i ≡ moreDigits v i (drop i s)
     unfolding moreDigits
     stops h = rw (at-byte s i l, ← e, lt-ltb 9 d h)
 

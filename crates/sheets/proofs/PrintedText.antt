@@ -8,7 +8,7 @@ use lib.Seq.{take-at}
 use Rattle.terms.specs.declared.Record.{Record}
 use Rattle.laws.proofs.Buffers.{overwrite-fits}
 use Rattle.sheets.specs.Print.{lineOf, shown, recordNames, recordValues, recordText, answerNames, answerValues, answerLines, answerText}
-use Rattle.sheets.proofs.Printing.{record-values-few, answer-values-few}
+use Rattle.sheets.proofs.Lengths.{record-values-few, answer-values-few}
 
 pub line-shown : (l : List ℕ) → length l ≤ 80 → shown (lineOf l) ≡ l
 unfolding shown lineOf

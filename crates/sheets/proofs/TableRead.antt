@@ -10,7 +10,7 @@ use Rattle.laws.proofs.Buffers.{overwrite-fits}
 use Rattle.terms.specs.Table.{rowNumbers}
 use Rattle.sheets.specs.Sheet.{sheetRows}
 use Rattle.sheets.specs.Call.{sheetRecord, tableAfter}
-use Rattle.sheets.proofs.Copying.{sheet-few}
+use Rattle.sheets.proofs.SheetCall.{sheet-few}
 use Rattle.terms.proofs.RowNumbers.{row-numbers-length}
 use Rattle.sheets.proofs.Theorems.{sheet-accepted, sheet-only}
 

@@ -1,8 +1,8 @@
 -- The call and the sheets (demand 1 for sheets): with room for 512 rows, the call accepts a text exactly if it is a sheet, and
--- then its record counts the rows and its table has them. Assumes nothing.
+-- then its record counts the rows and its table has them; a 513th line is refused before it is read. Assumes nothing.
 use mathlib.Core.Path.{_≡_, refl, sym, _∙_, ap}
 use mathlib.Core.Bool.{cond}
-use mathlib.Core.List.{List}
+use mathlib.Core.List.{List, _++_}
 use Prim.Native.Nat.{ℕ, _≤_}
 use native.Mathlib.Omega.{arith}
 use lib.Dec.{eqb, ltb}
@@ -11,12 +11,14 @@ use borrow.Author.Tests.{le-ltb}
 use Rattle.terms.specs.declared.Row.{Row}
 use Rattle.terms.specs.Calls.{refusal, completed}
 use Rattle.laws.specs.Buffers.{overwrite}
+use Rattle.sheets.specs.declared.Order.{Order}
 use Rattle.sheets.specs.declared.Sheet.{Sheet}
 use Rattle.sheets.specs.declared.Sheet.the-variants.{TooLong, WrongNames, TooMany, WrongLine, Rows}
 use Rattle.terms.specs.Table.{rowNumbers}
 use Rattle.sheets.specs.Sheet.{sheetFound, sheetRows}
 use Rattle.sheets.specs.Call.{sheetNumber, sheetRow, rowCount, sheetRecord, tableAfter}
-use Rattle.sheets.specs.Writing.{SheetOf}
+use Rattle.sheets.specs.Writing.{sheetText, IsOrder, SmallRows, SheetOf}
+use Rattle.sheets.proofs.Writing.{written-over}
 use Rattle.sheets.proofs.Written.{read-written, read-exactly}
 
 pub sheet-accepted : (text old : List ℕ) (rows : List Row) → 2048 ≤ length old → SheetOf text rows
@@ -42,3 +44,9 @@ sheet-only text room e =
     let f = only-rows room (sheetFound text) e in
     let a = read-written text (rowCount (sheetFound text)) f in
     read-exactly text (sheetRows text) .1 (f ∙ ap Rows (sym (a .count)), refl)
+
+-- A text that begins with 512 rows, written, and goes on is refused 23 at row 512, whatever stands behind them.
+pub sheet-over : (order : Order) (rows : List Row) (more : List ℕ) (room : ℕ) → IsOrder order → SmallRows rows → length rows ≡ 512 → 1 ≤ length more
+    → length (sheetText order rows ++ more) ≤ 16384 → sheetRecord (sheetText order rows ++ more) room ≡ refusal 23 512
+unfolding sheetRecord
+sheet-over order rows more room is small all h short = rw (written-over order rows more is small all h short) refl

@@ -1,5 +1,5 @@
--- A sheet that was written is read back: a field, a line, the names, all lines. At each place the text is what is written
--- there and then the rest.
+-- A sheet that was written is read back: a field, a line, the names, all lines, and one line too many. At each place the text is what is
+-- written there and then the rest.
 use mathlib.Core.Path.{_≡_, refl, sym, _∙_, ap}
 use mathlib.Core.Bool.{false}
 use mathlib.Core.List.{List, [], _∷_, _++_, append-assoc}
@@ -11,13 +11,9 @@ use lib.ListN.{length, getD, drop, length-append, length-drop}
 use lib.Seq.{drop-drop, drop-append-seam, getD-drop}
 use borrow.Author.Tests.{lt-ltb, le-ltb, eq-eqb}
 use Rattle.terms.specs.declared.Row.{Row}
-use Rattle.sheets.specs.declared.Number.the-variants.{Value}
-use Rattle.sheets.specs.declared.Name.the-variants.{Column}
 use Rattle.sheets.specs.declared.Order.{Order}
-use Rattle.sheets.specs.declared.Names.the-variants.{InOrder}
-use Rattle.sheets.specs.declared.Line.the-variants.{Values}
-use Rattle.sheets.specs.declared.Sheet.the-variants.{Rows}
-use Rattle.sheets.specs.Text.{place, digitOf, numberHere, sees, fieldAt, placed, lineAt, seesKind, columnAt, nameAt, namesAt}
+use Rattle.sheets.specs.declared.Sheet.the-variants.{TooMany, Rows}
+use Rattle.sheets.specs.Text.{Value, Column, InOrder, Values, digitOf, numberHere, sees, fieldAt, placed, lineAt, seesKind, columnAt, nameAt, namesAt}
 use Rattle.sheets.specs.Sheet.{foundFrom, rowsFrom, sheetFound, sheetRows}
 use Rattle.sheets.specs.Writing.{decimal, nameBytes, column, name, value, namesLine, valuesLine, linesText, sheetText, IsOrder, SmallRow, SmallRows, none, one}
 use Rattle.sheets.proofs.Decimal.{at-byte, number-read}
@@ -41,18 +37,18 @@ module _ (text : List ℕ) where
 
   -- a value with the byte behind it
   value-read : (at v byte : ℕ) (rest : List ℕ) → v ≤ 65535 → 9 < digitOf byte → drop at text ≡ value v byte ++ rest
-      → fieldAt text at byte ≡ Value v (place (at + length (value v byte)))
+      → fieldAt text at byte ≡ Value v (at + length (value v byte))
   unfolding fieldAt value
   value-read at v byte rest h d e =
       let split : drop at text ≡ decimal v ++ (byte ∷ rest) = e ∙ append-assoc (decimal v) (byte ∷ []) rest in
-      let n : numberHere at (drop at text) ≡ Value v (place (at + length (decimal v))) = ap (numberHere at) split ∙ number-read v at h (at-byte d) in
+      let n : numberHere at (drop at text) ≡ Value v (at + length (decimal v)) = ap (numberHere at) split ∙ number-read v at h (at-byte d) in
       let s = sees-byte (at + length (decimal v)) byte byte rest (behind at (decimal v) (byte ∷ rest) split) in
-      rw (n, s, eq-eqb byte byte refl) (ap (λ (i : ℕ). Value v (place i)) (omega (arith, length-append (decimal v) (byte ∷ []))))
+      rw (n, s, eq-eqb byte byte refl) (ap (λ (i : ℕ). Value v i) (omega (arith, length-append (decimal v) (byte ∷ []))))
 
   -- a line of four values
   four-read : (order : Order) (at v₁ v₂ v₃ v₄ : ℕ) (rest : List ℕ) → v₁ ≤ 65535 → v₂ ≤ 65535 → v₃ ≤ 65535 → v₄ ≤ 65535
       → drop at text ≡ (value v₁ 32 ++ value v₂ 32 ++ value v₃ 32 ++ value v₄ 10) ++ rest
-      → lineAt text order at ≡ Values (placed order v₁ v₂ v₃ v₄) (place (at + length (value v₁ 32 ++ value v₂ 32 ++ value v₃ 32 ++ value v₄ 10)))
+      → lineAt text order at ≡ Values (placed order v₁ v₂ v₃ v₄) (at + length (value v₁ 32 ++ value v₂ 32 ++ value v₃ 32 ++ value v₄ 10))
   unfolding lineAt digitOf
   four-read order at v₁ v₂ v₃ v₄ rest h₁ h₂ h₃ h₄ e =
       let x₁ = value v₁ 32 in
@@ -72,19 +68,19 @@ module _ (text : List ℕ) where
       let f₄ = value-read at₃ v₄ 10 rest h₄ (omega arith) e₄ in
       let l : at₃ + length x₄ ≡ at + length (x₁ ++ x₂ ++ x₃ ++ x₄) =
       omega (arith, length-append (x₁ ++ x₂ ++ x₃) x₄, length-append (x₁ ++ x₂) x₃, length-append x₁ x₂) in
-      rw (f₁, f₂, f₃, f₄) (ap (λ (i : ℕ). Values (placed order v₁ v₂ v₃ v₄) (place i)) l)
+      rw (f₁, f₂, f₃, f₄) (ap (λ (i : ℕ). Values (placed order v₁ v₂ v₃ v₄) i) l)
 
   pub line-read : (order : Order) (row : Row) (at : ℕ) (rest : List ℕ) → IsOrder order → SmallRow row → drop at text ≡ valuesLine order row ++ rest
-      → lineAt text order at ≡ Values row (place (at + length (valuesLine order row)))
+      → lineAt text order at ≡ Values row (at + length (valuesLine order row))
   unfolding valuesLine
   line-read order row at rest is small e =
       let s : (n : ℕ) → column row n ≤ 65535 = λ n. column-small row n small in
       four-read order at (column row (order .first)) (column row (order .second)) (column row (order .third)) (column row (order .fourth)) rest
       (s (order .first)) (s (order .second)) (s (order .third)) (s (order .fourth)) e
-      ∙ ap (λ (r : Row). Values r (place (at + length (valuesLine order row)))) (row-placed order is row)
+      ∙ ap (λ (r : Row). Values r (at + length (valuesLine order row))) (row-placed order is row)
 
   -- a name, and with the byte behind it
-  column-read : (at n : ℕ) (rest : List ℕ) → n < 4 → drop at text ≡ nameBytes n ++ rest → columnAt text at ≡ Column n (place (at + length (nameBytes n)))
+  column-read : (at n : ℕ) (rest : List ℕ) → n < 4 → drop at text ≡ nameBytes n ++ rest → columnAt text at ≡ Column n (at + length (nameBytes n))
   unfolding columnAt nameBytes seesKind
   column-read at zero rest h e =
       let e₁ = behind at (107 ∷ []) (105 ∷ 110 ∷ 100 ∷ rest) e in
@@ -105,15 +101,15 @@ module _ (text : List ℕ) where
   column-read at (suc (suc (suc zero))) rest h e = rw (sees-byte at 99 97 rest e, sees-byte at 99 98 rest e, sees-byte at 99 99 rest e)
   column-read at (suc (suc (suc (suc n)))) rest h e = absurd (omega arith)
 
-  name-read : (at n byte : ℕ) (rest : List ℕ) → n < 4 → drop at text ≡ name n byte ++ rest → nameAt text at byte ≡ Column n (place (at + length (name n byte)))
+  name-read : (at n byte : ℕ) (rest : List ℕ) → n < 4 → drop at text ≡ name n byte ++ rest → nameAt text at byte ≡ Column n (at + length (name n byte))
   unfolding nameAt name
   name-read at n byte rest h e =
       let split : drop at text ≡ nameBytes n ++ (byte ∷ rest) = e ∙ append-assoc (nameBytes n) (byte ∷ []) rest in
       let s = sees-byte (at + length (nameBytes n)) byte byte rest (behind at (nameBytes n) (byte ∷ rest) split) in
-      rw (column-read at n (byte ∷ rest) h split, s, eq-eqb byte byte refl) (ap (λ (i : ℕ). Column n (place i)) (omega (arith, length-append (nameBytes n) (byte ∷ []))))
+      rw (column-read at n (byte ∷ rest) h split, s, eq-eqb byte byte refl) (ap (λ (i : ℕ). Column n i) (omega (arith, length-append (nameBytes n) (byte ∷ []))))
 
   pub names-read : (order : Order) (at : ℕ) (rest : List ℕ) → IsOrder order → drop at text ≡ namesLine order ++ rest
-      → namesAt text at ≡ InOrder order (place (at + length (namesLine order)))
+      → namesAt text at ≡ InOrder order (at + length (namesLine order))
   unfolding namesAt namesLine
   names-read order at rest is e =
       let x₁ = name (order .first) 32 in
@@ -133,7 +129,7 @@ module _ (text : List ℕ) where
       let f₄ = name-read at₃ (order .fourth) 10 rest (is .fourth-is) e₄ in
       let l : at₃ + length x₄ ≡ at + length (x₁ ++ x₂ ++ x₃ ++ x₄) =
       omega (arith, length-append (x₁ ++ x₂ ++ x₃) x₄, length-append (x₁ ++ x₂) x₃, length-append x₁ x₂) in
-      rw (f₁, f₂, f₃, f₄, is .different) (ap (λ (i : ℕ). InOrder order (place i)) l)
+      rw (f₁, f₂, f₃, f₄, is .different) (ap (λ (i : ℕ). InOrder order i) l)
 
   -- all lines
   line-long : (order : Order) (row : Row) → 1 ≤ length (valuesLine order row)
@@ -169,6 +165,21 @@ module _ (text : List ℕ) where
       let later = lines-read order is more m (k + 1) (at + length x) (omega arith) (behind at x t e) in
       (rw (q, r) (later .0 ∙ ap Rows (omega arith)), rw (q, r) (ap (λ (l : List Row). row ∷ l) (later .1)))
 
+  -- lines and more behind them, where no further line may stand: whatever stands there is a line too many
+  lines-over : (order : Order) (is : IsOrder order) {rows : List Row} → SmallRows rows → (more : List ℕ) → 1 ≤ length more → (k at : ℕ)
+      → drop at text ≡ linesText order rows ++ more → foundFrom (length rows) text order k at ≡ TooMany
+  unfolding foundFrom linesText
+  lines-over order is none more h k at e =
+      let l : length (drop at text) ≡ length more = ap length e in
+      rw (lt-ltb at (length text) (omega (arith, length-drop at text)))
+  lines-over order is (one {row} {rows} s later) more h k at e =
+      let x = valuesLine order row in
+      let t = linesText order rows ++ more in
+      let split : drop at text ≡ x ++ t = e ∙ append-assoc x (linesText order rows) more in
+      let l : length (drop at text) ≡ length (x ++ t) = ap length split in
+      let p : at < length text = omega (arith, length-drop at text, length-append x t, line-long order row) in
+      rw (lt-ltb at (length text) p, line-read order row at t is s split) (lines-over order is later more h (k + 1) (at + length x) (behind at x t split))
+
 starts-whole : (order : Order) (rows : List Row) → drop 0 (sheetText order rows) ≡ namesLine order ++ linesText order rows
 unfolding sheetText
 starts-whole order rows = refl
@@ -186,3 +197,19 @@ written-read order rows is small few short =
     let at = 0 + length (namesLine order) in
     let r = lines-read text order is small 512 0 at few (behind text 0 (namesLine order) (linesText order rows) whole) in
     (rw (q, n) (r .0 ∙ ap Rows (omega arith)), rw (q, n) (r .1))
+
+-- 512 rows, written, and more behind them: a line too many, whatever stands there
+starts-over : (order : Order) (rows : List Row) (more : List ℕ) → drop 0 (sheetText order rows ++ more) ≡ namesLine order ++ (linesText order rows ++ more)
+unfolding sheetText
+starts-over order rows more = append-assoc (namesLine order) (linesText order rows) more
+
+pub written-over : (order : Order) (rows : List Row) (more : List ℕ) → IsOrder order → SmallRows rows → length rows ≡ 512 → 1 ≤ length more
+    → length (sheetText order rows ++ more) ≤ 16384 → sheetFound (sheetText order rows ++ more) ≡ TooMany
+unfolding sheetFound
+written-over order rows more is small all h short =
+    let text = sheetText order rows ++ more in
+    let whole : drop 0 text ≡ namesLine order ++ (linesText order rows ++ more) = starts-over order rows more in
+    let n = names-read text order 0 (linesText order rows ++ more) is whole in
+    let at = 0 + length (namesLine order) in
+    let r = lines-over text order is small more h 0 at (behind text 0 (namesLine order) (linesText order rows ++ more) whole) in
+    rw (le-ltb 16384 (length text) short, n) (ap (λ (m : ℕ). foundFrom m text order 0 at) (sym all) ∙ r)

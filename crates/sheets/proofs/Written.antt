@@ -11,28 +11,16 @@ use lib.ListN.{length, drop, drop-of-length-le}
 use lib.Seq.{drop-cons}
 use borrow.Author.Tests.{ltb-false}
 use Rattle.terms.specs.declared.Row.{Row}
-use Rattle.sheets.specs.declared.Cursor.{Cursor}
-use Rattle.sheets.specs.declared.Number.{Number}
-use Rattle.sheets.specs.declared.Number.the-variants.{Value, NoNumber}
-use Rattle.sheets.specs.declared.Name.{Name}
-use Rattle.sheets.specs.declared.Name.the-variants.{Column, NoName}
+use Rattle.laws.proofs.Bools.{and-first, and-second}
 use Rattle.sheets.specs.declared.Order.{Order}
-use Rattle.sheets.specs.declared.Names.{Names}
-use Rattle.sheets.specs.declared.Names.the-variants.{InOrder, NoNames}
-use Rattle.sheets.specs.declared.Line.{Line}
-use Rattle.sheets.specs.declared.Line.the-variants.{Values, NoLine}
 use Rattle.sheets.specs.declared.Sheet.the-variants.{TooLong, WrongNames, TooMany, WrongLine, Rows}
-use Rattle.sheets.specs.Text.{place, numberAt, sees, endedBy, fieldAt, placed, withNumber, lineAt, seesKind, columnAt, namedBy, nameAt, withName, allDifferent, namesAt}
+use Rattle.sheets.specs.Text.{NumberFound, Value, NoNumber, NameFound, Column, NoName, NamesFound, InOrder, NoNames, LineFound, Values, NoLine, numberAt, sees, endedBy, fieldAt, placed, withNumber, lineAt, seesKind, columnAt, namedBy, nameAt, withName, allDifferent, namesAt}
 use Rattle.sheets.specs.Sheet.{byLine, byNames, foundFrom, rowsFrom, sheetFound, sheetRows}
 use Rattle.sheets.specs.Writing.{decimal, nameBytes, column, name, value, namesLine, valuesLine, linesText, sheetText, IsOrder, SmallRow, SmallRows, none, one, SheetOf}
 use Rattle.sheets.proofs.Fields.{seen-within, seen-byte}
 use Rattle.sheets.proofs.Decimal.{number-written}
 use Rattle.sheets.proofs.Orders.{first-placed, second-placed, third-placed, fourth-placed, placed-small}
 use Rattle.sheets.proofs.Writing.{behind, written-read}
-
-and-true : (a b : Bool) → a && b ≡ true → (a ≡ true) × (b ≡ true)
-and-true true b h = (refl, h)
-and-true false b h = let z : _≡_ {A = ℕ} 0 1 = cc in absurd (omega arith)
 
 module _ (text : List ℕ) where
   seen : (at byte : ℕ) → sees text at byte ≡ true → drop at text ≡ byte ∷ drop (at + 1) text
@@ -42,66 +30,65 @@ module _ (text : List ℕ) where
       ∙ ap (λ (i : ℕ). byte ∷ drop i text) (sym (add-one at))
 
   -- a value with the byte behind it
-  record ValueThere (at byte v : ℕ) (c : Cursor) : Type 0 where
+  record ValueThere (at byte v to : ℕ) : Type 0 where
     small : v ≤ 65535
-    there : drop at text ≡ value v byte ++ drop (c .at) text
+    there : drop at text ≡ value v byte ++ drop to text
 
-  value-there : (at byte v : ℕ) (c : Cursor) → fieldAt text at byte ≡ Value v c → ValueThere at byte v c
+  value-there : (at byte v to : ℕ) → fieldAt text at byte ≡ Value v to → ValueThere at byte v to
   unfolding fieldAt value
-  value-there at byte v c e = go (numberAt text at) refl e
+  value-there at byte v to e = go (numberAt text at) refl e
     where
-      go₂ : (v′ : ℕ) (c′ : Cursor) (t : Bool) → numberAt text at ≡ Value v′ c′ → sees text (c′ .at) byte ≡ t
-          → cond t (Value v′ (place (c′ .at + 1))) NoNumber ≡ Value v c → ValueThere at byte v c
-      go₂ v′ c′ true n s e =
+      go₂ : (v′ to′ : ℕ) (t : Bool) → numberAt text at ≡ Value v′ to′ → sees text to′ byte ≡ t
+          → cond t (Value v′ (to′ + 1)) NoNumber ≡ Value v to → ValueThere at byte v to
+      go₂ v′ to′ true n s e =
           let same : v′ ≡ v = cc in
-          let w = number-written at (drop at text) v′ c′ n in
-          let k : place (c′ .at + 1) ≡ c = cc in
-          let i : c′ .at + 1 ≡ c .at = ap (λ (x : Cursor). x .at) k in
-          let d : drop (c′ .at) text ≡ w .rest = ap (λ (k : ℕ). drop k text) (w .behind) ∙ behind text at (decimal v′) (w .rest) (w .split) in
-          let b : drop (c′ .at) text ≡ byte ∷ drop (c .at) text = seen (c′ .at) byte s ∙ ap (λ (k : ℕ). byte ∷ drop k text) i in
+          let w = number-written at (drop at text) v′ to′ n in
+          let i : to′ + 1 ≡ to = cc in
+          let d : drop to′ text ≡ w .rest = ap (λ (k : ℕ). drop k text) (w .behind) ∙ behind text at (decimal v′) (w .rest) (w .split) in
+          let b : drop to′ text ≡ byte ∷ drop to text = seen to′ byte s ∙ ap (λ (k : ℕ). byte ∷ drop k text) i in
           record {
             small = omega (arith, w .small);
             there =
-                w .split ∙ ap (λ (r : List ℕ). decimal v′ ++ r) (sym d ∙ b) ∙ ap (λ (x : ℕ). decimal x ++ (byte ∷ drop (c .at) text)) same
-                ∙ sym (append-assoc (decimal v) (byte ∷ []) (drop (c .at) text));
+                w .split ∙ ap (λ (r : List ℕ). decimal v′ ++ r) (sym d ∙ b) ∙ ap (λ (x : ℕ). decimal x ++ (byte ∷ drop to text)) same
+                ∙ sym (append-assoc (decimal v) (byte ∷ []) (drop to text));
           }
-      go₂ v′ c′ false n s e = let z : _≡_ {A = ℕ} 0 1 = cc in absurd (omega arith)
+      go₂ v′ to′ false n s e = let z : _≡_ {A = ℕ} 0 1 = cc in absurd (omega arith)
 
-      go : (x : Number) → numberAt text at ≡ x → endedBy text byte x ≡ Value v c → ValueThere at byte v c
-      go (Value v′ c′) n e = go₂ v′ c′ (sees text (c′ .at) byte) n refl e
+      go : (x : NumberFound) → numberAt text at ≡ x → endedBy text byte x ≡ Value v to → ValueThere at byte v to
+      go (Value v′ to′) n e = go₂ v′ to′ (sees text to′ byte) n refl e
       go NoNumber n e = let z : _≡_ {A = ℕ} 0 1 = cc in absurd (omega arith)
 
   -- a line of values
-  record Taken (x : Number) (next : ℕ → ℕ → Line) (row : Row) (c : Cursor) : Type 0 where
+  record Taken (x : NumberFound) (next : ℕ → ℕ → LineFound) (row : Row) (to : ℕ) : Type 0 where
     v : ℕ
-    k : Cursor
+    k : ℕ
     is : x ≡ Value v k
-    goes : next v (k .at) ≡ Values row c
+    goes : next v k ≡ Values row to
 
-  taken : (x : Number) (next : ℕ → ℕ → Line) (row : Row) (c : Cursor) → withNumber x next ≡ Values row c → Taken x next row c
-  taken (Value v k) next row c e = record { v = v; k = k; is = refl; goes = e }
-  taken NoNumber next row c e = let z : _≡_ {A = ℕ} 0 1 = cc in absurd (omega arith)
+  taken : (x : NumberFound) (next : ℕ → ℕ → LineFound) (row : Row) (to : ℕ) → withNumber x next ≡ Values row to → Taken x next row to
+  taken (Value v k) next row to e = record { v = v; k = k; is = refl; goes = e }
+  taken NoNumber next row to e = let z : _≡_ {A = ℕ} 0 1 = cc in absurd (omega arith)
 
-  abbrev after₃ : Order → ℕ → ℕ → ℕ → ℕ → ℕ → Line
-  after₃ order v₁ v₂ v₃ v₄ at₄ = Values (placed order v₁ v₂ v₃ v₄) (place at₄)
+  abbrev after₃ : Order → ℕ → ℕ → ℕ → ℕ → ℕ → LineFound
+  after₃ order v₁ v₂ v₃ v₄ at₄ = Values (placed order v₁ v₂ v₃ v₄) at₄
 
-  abbrev after₂ : Order → ℕ → ℕ → ℕ → ℕ → Line
+  abbrev after₂ : Order → ℕ → ℕ → ℕ → ℕ → LineFound
   after₂ order v₁ v₂ v₃ at₃ = withNumber (fieldAt text at₃ 10) (after₃ order v₁ v₂ v₃)
 
-  abbrev after₁ : Order → ℕ → ℕ → ℕ → Line
+  abbrev after₁ : Order → ℕ → ℕ → ℕ → LineFound
   after₁ order v₁ v₂ at₂ = withNumber (fieldAt text at₂ 32) (after₂ order v₁ v₂)
 
-  abbrev after₀ : Order → ℕ → ℕ → Line
+  abbrev after₀ : Order → ℕ → ℕ → LineFound
   after₀ order v₁ at₁ = withNumber (fieldAt text at₁ 32) (after₁ order v₁)
 
-  record LineThere (order : Order) (at : ℕ) (row : Row) (c : Cursor) : Type 0 where
+  record LineThere (order : Order) (at : ℕ) (row : Row) (to : ℕ) : Type 0 where
     small : SmallRow row
-    there : drop at text ≡ valuesLine order row ++ drop (c .at) text
+    there : drop at text ≡ valuesLine order row ++ drop to text
 
   -- the row that four values are stands there
-  row-there : (order : Order) → IsOrder order → (at v₁ v₂ v₃ v₄ : ℕ) (k₁ k₂ k₃ k₄ : Cursor)
-      → ValueThere at 32 v₁ k₁ → ValueThere (k₁ .at) 32 v₂ k₂ → ValueThere (k₂ .at) 32 v₃ k₃ → ValueThere (k₃ .at) 10 v₄ k₄
-      → drop at text ≡ valuesLine order (placed order v₁ v₂ v₃ v₄) ++ drop (k₄ .at) text
+  row-there : (order : Order) → IsOrder order → (at v₁ v₂ v₃ v₄ k₁ k₂ k₃ k₄ : ℕ)
+      → ValueThere at 32 v₁ k₁ → ValueThere k₁ 32 v₂ k₂ → ValueThere k₂ 32 v₃ k₃ → ValueThere k₃ 10 v₄ k₄
+      → drop at text ≡ valuesLine order (placed order v₁ v₂ v₃ v₄) ++ drop k₄ text
   unfolding valuesLine
   row-there order is at v₁ v₂ v₃ v₄ k₁ k₂ k₃ k₄ f₁ f₂ f₃ f₄ =
       f₁ .there
@@ -109,44 +96,42 @@ module _ (text : List ℕ) where
       ∙ rw (first-placed order is v₁ v₂ v₃ v₄, second-placed order is v₁ v₂ v₃ v₄, third-placed order is v₁ v₂ v₃ v₄, fourth-placed order is v₁ v₂ v₃ v₄)
       (simp append-assoc)
 
-  line-made : (order : Order) → IsOrder order → (at v₁ v₂ v₃ v₄ : ℕ) (k₁ k₂ k₃ k₄ : Cursor) (row : Row) (c : Cursor)
-      → ValueThere at 32 v₁ k₁ → ValueThere (k₁ .at) 32 v₂ k₂ → ValueThere (k₂ .at) 32 v₃ k₃ → ValueThere (k₃ .at) 10 v₄ k₄
-      → Values (placed order v₁ v₂ v₃ v₄) (place (k₄ .at)) ≡ Values row c → LineThere order at row c
-  line-made order is at v₁ v₂ v₃ v₄ k₁ k₂ k₃ k₄ row c f₁ f₂ f₃ f₄ e =
+  line-made : (order : Order) → IsOrder order → (at v₁ v₂ v₃ v₄ k₁ k₂ k₃ k₄ : ℕ) (row : Row) (to : ℕ)
+      → ValueThere at 32 v₁ k₁ → ValueThere k₁ 32 v₂ k₂ → ValueThere k₂ 32 v₃ k₃ → ValueThere k₃ 10 v₄ k₄
+      → Values (placed order v₁ v₂ v₃ v₄) k₄ ≡ Values row to → LineThere order at row to
+  line-made order is at v₁ v₂ v₃ v₄ k₁ k₂ k₃ k₄ row to f₁ f₂ f₃ f₄ e =
       let same : placed order v₁ v₂ v₃ v₄ ≡ row = cc in
-      let k : place (k₄ .at) ≡ c = cc in
-      let i : k₄ .at ≡ c .at = ap (λ (x : Cursor). x .at) k in
+      let i : k₄ ≡ to = cc in
       record {
         small = rw same at (placed-small order v₁ v₂ v₃ v₄ (f₁ .small) (f₂ .small) (f₃ .small) (f₄ .small));
         there =
             row-there order is at v₁ v₂ v₃ v₄ k₁ k₂ k₃ k₄ f₁ f₂ f₃ f₄
-            ∙ ap (λ (r : Row). valuesLine order r ++ drop (k₄ .at) text) same ∙ ap (λ (j : ℕ). valuesLine order row ++ drop j text) i;
+            ∙ ap (λ (r : Row). valuesLine order r ++ drop k₄ text) same ∙ ap (λ (j : ℕ). valuesLine order row ++ drop j text) i;
       }
 
-  line-there : (order : Order) → IsOrder order → (at : ℕ) (row : Row) (c : Cursor) → lineAt text order at ≡ Values row c → LineThere order at row c
+  line-there : (order : Order) → IsOrder order → (at : ℕ) (row : Row) (to : ℕ) → lineAt text order at ≡ Values row to → LineThere order at row to
   unfolding lineAt
-  line-there order is at row c e =
-      let t₁ = taken (fieldAt text at 32) (after₀ order) row c e in
-      let t₂ = taken (fieldAt text (t₁ .k .at) 32) (after₁ order (t₁ .v)) row c (t₁ .goes) in
-      let t₃ = taken (fieldAt text (t₂ .k .at) 32) (after₂ order (t₁ .v) (t₂ .v)) row c (t₂ .goes) in
-      let t₄ = taken (fieldAt text (t₃ .k .at) 10) (after₃ order (t₁ .v) (t₂ .v) (t₃ .v)) row c (t₃ .goes) in
-      line-made order is at (t₁ .v) (t₂ .v) (t₃ .v) (t₄ .v) (t₁ .k) (t₂ .k) (t₃ .k) (t₄ .k) row c
+  line-there order is at row to e =
+      let t₁ = taken (fieldAt text at 32) (after₀ order) row to e in
+      let t₂ = taken (fieldAt text (t₁ .k) 32) (after₁ order (t₁ .v)) row to (t₁ .goes) in
+      let t₃ = taken (fieldAt text (t₂ .k) 32) (after₂ order (t₁ .v) (t₂ .v)) row to (t₂ .goes) in
+      let t₄ = taken (fieldAt text (t₃ .k) 10) (after₃ order (t₁ .v) (t₂ .v) (t₃ .v)) row to (t₃ .goes) in
+      line-made order is at (t₁ .v) (t₂ .v) (t₃ .v) (t₄ .v) (t₁ .k) (t₂ .k) (t₃ .k) (t₄ .k) row to
       (value-there at 32 (t₁ .v) (t₁ .k) (t₁ .is))
-      (value-there (t₁ .k .at) 32 (t₂ .v) (t₂ .k) (t₂ .is))
-      (value-there (t₂ .k .at) 32 (t₃ .v) (t₃ .k) (t₃ .is))
-      (value-there (t₃ .k .at) 10 (t₄ .v) (t₄ .k) (t₄ .is))
+      (value-there (t₁ .k) 32 (t₂ .v) (t₂ .k) (t₂ .is))
+      (value-there (t₂ .k) 32 (t₃ .v) (t₃ .k) (t₃ .is))
+      (value-there (t₃ .k) 10 (t₄ .v) (t₄ .k) (t₄ .is))
       (t₄ .goes)
 
   -- a name, and with the byte behind it
-  record ColumnThere (at n : ℕ) (c : Cursor) : Type 0 where
+  record ColumnThere (at n to : ℕ) : Type 0 where
     column : n < 4
-    there : drop at text ≡ nameBytes n ++ drop (c .at) text
+    there : drop at text ≡ nameBytes n ++ drop to text
 
-  column-made : (at m i n : ℕ) (c : Cursor) → m < 4 → drop at text ≡ nameBytes m ++ drop i text → Column m (place i) ≡ Column n c → ColumnThere at n c
-  column-made at m i n c h d e =
+  column-made : (at m i n to : ℕ) → m < 4 → drop at text ≡ nameBytes m ++ drop i text → Column m i ≡ Column n to → ColumnThere at n to
+  column-made at m i n to h d e =
       let same : m ≡ n = cc in
-      let k : place i ≡ c = cc in
-      let j : i ≡ c .at = ap (λ (x : Cursor). x .at) k in
+      let j : i ≡ to = cc in
       record { column = omega arith; there = d ∙ ap (λ (x : ℕ). nameBytes x ++ drop i text) same ∙ ap (λ (x : ℕ). nameBytes n ++ drop x text) j }
 
   kind-seen : (at : ℕ) → seesKind text at ≡ true → drop at text ≡ nameBytes 0 ++ drop (at + 4) text
@@ -156,124 +141,121 @@ module _ (text : List ℕ) where
       let s₁ = sees text (at + 1) 105 in
       let s₂ = sees text (at + 2) 110 in
       let s₃ = sees text (at + 3) 100 in
-      let a = and-true s₀ (s₁ && (s₂ && s₃)) h in
-      let b = and-true s₁ (s₂ && s₃) (a .1) in
-      let d = and-true s₂ s₃ (b .1) in
+      let h₁ : s₁ && (s₂ && s₃) ≡ true = and-second s₀ (s₁ && (s₂ && s₃)) h in
+      let h₂ : s₂ && s₃ ≡ true = and-second s₁ (s₂ && s₃) h₁ in
       let next : (i j : ℕ) → i + 1 ≡ j → (x : ℕ) → sees text i x ≡ true → drop i text ≡ x ∷ drop j text =
       λ i j e x s. seen i x s ∙ ap (λ (y : ℕ). x ∷ drop y text) e in
-      let e₀ : drop at text ≡ 107 ∷ drop (at + 1) text = next at (at + 1) refl 107 (a .0) in
-      let e₁ : drop (at + 1) text ≡ 105 ∷ drop (at + 2) text = next (at + 1) (at + 2) (omega arith) 105 (b .0) in
-      let e₂ : drop (at + 2) text ≡ 110 ∷ drop (at + 3) text = next (at + 2) (at + 3) (omega arith) 110 (d .0) in
-      let e₃ : drop (at + 3) text ≡ 100 ∷ drop (at + 4) text = next (at + 3) (at + 4) (omega arith) 100 (d .1) in
+      let e₀ : drop at text ≡ 107 ∷ drop (at + 1) text = next at (at + 1) refl 107 (and-first s₀ (s₁ && (s₂ && s₃)) h) in
+      let e₁ : drop (at + 1) text ≡ 105 ∷ drop (at + 2) text = next (at + 1) (at + 2) (omega arith) 105 (and-first s₁ (s₂ && s₃) h₁) in
+      let e₂ : drop (at + 2) text ≡ 110 ∷ drop (at + 3) text = next (at + 2) (at + 3) (omega arith) 110 (and-first s₂ s₃ h₂) in
+      let e₃ : drop (at + 3) text ≡ 100 ∷ drop (at + 4) text = next (at + 3) (at + 4) (omega arith) 100 (and-second s₂ s₃ h₂) in
       cc
 
-  column-there : (at n : ℕ) (c : Cursor) → columnAt text at ≡ Column n c → ColumnThere at n c
+  column-there : (at n to : ℕ) → columnAt text at ≡ Column n to → ColumnThere at n to
   unfolding columnAt nameBytes
-  column-there at n c e = go (sees text at 97) (sees text at 98) (sees text at 99) (seesKind text at) refl refl refl refl e
+  column-there at n to e = go (sees text at 97) (sees text at 98) (sees text at 99) (seesKind text at) refl refl refl refl e
     where
       go : (t₁ t₂ t₃ t₀ : Bool) → sees text at 97 ≡ t₁ → sees text at 98 ≡ t₂ → sees text at 99 ≡ t₃ → seesKind text at ≡ t₀
-          → cond t₁ (Column 1 (place (at + 1))) (cond t₂ (Column 2 (place (at + 1))) (cond t₃ (Column 3 (place (at + 1))) (cond t₀ (Column 0 (place (at + 4))) NoName)))
-          ≡ Column n c
-          → ColumnThere at n c
-      go true t₂ t₃ t₀ s₁ s₂ s₃ s₀ e = column-made at 1 (at + 1) n c (omega arith) (seen at 97 s₁) e
-      go false true t₃ t₀ s₁ s₂ s₃ s₀ e = column-made at 2 (at + 1) n c (omega arith) (seen at 98 s₂) e
-      go false false true t₀ s₁ s₂ s₃ s₀ e = column-made at 3 (at + 1) n c (omega arith) (seen at 99 s₃) e
-      go false false false true s₁ s₂ s₃ s₀ e = column-made at 0 (at + 4) n c (omega arith) (kind-seen at s₀) e
+          → cond t₁ (Column 1 (at + 1)) (cond t₂ (Column 2 (at + 1)) (cond t₃ (Column 3 (at + 1)) (cond t₀ (Column 0 (at + 4)) NoName)))
+          ≡ Column n to
+          → ColumnThere at n to
+      go true t₂ t₃ t₀ s₁ s₂ s₃ s₀ e = column-made at 1 (at + 1) n to (omega arith) (seen at 97 s₁) e
+      go false true t₃ t₀ s₁ s₂ s₃ s₀ e = column-made at 2 (at + 1) n to (omega arith) (seen at 98 s₂) e
+      go false false true t₀ s₁ s₂ s₃ s₀ e = column-made at 3 (at + 1) n to (omega arith) (seen at 99 s₃) e
+      go false false false true s₁ s₂ s₃ s₀ e = column-made at 0 (at + 4) n to (omega arith) (kind-seen at s₀) e
       go false false false false s₁ s₂ s₃ s₀ e = let z : _≡_ {A = ℕ} 0 1 = cc in absurd (omega arith)
 
-  record NameThere (at byte n : ℕ) (c : Cursor) : Type 0 where
+  record NameThere (at byte n to : ℕ) : Type 0 where
     column : n < 4
-    there : drop at text ≡ name n byte ++ drop (c .at) text
+    there : drop at text ≡ name n byte ++ drop to text
 
-  name-there : (at byte n : ℕ) (c : Cursor) → nameAt text at byte ≡ Column n c → NameThere at byte n c
+  name-there : (at byte n to : ℕ) → nameAt text at byte ≡ Column n to → NameThere at byte n to
   unfolding nameAt name
-  name-there at byte n c e = go (columnAt text at) refl e
+  name-there at byte n to e = go (columnAt text at) refl e
     where
-      go₂ : (n′ : ℕ) (c′ : Cursor) (t : Bool) → columnAt text at ≡ Column n′ c′ → sees text (c′ .at) byte ≡ t
-          → cond t (Column n′ (place (c′ .at + 1))) NoName ≡ Column n c → NameThere at byte n c
-      go₂ n′ c′ true x s e =
+      go₂ : (n′ to′ : ℕ) (t : Bool) → columnAt text at ≡ Column n′ to′ → sees text to′ byte ≡ t
+          → cond t (Column n′ (to′ + 1)) NoName ≡ Column n to → NameThere at byte n to
+      go₂ n′ to′ true x s e =
           let same : n′ ≡ n = cc in
-          let w = column-there at n′ c′ x in
-          let k : place (c′ .at + 1) ≡ c = cc in
-          let i : c′ .at + 1 ≡ c .at = ap (λ (x : Cursor). x .at) k in
-          let b : drop (c′ .at) text ≡ byte ∷ drop (c .at) text = seen (c′ .at) byte s ∙ ap (λ (k : ℕ). byte ∷ drop k text) i in
+          let w = column-there at n′ to′ x in
+          let i : to′ + 1 ≡ to = cc in
+          let b : drop to′ text ≡ byte ∷ drop to text = seen to′ byte s ∙ ap (λ (k : ℕ). byte ∷ drop k text) i in
           record {
             column = omega (arith, w .column);
             there =
-                w .there ∙ ap (λ (r : List ℕ). nameBytes n′ ++ r) b ∙ ap (λ (x : ℕ). nameBytes x ++ (byte ∷ drop (c .at) text)) same
-                ∙ sym (append-assoc (nameBytes n) (byte ∷ []) (drop (c .at) text));
+                w .there ∙ ap (λ (r : List ℕ). nameBytes n′ ++ r) b ∙ ap (λ (x : ℕ). nameBytes x ++ (byte ∷ drop to text)) same
+                ∙ sym (append-assoc (nameBytes n) (byte ∷ []) (drop to text));
           }
-      go₂ n′ c′ false x s e = let z : _≡_ {A = ℕ} 0 1 = cc in absurd (omega arith)
+      go₂ n′ to′ false x s e = let z : _≡_ {A = ℕ} 0 1 = cc in absurd (omega arith)
 
-      go : (x : Name) → columnAt text at ≡ x → namedBy text byte x ≡ Column n c → NameThere at byte n c
-      go (Column n′ c′) x e = go₂ n′ c′ (sees text (c′ .at) byte) x refl e
+      go : (x : NameFound) → columnAt text at ≡ x → namedBy text byte x ≡ Column n to → NameThere at byte n to
+      go (Column n′ to′) x e = go₂ n′ to′ (sees text to′ byte) x refl e
       go NoName x e = let z : _≡_ {A = ℕ} 0 1 = cc in absurd (omega arith)
 
   -- the line of names
-  record Named (x : Name) (next : ℕ → ℕ → Names) (order : Order) (c : Cursor) : Type 0 where
+  record Named (x : NameFound) (next : ℕ → ℕ → NamesFound) (order : Order) (to : ℕ) : Type 0 where
     n : ℕ
-    k : Cursor
+    k : ℕ
     is : x ≡ Column n k
-    goes : next n (k .at) ≡ InOrder order c
+    goes : next n k ≡ InOrder order to
 
-  named : (x : Name) (next : ℕ → ℕ → Names) (order : Order) (c : Cursor) → withName x next ≡ InOrder order c → Named x next order c
-  named (Column n k) next order c e = record { n = n; k = k; is = refl; goes = e }
-  named NoName next order c e = let z : _≡_ {A = ℕ} 0 1 = cc in absurd (omega arith)
+  named : (x : NameFound) (next : ℕ → ℕ → NamesFound) (order : Order) (to : ℕ) → withName x next ≡ InOrder order to → Named x next order to
+  named (Column n k) next order to e = record { n = n; k = k; is = refl; goes = e }
+  named NoName next order to e = let z : _≡_ {A = ℕ} 0 1 = cc in absurd (omega arith)
 
   abbrev columns : ℕ → ℕ → ℕ → ℕ → Order
   columns n₁ n₂ n₃ n₄ = record { first = n₁; second = n₂; third = n₃; fourth = n₄ }
 
-  abbrev behind₃ : ℕ → ℕ → ℕ → ℕ → ℕ → Names
-  behind₃ n₁ n₂ n₃ n₄ at₄ = cond (allDifferent n₁ n₂ n₃ n₄) (InOrder (columns n₁ n₂ n₃ n₄) (place at₄)) NoNames
+  abbrev behind₃ : ℕ → ℕ → ℕ → ℕ → ℕ → NamesFound
+  behind₃ n₁ n₂ n₃ n₄ at₄ = cond (allDifferent n₁ n₂ n₃ n₄) (InOrder (columns n₁ n₂ n₃ n₄) at₄) NoNames
 
-  abbrev behind₂ : ℕ → ℕ → ℕ → ℕ → Names
+  abbrev behind₂ : ℕ → ℕ → ℕ → ℕ → NamesFound
   behind₂ n₁ n₂ n₃ at₃ = withName (nameAt text at₃ 10) (behind₃ n₁ n₂ n₃)
 
-  abbrev behind₁ : ℕ → ℕ → ℕ → Names
+  abbrev behind₁ : ℕ → ℕ → ℕ → NamesFound
   behind₁ n₁ n₂ at₂ = withName (nameAt text at₂ 32) (behind₂ n₁ n₂)
 
-  abbrev behind₀ : ℕ → ℕ → Names
+  abbrev behind₀ : ℕ → ℕ → NamesFound
   behind₀ n₁ at₁ = withName (nameAt text at₁ 32) (behind₁ n₁)
 
-  record NamesThere (at : ℕ) (order : Order) (c : Cursor) : Type 0 where
+  record NamesThere (at : ℕ) (order : Order) (to : ℕ) : Type 0 where
     order-is : IsOrder order
-    there : drop at text ≡ namesLine order ++ drop (c .at) text
+    there : drop at text ≡ namesLine order ++ drop to text
 
-  names-made : (at n₁ n₂ n₃ n₄ : ℕ) (k₁ k₂ k₃ k₄ : Cursor) (order : Order) (c : Cursor)
-      → NameThere at 32 n₁ k₁ → NameThere (k₁ .at) 32 n₂ k₂ → NameThere (k₂ .at) 32 n₃ k₃ → NameThere (k₃ .at) 10 n₄ k₄
-      → behind₃ n₁ n₂ n₃ n₄ (k₄ .at) ≡ InOrder order c → NamesThere at order c
+  names-made : (at n₁ n₂ n₃ n₄ k₁ k₂ k₃ k₄ : ℕ) (order : Order) (to : ℕ)
+      → NameThere at 32 n₁ k₁ → NameThere k₁ 32 n₂ k₂ → NameThere k₂ 32 n₃ k₃ → NameThere k₃ 10 n₄ k₄
+      → behind₃ n₁ n₂ n₃ n₄ k₄ ≡ InOrder order to → NamesThere at order to
   unfolding namesLine
-  names-made at n₁ n₂ n₃ n₄ k₁ k₂ k₃ k₄ order c f₁ f₂ f₃ f₄ e = go (allDifferent n₁ n₂ n₃ n₄) refl e
+  names-made at n₁ n₂ n₃ n₄ k₁ k₂ k₃ k₄ order to f₁ f₂ f₃ f₄ e = go (allDifferent n₁ n₂ n₃ n₄) refl e
     where
-      go : (t : Bool) → allDifferent n₁ n₂ n₃ n₄ ≡ t → cond t (InOrder (columns n₁ n₂ n₃ n₄) (place (k₄ .at))) NoNames ≡ InOrder order c → NamesThere at order c
+      go : (t : Bool) → allDifferent n₁ n₂ n₃ n₄ ≡ t → cond t (InOrder (columns n₁ n₂ n₃ n₄) k₄) NoNames ≡ InOrder order to → NamesThere at order to
       go true d e =
           let same : columns n₁ n₂ n₃ n₄ ≡ order = cc in
-          let k : place (k₄ .at) ≡ c = cc in
-          let i : k₄ .at ≡ c .at = ap (λ (x : Cursor). x .at) k in
+          let i : k₄ ≡ to = cc in
           let o : IsOrder (columns n₁ n₂ n₃ n₄) =
           record { first-is = f₁ .column; second-is = f₂ .column; third-is = f₃ .column; fourth-is = f₄ .column; different = d } in
-          let w : drop at text ≡ namesLine (columns n₁ n₂ n₃ n₄) ++ drop (k₄ .at) text =
+          let w : drop at text ≡ namesLine (columns n₁ n₂ n₃ n₄) ++ drop k₄ text =
           f₁ .there
           ∙ ap (λ (r : List ℕ). name n₁ 32 ++ r) (f₂ .there ∙ ap (λ (r : List ℕ). name n₂ 32 ++ r) (f₃ .there ∙ ap (λ (r : List ℕ). name n₃ 32 ++ r) (f₄ .there)))
           ∙ simp append-assoc in
           record {
             order-is = rw same at o;
-            there = w ∙ ap (λ (r : Order). namesLine r ++ drop (k₄ .at) text) same ∙ ap (λ (j : ℕ). namesLine order ++ drop j text) i;
+            there = w ∙ ap (λ (r : Order). namesLine r ++ drop k₄ text) same ∙ ap (λ (j : ℕ). namesLine order ++ drop j text) i;
           }
       go false d e = let z : _≡_ {A = ℕ} 0 1 = cc in absurd (omega arith)
 
-  names-there : (at : ℕ) (order : Order) (c : Cursor) → namesAt text at ≡ InOrder order c → NamesThere at order c
+  names-there : (at : ℕ) (order : Order) (to : ℕ) → namesAt text at ≡ InOrder order to → NamesThere at order to
   unfolding namesAt
-  names-there at order c e =
-      let t₁ = named (nameAt text at 32) behind₀ order c e in
-      let t₂ = named (nameAt text (t₁ .k .at) 32) (behind₁ (t₁ .n)) order c (t₁ .goes) in
-      let t₃ = named (nameAt text (t₂ .k .at) 32) (behind₂ (t₁ .n) (t₂ .n)) order c (t₂ .goes) in
-      let t₄ = named (nameAt text (t₃ .k .at) 10) (behind₃ (t₁ .n) (t₂ .n) (t₃ .n)) order c (t₃ .goes) in
-      names-made at (t₁ .n) (t₂ .n) (t₃ .n) (t₄ .n) (t₁ .k) (t₂ .k) (t₃ .k) (t₄ .k) order c
+  names-there at order to e =
+      let t₁ = named (nameAt text at 32) behind₀ order to e in
+      let t₂ = named (nameAt text (t₁ .k) 32) (behind₁ (t₁ .n)) order to (t₁ .goes) in
+      let t₃ = named (nameAt text (t₂ .k) 32) (behind₂ (t₁ .n) (t₂ .n)) order to (t₂ .goes) in
+      let t₄ = named (nameAt text (t₃ .k) 10) (behind₃ (t₁ .n) (t₂ .n) (t₃ .n)) order to (t₃ .goes) in
+      names-made at (t₁ .n) (t₂ .n) (t₃ .n) (t₄ .n) (t₁ .k) (t₂ .k) (t₃ .k) (t₄ .k) order to
       (name-there at 32 (t₁ .n) (t₁ .k) (t₁ .is))
-      (name-there (t₁ .k .at) 32 (t₂ .n) (t₂ .k) (t₂ .is))
-      (name-there (t₂ .k .at) 32 (t₃ .n) (t₃ .k) (t₃ .is))
-      (name-there (t₃ .k .at) 10 (t₄ .n) (t₄ .k) (t₄ .is))
+      (name-there (t₁ .k) 32 (t₂ .n) (t₂ .k) (t₂ .is))
+      (name-there (t₂ .k) 32 (t₃ .n) (t₃ .k) (t₃ .is))
+      (name-there (t₃ .k) 10 (t₄ .n) (t₄ .k) (t₄ .is))
       (t₄ .goes)
 
   -- all lines
@@ -289,10 +271,10 @@ module _ (text : List ℕ) where
       let same : k ≡ n = cc in
       record { small = none; count = omega arith; few = omega arith; there = drop-of-length-le text (ltb-false at (length text) p) }
 
-  lines-more : (order : Order) (at k n m : ℕ) (row : Row) (c : Cursor) (rows : List Row) → LineThere order at row c
-      → LinesThere order (c .at) (k + 1) n rows m → LinesThere order at k n (row ∷ rows) (suc m)
+  lines-more : (order : Order) (at k n m : ℕ) (row : Row) (to : ℕ) (rows : List Row) → LineThere order at row to
+      → LinesThere order to (k + 1) n rows m → LinesThere order at k n (row ∷ rows) (suc m)
   unfolding linesText
-  lines-more order at k n m row c rows f g =
+  lines-more order at k n m row to rows f g =
       record {
         small = one (f .small) (g .small);
         count = omega (arith, g .count);
@@ -309,11 +291,11 @@ module _ (text : List ℕ) where
       go false p e = lines-past order at k n 0 p e
   lines-there order is (suc m) k at n e = go (ltb at (length text)) (lineAt text order at) refl refl e (λ next f. lines-there order is m (k + 1) next n f)
     where
-      go : (t : Bool) (line : Line) → ltb at (length text) ≡ t → lineAt text order at ≡ line
+      go : (t : Bool) (line : LineFound) → ltb at (length text) ≡ t → lineAt text order at ≡ line
           → cond t (byLine line (λ row next. foundFrom m text order (k + 1) next) (WrongLine k)) (Rows k) ≡ Rows n
           → ((next : ℕ) → foundFrom m text order (k + 1) next ≡ Rows n → LinesThere order next (k + 1) n (rowsFrom m text order next) m)
           → LinesThere order at k n (cond t (byLine line (λ row next. row ∷ rowsFrom m text order next) []) []) (suc m)
-      go true (Values row c) p l e later = lines-more order at k n m row c (rowsFrom m text order (c .at)) (line-there order is at row c l) (later (c .at) e)
+      go true (Values row to) p l e later = lines-more order at k n m row to (rowsFrom m text order to) (line-there order is at row to l) (later to e)
       go true NoLine p l e later = let z : _≡_ {A = ℕ} 0 1 = cc in absurd (omega arith)
       go false line p l e later = lines-past order at k n (suc m) p e
 
@@ -327,11 +309,11 @@ pub record Accepted (text : List ℕ) (n : ℕ) : Type 0 where
   pub short : length text ≤ 16384
   pub written : text ≡ sheetText order (sheetRows text)
 
-accepted : (text : List ℕ) (n : ℕ) (order : Order) (c : Cursor) → ltb 16384 (length text) ≡ false → namesAt text 0 ≡ InOrder order c
-    → NamesThere text 0 order c → LinesThere text order (c .at) 0 n (rowsFrom 512 text order (c .at)) 512 → Accepted text n
+accepted : (text : List ℕ) (n : ℕ) (order : Order) (to : ℕ) → ltb 16384 (length text) ≡ false → namesAt text 0 ≡ InOrder order to
+    → NamesThere text 0 order to → LinesThere text order to 0 n (rowsFrom 512 text order to) 512 → Accepted text n
 unfolding sheetText sheetRows
-accepted text n order c p q f g =
-    let rows : sheetRows text ≡ rowsFrom 512 text order (c .at) = rw (p, q) in
+accepted text n order to p q f g =
+    let rows : sheetRows text ≡ rowsFrom 512 text order to = rw (p, q) in
     record {
       order = order;
       order-is = f .order-is;
@@ -346,14 +328,14 @@ pub read-written : (text : List ℕ) (n : ℕ) → sheetFound text ≡ Rows n �
 unfolding sheetFound
 read-written text n e = go (ltb 16384 (length text)) (namesAt text 0) refl refl e
   where
-    go : (t : Bool) (names : Names) → ltb 16384 (length text) ≡ t → namesAt text 0 ≡ names
+    go : (t : Bool) (names : NamesFound) → ltb 16384 (length text) ≡ t → namesAt text 0 ≡ names
         → cond t TooLong (byNames names (λ order at. foundFrom 512 text order 0 at) WrongNames) ≡ Rows n → Accepted text n
     go true names p q e = let z : _≡_ {A = ℕ} 0 1 = cc in absurd (omega arith)
     go false NoNames p q e = let z : _≡_ {A = ℕ} 0 1 = cc in absurd (omega arith)
-    go false (InOrder order c) p q e =
-        let f = names-there text 0 order c q in
-        let g = lines-there text order (f .order-is) 512 0 (c .at) n e in
-        accepted text n order c p q f g
+    go false (InOrder order to) p q e =
+        let f = names-there text 0 order to q in
+        let g = lines-there text order (f .order-is) 512 0 to n e in
+        accepted text n order to p q f g
 
 -- the theorem in one statement: a text is accepted, and read as these rows, exactly if it is a sheet of these rows
 abbrev pub ReadAs : List ℕ → List Row → Type 0

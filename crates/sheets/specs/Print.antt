@@ -1,21 +1,11 @@
 -- What the program prints (document 01, "Sheet and program"): the record and the answer table, in the manner of a sheet.
-use mathlib.Core.Bool.{cond}
 use mathlib.Core.List.{List, [], _∷_, _++_}
-use Prim.Native.Nat.{ℕ, _+_}
-use lib.Dec.{ltb}
-use lib.ListN.{length, replicate, set, take}
+use Prim.Native.Nat.{ℕ}
+use lib.ListN.{length, replicate, take}
 use Rattle.laws.specs.Buffers.{overwrite}
 use Rattle.terms.specs.declared.Record.{Record}
 use Rattle.sheets.specs.declared.Text.{Text}
 use Rattle.sheets.specs.Writing.{digits}
-
--- A line with one byte more, if there is room.
-unfoldable pub pushed : Text → ℕ → Text
-pushed t byte = cond (ltb (t .len) 80) (record { bytes = set (t .bytes) (t .len) byte; len = t .len + 1 }) t
-
-unfoldable pub pushAll : Text → List ℕ → Text
-pushAll t [] = t
-pushAll t (byte ∷ bytes) = pushAll (pushed t byte) bytes
 
 -- A line of text: its bytes, and 0 in the rest of the array.
 unfoldable pub lineOf : List ℕ → Text

@@ -6,17 +6,13 @@ use lib.Dec.{ltb}
 use lib.ListN.{length}
 use Rattle.terms.specs.declared.Row.{Row}
 use Rattle.sheets.specs.declared.Order.{Order}
-use Rattle.sheets.specs.declared.Line.{Line}
-use Rattle.sheets.specs.declared.Line.the-variants.{Values, NoLine}
-use Rattle.sheets.specs.declared.Names.{Names}
-use Rattle.sheets.specs.declared.Names.the-variants.{InOrder, NoNames}
 use Rattle.sheets.specs.declared.Sheet.{Sheet}
 use Rattle.sheets.specs.declared.Sheet.the-variants.{TooLong, WrongNames, TooMany, WrongLine, Rows}
-use Rattle.sheets.specs.Text.{lineAt, namesAt}
+use Rattle.sheets.specs.Text.{LineFound, Values, NoLine, NamesFound, InOrder, NoNames, lineAt, namesAt}
 
 -- What follows a line, by whether it is one.
-abbrev pub byLine : {A : Type 0} → Line → (Row → ℕ → A) → A → A
-byLine (Values row c) next other = next row (c .at)
+abbrev pub byLine : {A : Type 0} → LineFound → (Row → ℕ → A) → A → A
+byLine (Values row at) next other = next row at
 byLine NoLine next other = other
 
 -- What is found of the lines from a place on, the first of them being line k, where n more may stand.
@@ -32,8 +28,8 @@ rowsFrom (suc n) text order at =
     cond (ltb at (length text)) (byLine (lineAt text order at) (λ row next. row ∷ rowsFrom n text order next) []) []
 
 -- What is found of a text, and its rows: over 16,384 bytes, names line otherwise, then the lines.
-abbrev pub byNames : {A : Type 0} → Names → (Order → ℕ → A) → A → A
-byNames (InOrder order c) next other = next order (c .at)
+abbrev pub byNames : {A : Type 0} → NamesFound → (Order → ℕ → A) → A → A
+byNames (InOrder order at) next other = next order at
 byNames NoNames next other = other
 
 unfoldable pub sheetFound : List ℕ → Sheet

@@ -6,56 +6,62 @@ use Prim.Native.Nat.{ℕ, _+_, _*_, _-_}
 use lib.Dec.{ltb, eqb}
 use lib.ListN.{length, getD, drop}
 use Rattle.terms.specs.declared.Row.{Row}
-use Rattle.sheets.specs.declared.Cursor.{Cursor}
-use Rattle.sheets.specs.declared.Number.{Number}
-use Rattle.sheets.specs.declared.Number.the-variants.{Value, NoNumber}
-use Rattle.sheets.specs.declared.Name.{Name}
-use Rattle.sheets.specs.declared.Name.the-variants.{Column, NoName}
 use Rattle.sheets.specs.declared.Order.{Order}
-use Rattle.sheets.specs.declared.Names.{Names}
-use Rattle.sheets.specs.declared.Names.the-variants.{InOrder, NoNames}
-use Rattle.sheets.specs.declared.Line.{Line}
-use Rattle.sheets.specs.declared.Line.the-variants.{Values, NoLine}
 
-abbrev pub place : ℕ → Cursor
-place at = record { at = at }
+-- What is found at a place, with the place behind it: a number; a column by its name, 0 to 3 for kind, a, b and c; the line of names; a
+-- line of values.
+pub data NumberFound : Type 0 where
+  Value : (number behind : ℕ) → NumberFound
+  NoNumber : NumberFound
+
+pub data NameFound : Type 0 where
+  Column : (column behind : ℕ) → NameFound
+  NoName : NameFound
+
+pub data NamesFound : Type 0 where
+  InOrder : (order : Order) (behind : ℕ) → NamesFound
+  NoNames : NamesFound
+
+pub data LineFound : Type 0 where
+  Values : (row : Row) (behind : ℕ) → LineFound
+  NoLine : LineFound
 
 -- The value of a decimal digit, and 10 for any other byte.
 unfoldable pub digitOf : ℕ → ℕ
 digitOf byte = cond (ltb byte 48) 10 (cond (ltb 57 byte) 10 (byte - 48))
 
 -- More digits of a number of which v has been read.
-unfoldable pub moreDigits : ℕ → ℕ → List ℕ → Number
-moreDigits v at [] = Value v (place at)
+unfoldable pub moreDigits : ℕ → ℕ → List ℕ → NumberFound
+moreDigits v at [] = Value v at
 moreDigits v at (byte ∷ text) =
-    cond (ltb 9 (digitOf byte)) (Value v (place at))
+    cond (ltb 9 (digitOf byte)) (Value v at)
     (cond (ltb 65535 (v * 10 + digitOf byte)) NoNumber (moreDigits (v * 10 + digitOf byte) (at + 1) text))
 
 -- A 0 has no digit behind it.
-unfoldable pub afterZero : ℕ → List ℕ → Number
-afterZero at [] = Value 0 (place at)
-afterZero at (byte ∷ text) = cond (ltb 9 (digitOf byte)) (Value 0 (place at)) NoNumber
+unfoldable pub afterZero : ℕ → List ℕ → NumberFound
+afterZero at [] = Value 0 at
+afterZero at (byte ∷ text) = cond (ltb 9 (digitOf byte)) (Value 0 at) NoNumber
 
 -- A value: decimal, 0 to 65,535, without leading zeros.
-unfoldable pub numberHere : ℕ → List ℕ → Number
+unfoldable pub numberHere : ℕ → List ℕ → NumberFound
 numberHere at [] = NoNumber
 numberHere at (byte ∷ text) =
     cond (ltb 9 (digitOf byte)) NoNumber
     (cond (eqb (digitOf byte) 0) (afterZero (at + 1) text) (moreDigits (digitOf byte) (at + 1) text))
 
-abbrev pub numberAt : List ℕ → ℕ → Number
+abbrev pub numberAt : List ℕ → ℕ → NumberFound
 numberAt text at = numberHere at (drop at text)
 
 -- Whether a byte stands at a place.
 unfoldable pub sees : List ℕ → ℕ → ℕ → Bool
 sees text at byte = ltb at (length text) && eqb (getD text at 0) byte
 
-abbrev pub endedBy : List ℕ → ℕ → Number → Number
-endedBy text byte (Value v c) = cond (sees text (c .at) byte) (Value v (place (c .at + 1))) NoNumber
+abbrev pub endedBy : List ℕ → ℕ → NumberFound → NumberFound
+endedBy text byte (Value v at) = cond (sees text at byte) (Value v (at + 1)) NoNumber
 endedBy text byte NoNumber = NoNumber
 
 -- A number and the byte behind it.
-unfoldable pub fieldAt : List ℕ → ℕ → ℕ → Number
+unfoldable pub fieldAt : List ℕ → ℕ → ℕ → NumberFound
 fieldAt text at byte = endedBy text byte (numberAt text at)
 
 -- The value for one column, where the names' order says which column each value is of.
@@ -74,52 +80,52 @@ placed order v₁ v₂ v₃ v₄ =
     }
 
 -- What follows a number, if there is one.
-abbrev pub withNumber : Number → (ℕ → ℕ → Line) → Line
-withNumber (Value v c) next = next v (c .at)
+abbrev pub withNumber : NumberFound → (ℕ → ℕ → LineFound) → LineFound
+withNumber (Value v at) next = next v at
 withNumber NoNumber next = NoLine
 
 -- A line of values: four numbers, one space between them, byte 10 at the end.
-unfoldable pub lineAt : List ℕ → Order → ℕ → Line
+unfoldable pub lineAt : List ℕ → Order → ℕ → LineFound
 lineAt text order at =
     withNumber (fieldAt text at 32) λ v₁ at₁.
     withNumber (fieldAt text at₁ 32) λ v₂ at₂.
     withNumber (fieldAt text at₂ 32) λ v₃ at₃.
-    withNumber (fieldAt text at₃ 10) λ v₄ at₄. Values (placed order v₁ v₂ v₃ v₄) (place at₄)
+    withNumber (fieldAt text at₃ 10) λ v₄ at₄. Values (placed order v₁ v₂ v₃ v₄) at₄
 
 -- Whether the bytes of "kind" stand at a place.
 unfoldable pub seesKind : List ℕ → ℕ → Bool
 seesKind text at = sees text at 107 && (sees text (at + 1) 105 && (sees text (at + 2) 110 && sees text (at + 3) 100))
 
 -- The column that is named at a place: a, b, c or kind.
-unfoldable pub columnAt : List ℕ → ℕ → Name
+unfoldable pub columnAt : List ℕ → ℕ → NameFound
 columnAt text at =
-    cond (sees text at 97) (Column 1 (place (at + 1)))
-    (cond (sees text at 98) (Column 2 (place (at + 1)))
-    (cond (sees text at 99) (Column 3 (place (at + 1)))
-    (cond (seesKind text at) (Column 0 (place (at + 4)))
+    cond (sees text at 97) (Column 1 (at + 1))
+    (cond (sees text at 98) (Column 2 (at + 1))
+    (cond (sees text at 99) (Column 3 (at + 1))
+    (cond (seesKind text at) (Column 0 (at + 4))
     NoName)))
 
 -- A name and the byte behind it.
-abbrev pub namedBy : List ℕ → ℕ → Name → Name
-namedBy text byte (Column n c) = cond (sees text (c .at) byte) (Column n (place (c .at + 1))) NoName
+abbrev pub namedBy : List ℕ → ℕ → NameFound → NameFound
+namedBy text byte (Column n at) = cond (sees text at byte) (Column n (at + 1)) NoName
 namedBy text byte NoName = NoName
 
-unfoldable pub nameAt : List ℕ → ℕ → ℕ → Name
+unfoldable pub nameAt : List ℕ → ℕ → ℕ → NameFound
 nameAt text at byte = namedBy text byte (columnAt text at)
 
 -- What follows a name, if there is one.
-abbrev pub withName : Name → (ℕ → ℕ → Names) → Names
-withName (Column n c) next = next n (c .at)
+abbrev pub withName : NameFound → (ℕ → ℕ → NamesFound) → NamesFound
+withName (Column n at) next = next n at
 withName NoName next = NoNames
 
 unfoldable pub allDifferent : ℕ → ℕ → ℕ → ℕ → Bool
 allDifferent a b c d = not (eqb a b || eqb a c || eqb a d || eqb b c || eqb b d || eqb c d)
 
 -- The line of names: the four names, each once, one space between them, byte 10 at the end.
-unfoldable pub namesAt : List ℕ → ℕ → Names
+unfoldable pub namesAt : List ℕ → ℕ → NamesFound
 namesAt text at =
     withName (nameAt text at 32) λ n₁ at₁.
     withName (nameAt text at₁ 32) λ n₂ at₂.
     withName (nameAt text at₂ 32) λ n₃ at₃.
     withName (nameAt text at₃ 10) λ n₄ at₄.
-    cond (allDifferent n₁ n₂ n₃ n₄) (InOrder (record { first = n₁; second = n₂; third = n₃; fourth = n₄ }) (place at₄)) NoNames
+    cond (allDifferent n₁ n₂ n₃ n₄) (InOrder (record { first = n₁; second = n₂; third = n₃; fourth = n₄ }) at₄) NoNames

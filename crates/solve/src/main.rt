@@ -1,9 +1,9 @@
 // The program (document 01, "Sheet and program"): it reads a sheet from standard input, solves it, and prints the record and, for
-// outcome 2, the answer table. The whole print is put into a buffer first (crate prints), so that it can be stated what is written.
+// outcome 2, the answer table. The whole print is put into a buffer first (crate printer), so that it can be stated what is written.
 ghost use mathlib.Core.Path.{_≡_};
 ghost use Prim.Native.Nat.{_≤_};
 ghost use lib.ListN.{length};
-ghost use Rattle.prints.specs.Program.{programText};
+ghost use Rattle.sheets.specs.Program.{programText};
 ghost use Rattle.solve.specs.Reading.{bytesRead};
 
 // How many bytes are read at the most: one more than a sheet may have.
@@ -45,8 +45,8 @@ fn write_print(text: &[u8], print: &[u8]) -> bool
 
 // Solves a text and prints its answer.
 fn answer_text(text: &[u8]) -> bool {
-    let mut print = [0u8; prints::PRINT_ROOM];
-    let len = prints::put_print(text, &mut print[..]);
+    let mut print = [0u8; printer::PRINT_ROOM];
+    let len = printer::put_print(text, &mut print[..]);
     write_print(text, &print[..len])
 }
 

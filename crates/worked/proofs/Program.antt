@@ -16,8 +16,8 @@ use Rattle.sheets.specs.Print.{recordText, answerText}
 use Rattle.sheets.proofs.Written.{read-exactly}
 use Rattle.answers.specs.Answer.{answerNumbers}
 use Rattle.answers.specs.Solve.{solvedRows, answerRecord}
-use Rattle.prints.specs.Program.{programText}
-use Rattle.prints.proofs.Theorems.{prints-refusal, prints-fault, prints-answer}
+use Rattle.sheets.specs.Program.{programText}
+use Rattle.sheets.proofs.ProgramText.{prints-refusal, prints-fault, prints-answer}
 use Rattle.worked.specs.Cases.{Case, Solved, Refused, Form, Sheet, Printed, line}
 use Rattle.worked.proofs.ByClasses.{classRecord, classAnswer, by-classes}
 use Rattle.worked.proofs.WorkedOut.{tableOut, printOut, caseComputed}

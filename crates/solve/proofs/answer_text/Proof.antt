@@ -5,8 +5,8 @@ use native.Mathlib.Omega.{arith}
 use denote.Ref.{now}
 use lib.ListN.{length, take, length-replicate}
 use lib.Seq.{length-take-le}
-use Rattle.prints.specs.Program.{programText}
-use Rattle.prints.proofs.Prints.{print-taken}
+use Rattle.sheets.specs.Program.{programText}
+use Rattle.sheets.proofs.PrintFits.{print-taken}
 use borrow.Author.Needs.{needs}
 use Rattle.solve.proofs.answer_text.Statement.{statement}
 use Rattle.solve.proofs.answer_text.Tie as tie
