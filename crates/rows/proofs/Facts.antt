@@ -1,5 +1,5 @@
--- The end of a walk whose contract has two `ensures`, or three: `Denote/Triple/Walked.antt`'s `says` of both, or of all. And the machine
--- value of a number. It says nothing of the crate. Assumes nothing.
+-- The end of a walk whose contract has two `ensures`: `Denote/Triple/Walked.antt`'s `says` of both. And the machine value of a number. It
+-- says nothing of the crate. Assumes nothing.
 use mathlib.Core.Path.{_≡_, ap}
 use Prim.Native.Nat.{ℕ}
 use mathlib.Core.List.{List, [], _∷_}
@@ -25,6 +25,3 @@ number-is r v is = ap first-of (is .0)
 module _ {M : Type 1} {𝓤 : URA M} {H : Heap 𝓤} {A : Atoms 𝓤} {K : Type 0} {W : Given 𝓤 H A} {Γ : List (Item 𝓤)} where
   pub says-two : K → {φ ψ : Type 0} {P : SProp 𝓤} → φ → ψ → Step K W Γ (prop P) Γ (prop (sep 𝓤 P (sep 𝓤 (fact 𝓤 φ) (fact 𝓤 ψ))))
   says-two t {φ} {ψ} {P} x y = step (λ s. suffices t _ (assoc∗ 𝓤 P (fact 𝓤 φ) (fact 𝓤 ψ)) $ says t y $ says t x $ s)
-
-  pub says-three : K → {φ ψ χ : Type 0} {P : SProp 𝓤} → φ → ψ → χ → Step K W Γ (prop P) Γ (prop (sep 𝓤 P (sep 𝓤 (fact 𝓤 φ) (sep 𝓤 (fact 𝓤 ψ) (fact 𝓤 χ)))))
-  says-three t {φ} {ψ} {χ} {P} x y z = step (λ s. suffices t _ (assoc∗ 𝓤 P (fact 𝓤 φ) (sep 𝓤 (fact 𝓤 ψ) (fact 𝓤 χ))) $ says-two t y z $ says t x $ s)

@@ -1,0 +1,15 @@
+-- `lw_make_pattern` says what the call of `maker::make_pattern` says. Assumes nothing.
+use Rattle.linkwords.proofs.lw_make_pattern.Statement.{statement}
+use Rattle.linkwords.proofs.lw_make_pattern.Tie as tie
+
+make-pattern-requires : tie.Need-make-pattern-requires
+make-pattern-requires c κs = tt
+
+same-length : tie.Need-same-length
+same-length c = c .before .before .make-pattern .kept .1 .1 .0
+
+returns : tie.Need-returns
+returns c = c .before .before .make-pattern .ensures
+
+pub lw-make-pattern-spec : {M : Type 1} → statement M
+lw-make-pattern-spec = tie.close (tie.spec make-pattern-requires same-length returns)
