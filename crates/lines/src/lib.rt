@@ -1,9 +1,10 @@
 // The lines that are printed, of a record and of an answer table, each made byte by byte and passed by value.
 ghost use mathlib.Core.Path.{_≡_};
 ghost use mathlib.Core.List.{[]};
-ghost use Rattle.lines.specs.Push.{pushed, pushAll};
+ghost use Rattle.lines.specs.Push.{pushed, pushAll, fourValues};
 ghost use Rattle.sheets.specs.Print.{field, lineOf, recordNames, recordValues, answerNames, answerValues};
 ghost use Rattle.sheets.specs.Writing.{digits};
+use answers::AnswerRow;
 use sheets::Text;
 use terms::Record;
 
@@ -89,12 +90,19 @@ pub fn answer_names() -> Text
     put_bytes(empty(), b"variable kind width fresh\n")
 }
 
-// The line of one row of the answer table.
-pub fn answer_values(variable: u16, kind: u16, width: u16, fresh: u16) -> Text
-    ensures { λ t. ⌜ t ≡ lineOf (answerValues variable kind width fresh) ⌝ }
+// A line of four values.
+pub fn four_values(a: u16, b: u16, c: u16, d: u16) -> Text
+    ensures { λ t. ⌜ t ≡ lineOf (fourValues a b c d) ⌝ }
 {
-    let t1 = put_number(empty(), variable as u32, sheets::SPACE);
-    let t2 = put_number(t1, kind as u32, sheets::SPACE);
-    let t3 = put_number(t2, width as u32, sheets::SPACE);
-    put_number(t3, fresh as u32, sheets::NEWLINE)
+    let t1 = put_number(empty(), a as u32, sheets::SPACE);
+    let t2 = put_number(t1, b as u32, sheets::SPACE);
+    let t3 = put_number(t2, c as u32, sheets::SPACE);
+    put_number(t3, d as u32, sheets::NEWLINE)
+}
+
+// The line of one row of the answer table.
+pub fn answer_values(row: AnswerRow) -> Text
+    ensures { λ t. ⌜ t ≡ lineOf (answerValues row) ⌝ }
+{
+    four_values(row.variable, row.kind, row.width, row.fresh)
 }

@@ -7,7 +7,8 @@ use lib.ListN.{length, replicate, take, drop}
 use lib.Seq.{take-at}
 use Rattle.terms.specs.declared.Record.{Record}
 use Rattle.laws.proofs.Buffers.{overwrite-fits}
-use Rattle.sheets.specs.Print.{lineOf, shown, recordNames, recordValues, recordText, answerNames, answerValues, answerLines, answerText}
+use Rattle.sheets.specs.Print.{lineOf, shown, recordNames, recordValues, recordText, answerNames, answerValues, rowLines, answerLines, answerText}
+use Rattle.answers.specs.declared.AnswerRow.{AnswerRow}
 use Rattle.sheets.proofs.Lengths.{record-values-few, answer-values-few}
 
 pub line-shown : (l : List ℕ) → length l ≤ 80 → shown (lineOf l) ≡ l
@@ -25,7 +26,6 @@ pub answer-text : (numbers : List ℕ) → shown (lineOf answerNames) ++ answerL
 unfolding answerText
 answer-text numbers = rw (line-shown answerNames (omega arith)) refl
 
-pub answer-row : (v k w f : ℕ) (numbers : List ℕ)
-    → shown (lineOf (answerValues v k w f)) ++ answerLines numbers ≡ answerLines (v ∷ k ∷ w ∷ f ∷ numbers)
-unfolding answerLines
-answer-row v k w f numbers = rw (line-shown (answerValues v k w f) (answer-values-few v k w f)) refl
+pub answer-row : (r : AnswerRow) (rows : List AnswerRow) → shown (lineOf (answerValues r)) ++ rowLines rows ≡ rowLines (r ∷ rows)
+unfolding rowLines
+answer-row r rows = rw (line-shown (answerValues r) (answer-values-few r)) refl

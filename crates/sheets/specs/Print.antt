@@ -4,6 +4,8 @@ use Prim.Native.Nat.{ℕ}
 use lib.ListN.{length, replicate, take}
 use Rattle.laws.specs.Buffers.{overwrite}
 use Rattle.terms.specs.declared.Record.{Record}
+use Rattle.answers.specs.declared.AnswerRow.{AnswerRow}
+use Rattle.answers.specs.Answer.{answerRowsOf}
 use Rattle.sheets.specs.declared.Text.{Text}
 use Rattle.sheets.specs.Writing.{digits}
 
@@ -43,19 +45,19 @@ answerNames =
     ∷ 102 ∷ 114 ∷ 101 ∷ 115 ∷ 104 ∷ 10 ∷ []
 
 -- one row of the answer table
-unfoldable pub answerValues : ℕ → ℕ → ℕ → ℕ → List ℕ
-answerValues variable kind width fresh = field variable 32 ++ (field kind 32 ++ (field width 32 ++ field fresh 10))
+unfoldable pub answerValues : AnswerRow → List ℕ
+answerValues r = field (r .variable) 32 ++ (field (r .kind) 32 ++ (field (r .width) 32 ++ field (r .fresh) 10))
 
 -- The text of a record, and of an answer table whose numbers these are.
 unfoldable pub recordText : Record → List ℕ
 recordText r = recordNames ++ recordValues r
 
+unfoldable pub rowLines : List AnswerRow → List ℕ
+rowLines [] = []
+rowLines (r ∷ rows) = answerValues r ++ rowLines rows
+
 unfoldable pub answerLines : List ℕ → List ℕ
-answerLines [] = []
-answerLines (v ∷ []) = []
-answerLines (v ∷ k ∷ []) = []
-answerLines (v ∷ k ∷ w ∷ []) = []
-answerLines (v ∷ k ∷ w ∷ f ∷ numbers) = answerValues v k w f ++ answerLines numbers
+answerLines numbers = rowLines (answerRowsOf numbers)
 
 unfoldable pub answerText : List ℕ → List ℕ
 answerText numbers = answerNames ++ answerLines numbers

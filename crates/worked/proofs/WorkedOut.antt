@@ -20,10 +20,10 @@ use Rattle.sheets.specs.Text.{digitOf, moreDigits, afterZero, numberHere, sees,
 use Rattle.sheets.specs.Sheet.{foundFrom, rowsFrom, sheetFound, sheetRows}
 use Rattle.sheets.specs.Call.{sheetRecord, tableAfter}
 use Rattle.sheets.specs.Writing.{digits}
-use Rattle.sheets.specs.Print.{field, recordValues, recordText, answerValues, answerLines, answerText}
+use Rattle.sheets.specs.Print.{field, recordValues, recordText, answerValues, rowLines, answerLines, answerText}
 use Rattle.answers.specs.Pairs.{paired, pairsOf, pairsIn}
 use Rattle.answers.specs.Classes.{inClass, relabel, merge, run, classesOf, links, conflictAt, linksBefore}
-use Rattle.answers.specs.Answer.{variableWidths, begins, variableAt, contiguous, fixedAlike, goesOn, lowest, appears, placeRow, rowsTo, answerRows, answerNumbers, freshNumbers, freshPieces, freshWidth, freshStart, freeBits}
+use Rattle.answers.specs.Answer.{variableWidths, begins, variableAt, contiguous, fixedAlike, goesOn, lowest, appears, placeRow, rowsTo, answerRows, answerNumbers, answerRowsOf, freshNumbers, freshPieces, freshWidth, freshStart, freeBits}
 use Rattle.answers.specs.Answer as answer
 use Rattle.answers.specs.Solve.{pairsTogether}
 use Rattle.worked.specs.Cases.{Case, Solved, Refused, Form, Sheet, Printed, Holds, AllHold, _and_}
@@ -117,7 +117,7 @@ sheetComputed text = sheetOut text
 
 -- a print;
 unfoldable pub printComputed : Record → List ℕ → List ℕ
-unfolding digits field recordValues recordText answerValues answerLines answerText printOut
+unfolding digits field recordValues recordText answerValues rowLines answerRowsOf answerLines answerText printOut
 printComputed found answer = printOut found answer
 
 -- a case.

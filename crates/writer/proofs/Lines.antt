@@ -3,12 +3,16 @@ use mathlib.Core.Path.{_≡_, refl, sym, _∙_, ap, ap₂, subst}
 use mathlib.Core.List.{List, [], _∷_, _++_}
 use Prim.Native.Nat.{ℕ, suc, _+_, _*_, _-_, _/_, _<_, _≤_}
 use native.Mathlib.Omega.{arith}
-use lib.ListN.{length, getD, drop, length-append, length-drop}
+use native.Mathlib.Numerals.{add-one}
+use lib.ListN.{length, drop, length-append, drop-of-length-le}
 use lib.Seq.{drop-cons}
 use Rattle.terms.specs.declared.Record.{Record}
 use Rattle.sheets.specs.declared.Text.{Text}
 use Rattle.sheets.specs.Print.{lineOf, shown, recordNames, recordValues, recordText}
-use Rattle.sheets.specs.Print.{answerNames, answerValues, answerLines, answerText}
+use Rattle.sheets.specs.Print.{answerNames, answerValues, rowLines, answerLines, answerText}
+use Rattle.answers.specs.declared.AnswerRow.{AnswerRow}
+use Rattle.answers.specs.Answer.{answerRowsOf, noAnswerRow, answerRowAt}
+use Rattle.answers.proofs.AnswerNumbers.{answer-length}
 use Rattle.sheets.proofs.PrintedText.{line-shown}
 use Rattle.sheets.proofs.Lengths.{record-values-few, answer-values-few}
 use Rattle.sheets.specs.Printed.{written}
@@ -47,61 +51,31 @@ answer-put answer names out out₁ out₂ at b₁ b₂ room n p q =
     put-in ((length answer / 4 + 1) * 80) out at (answerNames ++ answerLines answer) out₂ b₂ room
     (both-put out out₁ out₂ at b₁ b₂ answerNames (answerLines answer) (omega arith) first rows)
 
--- the lines of the rows from a number on: one row's, and then those of the rows behind it
-pub row-next : (answer : List ℕ) (k : ℕ) → k + 4 ≤ length answer
-    → answerLines (drop k answer)
-    ≡ answerValues (getD answer k 0) (getD answer (k + 1) 0) (getD answer (k + 2) 0) (getD answer (k + 3) 0)
-    ++ answerLines (drop (k + 4) answer)
-unfolding answerLines
-row-next answer k h =
-    let last : suc (k + 3) ≡ k + 4 = omega arith in
-    ap answerLines
-    (drop-cons answer k 0 (omega arith)
-    ∙ ap (λ (l : List ℕ). getD answer k 0 ∷ l)
-    (next k (k + 1) (omega arith) (omega arith)
-    ∙ ap (λ (l : List ℕ). getD answer (k + 1) 0 ∷ l)
-    (next (k + 1) (k + 2) (omega arith) (omega arith)
-    ∙ ap (λ (l : List ℕ). getD answer (k + 2) 0 ∷ l)
-    (next (k + 2) (k + 3) (omega arith) (omega arith)
-    ∙ ap (λ (n : ℕ). getD answer (k + 3) 0 ∷ drop n answer) last))))
-  where
-    next : (i j : ℕ) → suc i ≡ j → j < length answer → drop (suc i) answer ≡ getD answer j 0 ∷ drop (suc j) answer
-    next i j e l = ap (λ (n : ℕ). drop n answer) e ∙ drop-cons answer j 0 l
-
--- fewer than four numbers are no row
-pub rows-end : (answer : List ℕ) (k : ℕ) → length answer < k + 4 → answerLines (drop k answer) ≡ []
-unfolding answerLines
-rows-end answer k h = go (drop k answer) (rw length-drop (omega arith))
-  where
-    go : (l : List ℕ) → length l < 4 → answerLines l ≡ []
-    go [] h = refl
-    go (a ∷ []) h = refl
-    go (a ∷ b ∷ []) h = refl
-    go (a ∷ b ∷ c ∷ []) h = refl
-    go (a ∷ b ∷ c ∷ d ∷ l) h = absurd (omega arith)
-
--- The lines of the rows before number k are written: what is left to write completes the answer's lines.
-pub record RowsPut (answer out₀ : List ℕ) (at : ℕ) (out : List ℕ) (b k : ℕ) : Type 0 where
-  pub within : k ≤ length answer
+-- The lines of the first i rows are written: what is left to write completes the answer's lines.
+pub record RowsPut (answer out₀ : List ℕ) (at : ℕ) (out : List ℕ) (b i : ℕ) : Type 0 where
+  pub within : i ≤ length (answerRowsOf answer)
   pub kept : length out ≡ length out₀
-  pub room : b + (length answer - k) / 4 * 80 ≤ length out₀
-  pub place : b + length (answerLines (drop k answer)) ≡ at + length (answerLines answer)
-  pub content : written out b (answerLines (drop k answer)) ≡ written out₀ at (answerLines answer)
+  pub room : b + (length (answerRowsOf answer) - i) * 80 ≤ length out₀
+  pub place : b + length (rowLines (drop i (answerRowsOf answer))) ≡ at + length (answerLines answer)
+  pub content : written out b (rowLines (drop i (answerRowsOf answer))) ≡ written out₀ at (answerLines answer)
 
 pub rows-first : (answer out : List ℕ) (at : ℕ) → at + length answer / 4 * 80 ≤ length out → RowsPut answer out at out at 0
-rows-first answer out at h = record { within = omega arith; kept = refl; room = omega arith; place = refl; content = refl }
+unfolding answerLines
+rows-first answer out at h = record { within = omega arith; kept = refl; room = omega (arith, answer-length answer); place = refl; content = refl }
 
-pub rows-more : (answer out₀ : List ℕ) (at : ℕ) (out : List ℕ) (b k : ℕ) (out′ : List ℕ) (b′ : ℕ)
-    → RowsPut answer out₀ at out b k → k + 4 ≤ length answer
-    → Put out b (answerValues (getD answer k 0) (getD answer (k + 1) 0) (getD answer (k + 2) 0) (getD answer (k + 3) 0)) out′ b′
-    → RowsPut answer out₀ at out′ b′ (k + 4)
-rows-more answer out₀ at out b k out′ b′ p h q =
-    let l = answerValues (getD answer k 0) (getD answer (k + 1) 0) (getD answer (k + 2) 0) (getD answer (k + 3) 0) in
-    let m = answerLines (drop (k + 4) answer) in
-    let next : answerLines (drop k answer) ≡ l ++ m = row-next answer k h in
-    let few : length l ≤ 80 = answer-values-few _ _ _ _ in
+pub rows-more : (answer out₀ : List ℕ) (at : ℕ) (out : List ℕ) (b i : ℕ) (out′ : List ℕ) (b′ : ℕ) → RowsPut answer out₀ at out b i → i < length answer / 4
+    → (row : AnswerRow) → row ≡ answerRowAt (answerRowsOf answer) i → Put out b (answerValues row) out′ b′ → RowsPut answer out₀ at out′ b′ (i + 1)
+rows-more answer out₀ at out b i out′ b′ p h row read q =
+    let rows = answerRowsOf answer in
+    let l = answerValues row in
+    let m = rowLines (drop (i + 1) rows) in
+    let there : i < length rows = omega (arith, answer-length answer) in
+    let next : rowLines (drop i rows) ≡ l ++ m =
+    ap rowLines (drop-cons rows i noAnswerRow there)
+    ∙ (unfold rowLines in ap₂ (λ (r : AnswerRow) (n : ℕ). answerValues r ++ rowLines (drop n rows)) (sym read) (sym (add-one i))) in
+    let few : length l ≤ 80 = answer-values-few row in
     record {
-      within = h;
+      within = omega arith;
       kept = put-kept out out′ b b′ l q ∙ p .kept;
       room = omega (arith, p .room, q .place);
       place = omega (arith, p .place, q .place, ap length next, length-append l m);
@@ -112,10 +86,11 @@ rows-more answer out₀ at out b k out′ b′ p h q =
           ∙ p .content;
     }
 
-pub rows-done : (answer out₀ : List ℕ) (at : ℕ) (out : List ℕ) (b k : ℕ) → RowsPut answer out₀ at out b k → length answer < k + 4
+pub rows-done : (answer out₀ : List ℕ) (at : ℕ) (out : List ℕ) (b i : ℕ) → RowsPut answer out₀ at out b i → length answer / 4 ≤ i
     → Put out₀ at (answerLines answer) out b
-rows-done answer out₀ at out b k p h =
-    let e = rows-end answer k h in
+rows-done answer out₀ at out b i p h =
+    let e : rowLines (drop i (answerRowsOf answer)) ≡ [] =
+    ap rowLines (drop-of-length-le (answerRowsOf answer) {i = i} (omega (arith, answer-length answer))) ∙ (unfold rowLines in refl) in
     record {
       place = omega (arith, p .place, ap length e);
       content = sym (written-none out b) ∙ ap (written out b) (sym e) ∙ p .content;

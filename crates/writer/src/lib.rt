@@ -68,15 +68,15 @@ pub fn put_rows(answer: &[u16], out: &mut [u8], at: usize) -> usize
     ensures place { λ r. ⌜ r ≡ behindIn (length (now (answer .entry)) / 4 * 80) (length (now (out .entry))) at (answerLines (now (answer .entry))) ⌝ }
     ensures bytes { λ _. ⌜ now (out .exit) ≡ printedIn (length (now (answer .entry)) / 4 * 80) (now (out .entry)) at (answerLines (now (answer .entry))) ⌝ }
 {
-    if !lines_fit(answer.len() / 4, out.len(), at) {
+    if !lines_fit(answer.len() / answers::ROW, out.len(), at) {
         return at;
     }
     let mut behind = at;
-    let mut k = 0;
-    while k + 4 <= answer.len() {
-        let line = lines::answer_values(answer[k], answer[k + 1], answer[k + 2], answer[k + 3]);
+    let mut i = 0;
+    while i < answer.len() / answers::ROW {
+        let line = lines::answer_values(answer_table::row_at(answer, i));
         behind = put_line(line, out, behind);
-        k += 4;
+        i += 1;
     }
     behind
 }
@@ -86,7 +86,7 @@ pub fn put_answer(answer: &[u16], out: &mut [u8], at: usize) -> usize
     ensures place { λ r. ⌜ r ≡ behindIn ((length (now (answer .entry)) / 4 + 1) * 80) (length (now (out .entry))) at (answerText (now (answer .entry))) ⌝ }
     ensures bytes { λ _. ⌜ now (out .exit) ≡ printedIn ((length (now (answer .entry)) / 4 + 1) * 80) (now (out .entry)) at (answerText (now (answer .entry))) ⌝ }
 {
-    if !lines_fit(answer.len() / 4 + 1, out.len(), at) {
+    if !lines_fit(answer.len() / answers::ROW + 1, out.len(), at) {
         return at;
     }
     let behind = put_line(lines::answer_names(), out, at);

@@ -1,10 +1,11 @@
--- `put_rows` meets its contract: the lines of the rows before number k are written (`RowsPut`). Assumes nothing.
+-- `put_rows` meets its contract: the lines of the first i rows are written (`RowsPut`). Assumes nothing.
 use mathlib.Core.Path.{sym, _∙_}
-use Prim.Native.Nat.{_+_, _-_, _*_, _/_, _≤_}
+use Prim.Native.Nat.{_+_, _-_, _*_, _/_, _≤_, _<_}
 use native.Mathlib.Omega.{arith}
 use denote.Ref.{now}
 use borrow.Author.Tests.{not-true, not-false}
 use lib.ListN.{length, getD}
+use Rattle.answers.proofs.AnswerNumbers.{answer-length}
 use Rattle.sheets.proofs.Lengths.{answer-values-few}
 use Rattle.sheets.proofs.Printed.{room-there, room-not-there, put-none, put-in}
 use Rattle.writer.proofs.Lines.{RowsPut, line-put, rows-first, rows-more, rows-done}
@@ -12,10 +13,10 @@ use Rattle.writer.proofs.put_rows.Statement.{statement}
 use Rattle.writer.proofs.put_rows.Tie as tie
 
 abbrev Inv-loop : tie.InvT-loop
-Inv-loop answer out₀ at behind₀ k₀ out behind k = RowsPut answer out₀ at out behind k
+Inv-loop answer out₀ at behind₀ i₀ out behind i = RowsPut answer out₀ at out behind i
 
 abbrev μ-loop : tie.MeasureT-loop
-μ-loop answer out₀ at behind₀ k₀ out behind k = length answer - k
+μ-loop answer out₀ at behind₀ i₀ out behind i = length answer / 4 - i
 
 lines-fit-requires : tie.Need-lines-fit-requires Inv-loop μ-loop
 lines-fit-requires c κs = tt
@@ -32,41 +33,8 @@ room d = room-there _ _ _ (sym (d .before .lines-fit .ensures) ∙ not-false _ (
 loop-holds : tie.Need-loop-holds Inv-loop μ-loop
 loop-holds c = rows-first _ _ _ (room c)
 
-add-loop : tie.Need-add-loop Inv-loop μ-loop
-add-loop c = omega arith
-
-mul-answer-values : tie.Need-mul-answer-values Inv-loop μ-loop
-mul-answer-values c = omega arith
-
-shared-slice-read-answer-values : tie.Need-shared-slice-read-answer-values Inv-loop μ-loop
-shared-slice-read-answer-values c = omega arith
-
-add-answer-values : tie.Need-add-answer-values Inv-loop μ-loop
-add-answer-values c = omega arith
-
-mul-answer-values-2 : tie.Need-mul-answer-values-2 Inv-loop μ-loop
-mul-answer-values-2 c = omega arith
-
-shared-slice-read-answer-values-2 : tie.Need-shared-slice-read-answer-values-2 Inv-loop μ-loop
-shared-slice-read-answer-values-2 c = omega arith
-
-add-answer-values-2 : tie.Need-add-answer-values-2 Inv-loop μ-loop
-add-answer-values-2 c = omega arith
-
-mul-answer-values-3 : tie.Need-mul-answer-values-3 Inv-loop μ-loop
-mul-answer-values-3 c = omega arith
-
-shared-slice-read-answer-values-3 : tie.Need-shared-slice-read-answer-values-3 Inv-loop μ-loop
-shared-slice-read-answer-values-3 c = omega arith
-
-add-answer-values-3 : tie.Need-add-answer-values-3 Inv-loop μ-loop
-add-answer-values-3 c = omega arith
-
-mul-answer-values-4 : tie.Need-mul-answer-values-4 Inv-loop μ-loop
-mul-answer-values-4 c = omega arith
-
-shared-slice-read-answer-values-4 : tie.Need-shared-slice-read-answer-values-4 Inv-loop μ-loop
-shared-slice-read-answer-values-4 c = omega arith
+row-at-requires : tie.Need-row-at-requires Inv-loop μ-loop
+row-at-requires c κs = tt
 
 answer-values-requires : tie.Need-answer-values-requires Inv-loop μ-loop
 answer-values-requires c κs = tt
@@ -74,8 +42,8 @@ answer-values-requires c κs = tt
 put-line-requires : tie.Need-put-line-requires Inv-loop μ-loop
 put-line-requires c κs = tt
 
-add-k : tie.Need-add-k Inv-loop μ-loop
-add-k c = omega arith
+add-i : tie.Need-add-i Inv-loop μ-loop
+add-i c = omega arith
 
 loop-less : tie.Need-loop-less Inv-loop μ-loop
 loop-less c = omega arith
@@ -84,16 +52,16 @@ loop-again : tie.Need-loop-again Inv-loop μ-loop
 loop-again c =
     let put = c .before .before in
     let line = put .before .before in
-    let in-loop = line .before .before .before .before .before in
+    let read = line .before in
+    let in-loop = read .before in
     let at-loop = in-loop .before in
     let l = at-loop .loop in
     let a = at-loop .before .before .before .before .before .args in
     let answer = now (a .answer) in
-    let k = l .k in
-    let h : k + 4 ≤ length answer = omega (arith, in-loop .loop-test .taken) in
-    let few = answer-values-few (getD answer k 0) (getD answer (k + 1) 0) (getD answer (k + 2) 0) (getD answer (k + 3) 0) in
-    rows-more answer (now (a .out)) (a .at) (l .out) (l .behind) k _ _ (l .inv) h
-    (line-put _ _ (l .out) _ (l .behind) _ (line .answer-values .ensures) few (omega (arith, few, h, l .inv .room, l .inv .kept))
+    let few = answer-values-few (read .row-at .result) in
+    let h : l .i < length answer / 4 = omega (arith, in-loop .loop-test .taken) in
+    rows-more answer (now (a .out)) (a .at) (l .out) (l .behind) (l .i) _ _ (l .inv) h (read .row-at .result) (read .row-at .ensures)
+    (line-put _ _ (l .out) _ (l .behind) _ (line .answer-values .ensures) few (omega (arith, few, h, l .inv .room, l .inv .kept, answer-length answer))
     (put .put-line .ensures))
 
 same-length : tie.Need-same-length Inv-loop μ-loop
@@ -104,7 +72,7 @@ returns-2 c =
     let a = c .before .before .before .before .before .before .args in
     let l = c .before .loop in
     put-in _ (now (a .out)) (a .at) _ _ _ (room (c .before .before))
-    (rows-done (now (a .answer)) (now (a .out)) _ _ _ (l .k) (l .inv) (omega arith))
+    (rows-done (now (a .answer)) (now (a .out)) _ _ _ (l .i) (l .inv) (omega arith))
 
 pub put-rows-spec : {M : Type 1} → statement M
 put-rows-spec =
@@ -115,21 +83,10 @@ put-rows-spec =
     lines-fit-requires
     returns
     loop-holds
-    add-loop
-    mul-answer-values
-    shared-slice-read-answer-values
-    add-answer-values
-    mul-answer-values-2
-    shared-slice-read-answer-values-2
-    add-answer-values-2
-    mul-answer-values-3
-    shared-slice-read-answer-values-3
-    add-answer-values-3
-    mul-answer-values-4
-    shared-slice-read-answer-values-4
+    row-at-requires
     answer-values-requires
     put-line-requires
-    add-k
+    add-i
     loop-less
     loop-again
     same-length
