@@ -15,7 +15,7 @@ use Rattle.terms.specs.Assignments.{Assignment, every, count}
 use Rattle.terms.specs.Faults.{firstFault}
 use Rattle.terms.specs.Table.{rowsOf, bitsOf, satisfies}
 use Rattle.terms.proofs.Assignments.{every-at, every-of, count-none-of, count-none-at, count-all-of, count-all-at}
-use Rattle.answers.specs.Pairs.{Pair, pairsIn, satisfiesPairs}
+use Rattle.answers.specs.Pairs.{Pair, equationPairs, satisfiesPairs}
 use Rattle.answers.specs.Classes.{rep, inClass, roots}
 use Rattle.answers.specs.declared.AnswerRow.{AnswerRow}
 use Rattle.answers.specs.Answer.{equalUnder, variableWidths, begins, appears, answerRows, freshPieces, freeBits, instantiate}
@@ -79,7 +79,7 @@ module _ (table : List ℕ) (accepted : firstFault table ≡ Accepted) where
   c = tableClasses table accepted
 
   abbrev seen : List Pair
-  seen = reverse (pairsTogether (pairsIn (rowsOf table) (rowsOf table)))
+  seen = reverse (pairsTogether (equationPairs (rowsOf table)))
 
   abbrev inv : Represents n c seen
   inv = represent table accepted
@@ -91,7 +91,7 @@ module _ (table : List ℕ) (accepted : firstFault table ≡ Accepted) where
   last = ap (begins ws) (sym (widths-sum t)) ∙ begins-behind ws
 
   by-seen : (p : List ℕ) → Assignment n p → satisfies t p ≡ satisfiesPairs p seen
-  by-seen p a = satisfies-is table accepted p a ∙ sym (satisfies-reverse p (pairsTogether (pairsIn t t)))
+  by-seen p a = satisfies-is table accepted p a ∙ sym (satisfies-reverse p (pairsTogether (equationPairs t)))
 
   module _ (some : unsatisfiable (rowsOf table) ≡ false) where
     abbrev one : rep c 1 ≡ 1

@@ -2,17 +2,18 @@
 use mathlib.Core.Path.{_≡_, refl, sym, _∙_, ap, ap₂}
 use mathlib.Core.Bool.{Bool, true, _&&_}
 use mathlib.Core.List.{List, [], _∷_, map, reverseAux}
-use Prim.Native.Nat.{ℕ, suc, _<_}
+use mathlib.Core.Logic.{⊎-elim}
+use Prim.Native.Nat.{ℕ, zero, suc, _<_, _≤_}
 use native.Mathlib.Omega.{arith}
 use lib.Dec.{eqb}
-use lib.ListN.{length, getD}
+use lib.ListN.{length, getD, drop}
 use Rattle.terms.specs.declared.Row.{Row}
-use Rattle.terms.specs.Table.{rowAt, bitsOf, byKind, bitOf, valuesOf, sourceOf, sameWord, sidesAgree, allRows, satisfies}
-use Rattle.terms.proofs.RowKinds.{KindOf, is-variable, is-constant, is-concat, is-extract, is-equation, kind-of, else-kind}
+use Rattle.terms.specs.Table.{rowAt, bitsOf, ifEquation, bitOf, valuesOf, sourceOf, sameWord, sidesAgree, allRows, satisfies}
+use Rattle.terms.proofs.RowKinds.{Equation, equation-or-not, of-equation, of-term}
 use Rattle.terms.proofs.Faults.{kept, kept-names, kept-sides, equation-names}
 use Rattle.terms.proofs.Values.{Sound}
 use Rattle.terms.proofs.Sources.{value-sources, source-length}
-use Rattle.answers.specs.Pairs.{Pair, paired, pairsOf, pairsIn, satisfiesPairs, satisfiesAll, allPairs}
+use Rattle.answers.specs.Pairs.{Pair, paired, pairsOf, pairsIn, equationPairs, satisfiesPairs, satisfiesAll, allPairs}
 use Rattle.answers.proofs.Agreement.{satisfies-turned}
 use Rattle.laws.proofs.Bools.{and-move}
 
@@ -26,28 +27,31 @@ pair-words p (x ∷ xs) (y ∷ ys) h = ap (λ (b : Bool). eqb (bitOf p x) (bitOf
 
 module _ (t : List Row) (p : List ℕ) (sound : Sound t) (whole : length p ≡ bitsOf t) where
   pub row-pairs : (r : ℕ) → r < length t → sidesAgree (valuesOf t p) (rowAt t r) ≡ satisfiesPairs p (pairsOf t (rowAt t r))
-  unfolding sidesAgree pairsOf satisfiesPairs byKind
-  row-pairs r h = go (kind-of (rowAt t r .kind))
+  unfolding sidesAgree pairsOf satisfiesPairs
+  row-pairs r h = ⊎-elim equation term (equation-or-not (rowAt t r))
     where
       row : Row
       row = rowAt t r
 
-      go : KindOf (row .kind)
-          → byKind (row .kind) true true true true (sameWord (getD (valuesOf t p) (row .a) []) (getD (valuesOf t p) (row .b) []))
-          ≡ satisfiesPairs p (byKind (row .kind) [] [] [] [] (paired (sourceOf t (row .a)) (sourceOf t (row .b))))
-      go (is-variable e) = rw e refl
-      go (is-constant e) = rw e refl
-      go (is-concat e) = rw e refl
-      go (is-extract e) = rw e refl
-      go (is-equation e) =
+      agree : Bool
+      agree = sameWord (getD (valuesOf t p) (row .a) []) (getD (valuesOf t p) (row .b) [])
+
+      bits : List Pair
+      bits = paired (sourceOf t (row .a)) (sourceOf t (row .b))
+
+      term : (Equation row → ⊥) → ifEquation row agree true ≡ satisfiesPairs p (ifEquation row bits [])
+      term l = of-term row agree true l ∙ sym (ap (satisfiesPairs p) (of-term row bits [] l))
+
+      equation : Equation row → ifEquation row agree true ≡ satisfiesPairs p (ifEquation row bits [])
+      equation e =
           let k = kept t r (sound r h) in
           let names = equation-names t r row (kept-names t r k) e in
           let a : row .a < length t = omega (arith, names .0 .earlier, h) in
           let b : row .b < length t = omega (arith, names .1 .earlier, h) in
-          else-kind (row .kind) true true true true (sameWord (getD (valuesOf t p) (row .a) []) (getD (valuesOf t p) (row .b) [])) e
+          of-equation row agree true e
           ∙ ap₂ sameWord (value-sources t p sound whole (row .a) a) (value-sources t p sound whole (row .b) b)
           ∙ pair-words p (sourceOf t (row .a)) (sourceOf t (row .b)) (source-length t sound (row .a) a ∙ kept-sides t r k e ∙ sym (source-length t sound (row .b) b))
-          ∙ sym (ap (satisfiesPairs p) (else-kind (row .kind) [] [] [] [] (paired (sourceOf t (row .a)) (sourceOf t (row .b))) e))
+          ∙ sym (ap (satisfiesPairs p) (of-equation row bits [] e))
 
   pub rows-pairs : (rs : List Row) → ((r : ℕ) → r < length rs → sidesAgree (valuesOf t p) (rowAt rs r) ≡ satisfiesPairs p (pairsOf t (rowAt rs r)))
       → allRows (sidesAgree (valuesOf t p)) rs ≡ satisfiesAll p (pairsIn t rs)
@@ -55,9 +59,43 @@ module _ (t : List Row) (p : List ℕ) (sound : Sound t) (whole : length p ≡ b
   rows-pairs [] h = refl
   rows-pairs (r ∷ rs) h = ap₂ _&&_ (h 0 (omega arith)) (rows-pairs rs (λ i l. h (suc i) (omega arith)))
 
-  pub table-pairs : satisfies t p ≡ satisfiesAll p (pairsIn t t)
+  pub table-pairs : satisfies t p ≡ satisfiesAll p (equationPairs t)
   unfolding satisfies
   table-pairs = rows-pairs t row-pairs
+
+-- the bit pairs of row r stand at place r, and none behind the last row
+from-row : (t rs : List Row) (r : ℕ) → r < length rs → drop r (pairsIn t rs) ≡ pairsOf t (rowAt rs r) ∷ drop (suc r) (pairsIn t rs)
+unfolding pairsIn
+from-row t [] r l = absurd (omega arith)
+from-row t (x ∷ rs) zero l = refl
+from-row t (x ∷ rs) (suc r) l = from-row t rs r (omega arith)
+
+past-rows : (t rs : List Row) (r : ℕ) → length rs ≤ r → drop r (pairsIn t rs) ≡ []
+unfolding pairsIn
+past-rows t [] zero l = refl
+past-rows t [] (suc r) l = refl
+past-rows t (x ∷ rs) zero l = absurd (omega arith)
+past-rows t (x ∷ rs) (suc r) l = past-rows t rs r (omega arith)
+
+pub pairs-from : (t : List Row) (r : ℕ) → r < length t → drop r (equationPairs t) ≡ pairsOf t (rowAt t r) ∷ drop (suc r) (equationPairs t)
+pairs-from t = from-row t t
+
+pub pairs-past : (t : List Row) (r : ℕ) → length t ≤ r → drop r (equationPairs t) ≡ []
+pairs-past t = past-rows t t
+
+-- tables have the same bit pairs if each row has
+rows-same : (u t us ts : List Row) → length us ≡ length ts → ((r : ℕ) → r < length ts → pairsOf u (rowAt us r) ≡ pairsOf t (rowAt ts r))
+    → pairsIn u us ≡ pairsIn t ts
+unfolding pairsIn
+rows-same u t [] [] n h = refl
+rows-same u t [] (y ∷ ts) n h = absurd (omega arith)
+rows-same u t (x ∷ us) [] n h = absurd (omega arith)
+rows-same u t (x ∷ us) (y ∷ ts) n h =
+    ap₂ (λ (p : List Pair) (ps : List (List Pair)). p ∷ ps) (h 0 (omega arith)) (rows-same u t us ts (omega arith) (λ r l. h (suc r) (omega arith)))
+
+pub pairs-same : (u t : List Row) → length u ≡ length t → ((r : ℕ) → r < length t → pairsOf u (rowAt u r) ≡ pairsOf t (rowAt t r))
+    → equationPairs u ≡ equationPairs t
+pairs-same u t = rows-same u t u t
 
 pub all-pairs : (p : List ℕ) (seen : List Pair) (es : List (List Pair)) → satisfiesPairs p (allPairs seen es) ≡ satisfiesAll p es && satisfiesPairs p seen
 unfolding allPairs satisfiesAll

@@ -13,7 +13,7 @@ use Rattle.terms.specs.Assignments.{Assignment}
 use Rattle.terms.specs.Faults.{firstFault}
 use Rattle.terms.specs.Table.{rowsOf, bitsOf, satisfies}
 use Rattle.terms.proofs.Assignments.{assignment-length, assignment-bit}
-use Rattle.answers.specs.Pairs.{Pair, pairsIn, satisfiesPairs}
+use Rattle.answers.specs.Pairs.{Pair, equationPairs, satisfiesPairs}
 use Rattle.answers.specs.Classes.{rep, inClass}
 use Rattle.answers.specs.Answer.{variableWidths, begins, rowsTo, answerRows, isFresh, freshPieces}
 use Rattle.answers.specs.declared.AnswerRow.{AnswerRow}
@@ -180,7 +180,7 @@ module _ (table : List ℕ) (accepted : firstFault table ≡ Accepted) (solved :
   c = tableClasses table accepted
 
   abbrev seen : List Pair
-  seen = reverse (pairsTogether (pairsIn (rowsOf table) (rowsOf table)))
+  seen = reverse (pairsTogether (equationPairs (rowsOf table)))
 
   abbrev some : unsatisfiable (rowsOf table) ≡ false
   some = some-left (rowsOf table) solved
@@ -192,7 +192,7 @@ module _ (table : List ℕ) (accepted : firstFault table ≡ Accepted) (solved :
   ending = ap (begins ws) (sym (widths-sum t)) ∙ begins-behind ws
 
   by-seen : (p : List ℕ) → Assignment n p → satisfies t p ≡ satisfiesPairs p seen
-  by-seen p a = satisfies-is table accepted p a ∙ sym (satisfies-reverse p (pairsTogether (pairsIn t t)))
+  by-seen p a = satisfies-is table accepted p a ∙ sym (satisfies-reverse p (pairsTogether (equationPairs t)))
 
   rows-are-those : solvedRows t ≡ answerRows n ws (inClass c)
   rows-are-those = solved-rows table accepted some

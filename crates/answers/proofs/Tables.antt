@@ -18,7 +18,7 @@ use Rattle.laws.specs.Lists.{countUp}
 use Rattle.terms.proofs.AcceptedTable.{accepted-table}
 use Rattle.terms.proofs.Assignments.{assignment-length, every-at, every-of, count-ext, count-none-of, count-all-of, count-all-at}
 use Rattle.terms.proofs.Values.{Sound}
-use Rattle.answers.specs.Pairs.{Pair, pairsOf, pairsIn, satisfiesPairs, satisfiesAll, allPairs, equals, ties, noneSatisfies, unsatAt, tiesBefore}
+use Rattle.answers.specs.Pairs.{Pair, pairsOf, pairsIn, equationPairs, satisfiesPairs, satisfiesAll, allPairs, equals, ties, noneSatisfies, unsatAt, tiesBefore}
 use Rattle.laws.specs.Lists.{least}
 use Rattle.answers.specs.Classes.{rep, inClass, classesOf, runAll, roots, conflictAt, linksBefore}
 use Rattle.answers.specs.Answer.{placed, placeRow, goesOn, rowsTo, equalUnder, variableWidths, answerRows}
@@ -76,10 +76,10 @@ module _ (table : List ℕ) (accepted : firstFault table ≡ Accepted) where
   n = bitsOf (rowsOf table)
 
   abbrev es : List (List Pair)
-  es = pairsIn (rowsOf table) (rowsOf table)
+  es = equationPairs (rowsOf table)
 
   abbrev qs : List Pair
-  qs = pairsTogether (pairsIn (rowsOf table) (rowsOf table))
+  qs = pairsTogether (equationPairs (rowsOf table))
 
   -- the classes of the table
   unfoldable pub tableClasses : List ℕ

@@ -1,5 +1,5 @@
 -- The widths of the variables of a table: they add up to its variable bits, and a variable begins at place 0 and behind the last place.
-use mathlib.Core.Path.{_≡_, refl, sym, _∙_, ap}
+use mathlib.Core.Path.{_≡_, refl, _∙_, ap}
 use mathlib.Core.Bool.{Bool, true, false, cond}
 use mathlib.Core.List.{List, [], _∷_, _++_, map}
 use Prim.Native.Nat.{ℕ, zero, suc, _+_, _-_, _≤_}
@@ -9,29 +9,20 @@ use lib.ListN.{replicate}
 use borrow.Author.Tests.{ltb-true}
 use Rattle.terms.specs.declared.Row.{Row}
 use Rattle.terms.specs.Assignments.{Assignment, done, off, on}
-use Rattle.terms.specs.Table.{byKind, bitsIn, bitsOf}
-use Rattle.terms.proofs.RowKinds.{KindOf, kind-of, is-variable, is-constant, is-concat, is-extract, is-equation, else-kind}
+use Rattle.terms.specs.Table.{bitsIn, bitsOf}
+use Rattle.terms.proofs.RowKinds.{by-variable, bits-variable, bits-other}
 use Rattle.answers.specs.Answer.{variableWidths, begins}
 use Rattle.answers.specs.Systems.{Part, fill, fresh, partWidth, sideWidth, FinePart, FineSide, FineSides, SolvedSystem, pieceBits, partBits, sideBits, systemBits, Filling}
 use Rattle.answers.proofs.GeneralSystems.{widthSum}
 
 pub widths-sum : (t : List Row) → widthSum (variableWidths t) ≡ bitsOf t
-unfolding widthSum variableWidths bitsOf bitsIn byKind
+unfolding widthSum variableWidths bitsOf
 widths-sum [] = refl
-widths-sum (r ∷ t) = go (kind-of (r .kind)) (widths-sum t)
-  where
-    vs : List ℕ
-    vs = variableWidths t
-
-    go : KindOf (r .kind) → widthSum (variableWidths t) ≡ bitsOf t
-        → widthSum (byKind (r .kind) (r .a ∷ variableWidths t) (variableWidths t) (variableWidths t) (variableWidths t) (variableWidths t)) ≡ byKind (r .kind) (r .a) 0 0 0 0 + bitsOf t
-    go (is-variable e) h = rw e (ap (λ (x : ℕ). r .a + x) h)
-    go (is-constant e) h = rw e (h ∙ omega arith)
-    go (is-concat e) h = rw e (h ∙ omega arith)
-    go (is-extract e) h = rw e (h ∙ omega arith)
-    go (is-equation e) h =
-        ap widthSum (else-kind (r .kind) (r .a ∷ vs) vs vs vs vs e)
-        ∙ h ∙ sym (ap (λ (x : ℕ). x + bitsOf t) (else-kind (r .kind) (r .a) 0 0 0 0 e) ∙ omega arith)
+widths-sum (r ∷ t) =
+    let later = widths-sum t in
+    by-variable r (r .a ∷ variableWidths t) (variableWidths t) (λ (ws : List ℕ). widthSum ws ≡ bitsIn r + bitsOf t)
+    (λ e. omega (arith, bits-variable r e))
+    (λ h. omega (arith, bits-other r h))
 
 pub begins-first : (ws : List ℕ) → begins ws 0 ≡ true
 unfolding begins

@@ -8,7 +8,7 @@ use lib.ListN.{getD, take, drop, replicate}
 use Rattle.terms.specs.declared.Row.{Row}
 use Rattle.answers.specs.declared.AnswerRow.{AnswerRow}
 use Rattle.terms.specs.Assignments.{every}
-use Rattle.terms.specs.Table.{bitOf, byKind}
+use Rattle.terms.specs.Table.{ifVariable, bitOf}
 use Rattle.laws.specs.Lists.{least, below, tally, distinct}
 
 -- Whether two sources have the same bit in every assignment of n bits that passes a test.
@@ -18,8 +18,7 @@ equalUnder n test s t = every n (λ p. not (test p) || eqb (bitOf p s) (bitOf p 
 -- The widths of the variables of a table, variable 0 first.
 unfoldable pub variableWidths : List Row → List ℕ
 variableWidths [] = []
-variableWidths (r ∷ rs) =
-    byKind (r .kind) (r .a ∷ variableWidths rs) (variableWidths rs) (variableWidths rs) (variableWidths rs) (variableWidths rs)
+variableWidths (r ∷ rs) = ifVariable r (r .a ∷ variableWidths rs) (variableWidths rs)
 
 -- Whether a variable begins at place i, with its high bit; the end of the last variable counts too. And the variable of place i.
 unfoldable pub begins : List ℕ → ℕ → Bool

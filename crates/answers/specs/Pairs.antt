@@ -7,7 +7,7 @@ use Prim.Native.Nat.{ℕ, suc, _+_}
 use lib.Dec.{eqb}
 use Rattle.terms.specs.declared.Row.{Row}
 use Rattle.terms.specs.Assignments.{every}
-use Rattle.terms.specs.Table.{bitOf, byKind, sourceOf}
+use Rattle.terms.specs.Table.{ifEquation, bitOf, sourceOf}
 use Rattle.laws.specs.Lists.{least}
 
 pub record Pair : Type 0 where
@@ -22,12 +22,16 @@ paired (x ∷ xs) (y ∷ ys) = record { left = x; right = y } ∷ paired xs ys
 
 -- The bit pairs of a row, high end first: none, if it is no equation.
 unfoldable pub pairsOf : List Row → Row → List Pair
-pairsOf t r = byKind (r .kind) [] [] [] [] (paired (sourceOf t (r .a)) (sourceOf t (r .b)))
+pairsOf t r = ifEquation r (paired (sourceOf t (r .a)) (sourceOf t (r .b))) []
 
 -- The bit pairs of each row in turn.
 unfoldable pub pairsIn : List Row → List Row → List (List Pair)
 pairsIn t [] = []
 pairsIn t (r ∷ rs) = pairsOf t r ∷ pairsIn t rs
+
+-- The bit pairs of a table's equations: a list for each row, with nothing in it for a row that is no equation.
+abbrev pub equationPairs : List Row → List (List Pair)
+equationPairs t = pairsIn t t
 
 -- Whether an assignment satisfies (meets) each of the pairs.
 unfoldable pub satisfiesPairs : List ℕ → List Pair → Bool

@@ -12,7 +12,7 @@ use Rattle.terms.specs.Calls.{refusal, faultRecord, stopAt}
 use Rattle.laws.specs.Buffers.{overwrite}
 use Rattle.terms.specs.Faults.{isAccepted, firstFault}
 use Rattle.terms.specs.Table.{rowsOf, bitsOf, valuesOf, sidesAgree, allRows, satisfies}
-use Rattle.answers.specs.Pairs.{Pair, pairsIn, ties}
+use Rattle.answers.specs.Pairs.{Pair, equationPairs, ties}
 use Rattle.laws.specs.Lists.{least}
 use Rattle.answers.specs.declared.AnswerRow.{AnswerRow}
 use Rattle.answers.specs.Answer.{equalUnder, variableWidths, answerRows, answerNumbers, freshPieces, freeBits}
@@ -37,7 +37,7 @@ pairsTogether [] = []
 pairsTogether (e ∷ es) = e ++ pairsTogether es
 
 unfoldable pub tiesTo : List Row → ℕ → ℕ
-tiesTo t r = ties (bitsOf t) [] (pairsTogether (take r (pairsIn t t)))
+tiesTo t r = ties (bitsOf t) [] (pairsTogether (take r (equationPairs t)))
 
 -- The rows of the answer table.
 unfoldable pub solvedRows : List Row → List AnswerRow

@@ -3,16 +3,17 @@ use mathlib.Core.Path.{_≡_, refl, sym, ap, _∙_}
 use mathlib.Core.Logic.{_⊎_, inl, inr}
 use mathlib.Core.Bool.{Bool, true, false, cond}
 use mathlib.Core.List.{List, [], _∷_}
-use Prim.Native.Nat.{ℕ, zero, suc, _+_, _-_, _≤_, _<_}
+use Prim.Native.Nat.{ℕ, suc, _+_, _-_, _≤_, _<_}
 use native.Mathlib.Omega.{arith}
 use lib.Dec.{eqb, ltb}
 use lib.ListN.{length}
 use lib.Seq.{take-length}
-use borrow.Author.Tests.{ne-eqb, lt-ltb, le-ltb}
+use borrow.Author.Tests.{eq-eqb, ne-eqb, lt-ltb, le-ltb}
 use Rattle.terms.specs.declared.Row.{Row}
 use Rattle.terms.specs.declared.Fault.the-variants.{Accepted}
 use Rattle.terms.specs.Faults.{firstFault}
-use Rattle.terms.specs.Table.{rowsOf, rowAt, byKind, bitsOf, countKind}
+use Rattle.terms.specs.Table.{rowsOf, rowAt, bitsOf, countKind}
+use Rattle.terms.proofs.RowKinds.{by-variable}
 use Rattle.terms.proofs.AcceptedTable.{accepted-table}
 use Rattle.terms.proofs.Faults.{kept, kept-width, totals-small}
 use Rattle.terms.proofs.Values.{width-variable}
@@ -87,32 +88,22 @@ place-small (w ∷ ws) p i l = go (lt-or-le i w) (λ (k : i - w < widthSum ws). 
 
 -- the widths in a table
 widths-sized : (t : List Row) → ((r : ℕ) → r < length t → rowAt t r .kind ≡ 0 → (1 ≤ rowAt t r .a) × (rowAt t r .a ≤ 1024)) → Sized (variableWidths t)
-unfolding variableWidths byKind
+unfolding variableWidths
 widths-sized [] h = tt
-widths-sized (r ∷ t) h = go (r .kind) (h 0 (omega arith)) (widths-sized t (λ i l. h (suc i) (omega arith)))
-  where
-    go : (k : ℕ) → (k ≡ 0 → (1 ≤ r .a) × (r .a ≤ 1024)) → Sized (variableWidths t)
-        → Sized (byKind k (r .a ∷ variableWidths t) (variableWidths t) (variableWidths t) (variableWidths t) (variableWidths t))
-    go zero p q = (p refl .0, p refl .1, q)
-    go (suc zero) p q = q
-    go (suc (suc zero)) p q = q
-    go (suc (suc (suc zero))) p q = q
-    go (suc (suc (suc (suc k)))) p q = q
+widths-sized (r ∷ t) h =
+    let later = widths-sized t (λ i l. h (suc i) (omega arith)) in
+    by-variable r (r .a ∷ variableWidths t) (variableWidths t) Sized
+    (λ e. let k = h 0 (omega arith) e in (k .0, k .1, later))
+    (λ n. later)
 
 widths-count : (t : List Row) → length (variableWidths t) ≡ countKind 0 t
-unfolding variableWidths countKind byKind
+unfolding variableWidths countKind
 widths-count [] = refl
-widths-count (r ∷ t) = go (r .kind) (widths-count t)
-  where
-    vs : List ℕ
-    vs = variableWidths t
-
-    go : (k : ℕ) → length (variableWidths t) ≡ countKind 0 t → length (byKind k (r .a ∷ vs) vs vs vs vs) ≡ cond (eqb k 0) 1 0 + countKind 0 t
-    go zero e = omega arith
-    go (suc zero) e = omega arith
-    go (suc (suc zero)) e = omega arith
-    go (suc (suc (suc zero))) e = omega arith
-    go (suc (suc (suc (suc k)))) e = rw (ne-eqb (suc (suc (suc (suc k)))) 0 (omega arith)) (omega arith)
+widths-count (r ∷ t) =
+    let later = widths-count t in
+    by-variable r (r .a ∷ variableWidths t) (variableWidths t) (λ (ws : List ℕ). length ws ≡ cond (eqb (r .kind) 0) 1 0 + countKind 0 t)
+    (λ e. rw (eq-eqb (r .kind) 0 e) (omega arith))
+    (λ n. rw (ne-eqb (r .kind) 0 n) (omega arith))
 
 module _ (table : List ℕ) (accepted : firstFault table ≡ Accepted) where
   pub table-sized : Sized (variableWidths (rowsOf table))

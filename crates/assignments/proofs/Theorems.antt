@@ -21,7 +21,7 @@ use Rattle.laws.specs.Lists.{allBits}
 use Rattle.answers.specs.declared.AnswerRow.{AnswerRow}
 use Rattle.answers.specs.Answer.{variableWidths, begins, answerNumbers, freeBits, instantiate}
 use Rattle.answers.specs.Solve.{unsatisfiable, pairsTogether, solvedRows, answerRecord}
-use Rattle.answers.specs.Pairs.{pairsIn}
+use Rattle.answers.specs.Pairs.{equationPairs}
 use Rattle.answers.proofs.Variables.{widths-sum, begins-first, begins-behind}
 use Rattle.answers.proofs.Tables.{tableClasses, represent, apart-one, solved-rows}
 use Rattle.answers.proofs.Demands.{demand-2, demand-3}
@@ -97,7 +97,7 @@ module _ (table : List ℕ) (accepted : firstFault table ≡ Accepted) (solved :
   rows-fine : rowsFine [] rows ≡ true
   rows-fine =
       ap (rowsFine []) (solved-rows table accepted some)
-      ∙ answer-fine (bitsOf t) (tableClasses table accepted) (reverse (pairsTogether (pairsIn t t))) (represent table accepted) (apart-one table accepted some) ws
+      ∙ answer-fine (bitsOf t) (tableClasses table accepted) (reverse (pairsTogether (equationPairs t))) (represent table accepted) (apart-one table accepted some) ws
       (begins-first ws) ending (table-sized table accepted) (widths-sum t) (table-variables table accepted) (table-bits table accepted)
 
   -- The answer of a solved table has the form that is asked for.
@@ -108,7 +108,7 @@ module _ (table : List ℕ) (accepted : firstFault table ≡ Accepted) (solved :
   pub pattern-length : patternBits (solvedRows (rowsOf table)) ≡ bitsOf (rowsOf table)
   pattern-length =
       ap patternBits (solved-rows table accepted some)
-      ∙ answer-bits (bitsOf t) (tableClasses table accepted) (reverse (pairsTogether (pairsIn t t))) (represent table accepted) (apart-one table accepted some) ws
+      ∙ answer-bits (bitsOf t) (tableClasses table accepted) (reverse (pairsTogether (equationPairs t))) (represent table accepted) (apart-one table accepted some) ws
       (begins-first ws) ending (table-sized table accepted) (widths-sum t) (table-variables table accepted) (table-bits table accepted)
 
   free-is : answerRecord t .free ≡ freeBits rows

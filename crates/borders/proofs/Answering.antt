@@ -8,16 +8,17 @@ use lib.ListN.{length, getD, replicate, length-replicate}
 use lib.Seq.{take-all}
 use Rattle.terms.specs.declared.Row.{Row}
 use Rattle.terms.specs.declared.Fault.the-variants.{Accepted}
-use Rattle.terms.specs.Table.{rowsOf, rowAt, byKind, bitsOf, widthIn, widthOf}
+use Rattle.terms.specs.Table.{rowsOf, bitsOf}
 use Rattle.terms.specs.Faults.{firstFault}
 use Rattle.terms.proofs.AcceptedTable.{accepted-table}
 use Rattle.terms.proofs.Faults.{kept, kept-width, totals-small}
-use Rattle.terms.proofs.Widths.{width-row}
+use Rattle.terms.proofs.Values.{width-variable}
 use Rattle.answers.specs.Answer.{variableWidths}
 use Rattle.answers.proofs.Agreement.{Represents}
 use Rattle.borders.specs.Rows.{PutsRows}
 use Rattle.borders.specs.Borders.{Zeros, MarksBegins, BeginsMarked, evenAt, MarksUneven, PutsPlaces, PlacesPut}
-use Rattle.borders.proofs.Beginning.{Positive, begins-zero, widths-sum, widths-positive, variable-tally}
+use Rattle.answers.proofs.Variables.{widths-sum, begins-first}
+use Rattle.borders.proofs.Beginning.{Positive, widths-positive, variable-tally}
 
 zeros-at : (k : ℕ) → Zeros (replicate k 0)
 zeros-at zero i = refl
@@ -26,11 +27,9 @@ zeros-at (suc k) (suc i) = zeros-at k i
 
 -- each variable of an accepted table has a bit
 positive : (table : List ℕ) → firstFault table ≡ Accepted → Positive (variableWidths (rowsOf table))
-unfolding widthIn byKind
 positive table a =
     widths-positive rows (λ r l e.
-    let w : widthOf rows r ≡ rowAt rows r .a = rw e at (width-row rows r l) in
-    omega (arith, kept-width rows r (kept rows r (accepted-table table a .sound r l)) (omega arith) .0))
+    omega (arith, width-variable rows r l e, kept-width rows r (kept rows r (accepted-table table a .sound r l)) (omega arith) .0))
   where
     rows : List Row
     rows = rowsOf table
@@ -54,7 +53,7 @@ rows-put table c answer answer′ marks after before numbers room n pieces fresh
       few = omega (arith, k .bits);
       classed = subst (λ (x : ℕ). Represents x c seen) (sym (k .bits)) inv;
       apart = one;
-      from = begins-zero ws;
+      from = begins-first ws;
       counted = λ i l. variable-tally ws (positive table f) i (omega (arith, k .bits, widths-sum (rowsOf table)));
       marks-are = k .marks-are;
       after-is = marked 1 after a;

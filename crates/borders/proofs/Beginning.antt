@@ -1,7 +1,7 @@
 -- Where variables begin, from the rows of a table, and which variable a place belongs to.
 use mathlib.Core.Path.{_≡_, refl, ap, _∙_}
 use mathlib.Core.Logic.{_⊎_, inl, inr}
-use mathlib.Core.Bool.{Bool, true, false, cond}
+use mathlib.Core.Bool.{true, cond}
 use mathlib.Core.List.{List, [], _∷_, _++_}
 use Prim.Native.Nat.{ℕ, zero, suc, _+_, _-_, _≤_, _<_}
 use native.Mathlib.Omega.{arith}
@@ -9,11 +9,13 @@ use lib.Dec.{eqb, ltb}
 use lib.ListN.{length}
 use borrow.Author.Tests.{ne-eqb, lt-ltb, le-ltb}
 use Rattle.terms.specs.declared.Row.{Row}
-use Rattle.terms.specs.Table.{rowAt, byKind, bitsIn, bitsOf}
+use Rattle.terms.specs.Table.{rowAt, bitsIn}
+use Rattle.terms.proofs.RowKinds.{of-variable, of-other, by-variable, bits-variable, bits-other}
 use Rattle.answers.specs.Answer.{variableWidths, begins, variableAt}
 use Rattle.laws.specs.Lists.{tally}
 use Rattle.laws.proofs.Numbers.{lt-or-le}
 use Rattle.answers.proofs.GeneralSystems.{widthSum}
+use Rattle.answers.proofs.Variables.{begins-first}
 
 -- a list of widths before another
 pub begins-low : (ws vs : List ℕ) (i : ℕ) → i < widthSum ws → begins (ws ++ vs) i ≡ begins ws i
@@ -38,51 +40,23 @@ unfolding begins widthSum
 begins-past [] i l = refl
 begins-past (w ∷ ws) i l = rw (le-ltb i w (omega arith)) (begins-past ws (i - w) (omega arith))
 
-pub begins-zero : (ws : List ℕ) → begins ws 0 ≡ true
-unfolding begins
-begins-zero [] = refl
-begins-zero (w ∷ ws) = go (ltb 0 w) (begins-zero ws)
-  where
-    go : (t : Bool) → begins ws 0 ≡ true → cond t (eqb 0 0) (begins ws (0 - w)) ≡ true
-    go true h = refl
-    go false h = let e : 0 - w ≡ 0 = omega arith in ap (begins ws) e ∙ h
-
 -- the widths of rows
 pub widths-append : (t s : List Row) → variableWidths (t ++ s) ≡ variableWidths t ++ variableWidths s
-unfolding variableWidths byKind
+unfolding variableWidths
 widths-append [] s = refl
-widths-append (r ∷ t) s = go (r .kind) (variableWidths (t ++ s)) (variableWidths t) (variableWidths s) (widths-append t s)
-  where
-    go : (k : ℕ) (x y z : List ℕ) → x ≡ y ++ z → byKind k (r .a ∷ x) x x x x ≡ byKind k (r .a ∷ y) y y y y ++ z
-    go zero x y z e = ap (λ (l : List ℕ). r .a ∷ l) e
-    go (suc zero) x y z e = e
-    go (suc (suc zero)) x y z e = e
-    go (suc (suc (suc zero))) x y z e = e
-    go (suc (suc (suc (suc k)))) x y z e = e
-
-pub widths-sum : (t : List Row) → widthSum (variableWidths t) ≡ bitsOf t
-unfolding variableWidths widthSum bitsOf bitsIn byKind
-widths-sum [] = refl
-widths-sum (r ∷ t) = go (r .kind) (variableWidths t) (bitsOf t) (widths-sum t)
-  where
-    go : (k : ℕ) (x : List ℕ) (n : ℕ) → widthSum x ≡ n → widthSum (byKind k (r .a ∷ x) x x x x) ≡ byKind k (r .a) 0 0 0 0 + n
-    go zero x n e = omega arith
-    go (suc zero) x n e = omega arith
-    go (suc (suc zero)) x n e = omega arith
-    go (suc (suc (suc zero))) x n e = omega arith
-    go (suc (suc (suc (suc k)))) x n e = omega arith
+widths-append (r ∷ t) s =
+    let later = widths-append t s in
+    by-variable r (r .a ∷ variableWidths t) (variableWidths t) (λ (ws : List ℕ). variableWidths (r ∷ (t ++ s)) ≡ ws ++ variableWidths s)
+    (λ e. of-variable r (r .a ∷ variableWidths (t ++ s)) (variableWidths (t ++ s)) e ∙ ap (λ (l : List ℕ). r .a ∷ l) later)
+    (λ h. of-other r (r .a ∷ variableWidths (t ++ s)) (variableWidths (t ++ s)) h ∙ later)
 
 -- within one row a variable begins at its high bit only
 pub begins-row : (r : Row) (j : ℕ) → j < bitsIn r → begins (variableWidths (r ∷ [])) j ≡ eqb j 0
-unfolding variableWidths bitsIn byKind begins
-begins-row r j = go (r .kind)
-  where
-    go : (k : ℕ) → j < byKind k (r .a) 0 0 0 0 → begins (byKind k (r .a ∷ []) [] [] [] []) j ≡ eqb j 0
-    go zero l = rw (lt-ltb j (r .a) l)
-    go (suc zero) l = absurd (omega arith)
-    go (suc (suc zero)) l = absurd (omega arith)
-    go (suc (suc (suc zero))) l = absurd (omega arith)
-    go (suc (suc (suc (suc k)))) l = absurd (omega arith)
+unfolding variableWidths begins
+begins-row r j l =
+    by-variable r (r .a ∷ []) [] (λ (ws : List ℕ). begins ws j ≡ eqb j 0)
+    (λ e. rw (lt-ltb j (r .a) (omega (arith, bits-variable r e))))
+    (λ h. absurd (omega (arith, bits-other r h)))
 
 -- the variable of a place: one less than how many began up to it
 abbrev pub Positive : List ℕ → Type 0
@@ -90,17 +64,11 @@ Positive [] = Unit {0}
 Positive (w ∷ ws) = (1 ≤ w) × Positive ws
 
 pub widths-positive : (t : List Row) → ((r : ℕ) → r < length t → rowAt t r .kind ≡ 0 → 1 ≤ rowAt t r .a) → Positive (variableWidths t)
-unfolding variableWidths byKind
+unfolding variableWidths
 widths-positive [] h = tt
-widths-positive (r ∷ t) h = go (r .kind) (h 0 (omega arith)) (widths-positive t (λ i l. h (suc i) (omega arith)))
-  where
-    go : (k : ℕ) → (k ≡ 0 → 1 ≤ r .a) → Positive (variableWidths t)
-        → Positive (byKind k (r .a ∷ variableWidths t) (variableWidths t) (variableWidths t) (variableWidths t) (variableWidths t))
-    go zero p q = (p refl, q)
-    go (suc zero) p q = q
-    go (suc (suc zero)) p q = q
-    go (suc (suc (suc zero))) p q = q
-    go (suc (suc (suc (suc k)))) p q = q
+widths-positive (r ∷ t) h =
+    let later = widths-positive t (λ i l. h (suc i) (omega arith)) in
+    by-variable r (r .a ∷ variableWidths t) (variableWidths t) Positive (λ e. (h 0 (omega arith) e, later)) (λ n. later)
 
 variable-zero : (ws : List ℕ) → Positive ws → variableAt ws 0 ≡ 0
 unfolding variableAt
@@ -119,12 +87,12 @@ variable-more (w ∷ ws) p i l = go (lt-or-le (suc i) w) (lt-or-le i w) (λ (k :
     go (inl a) b r = rw (lt-ltb (suc i) w a, lt-ltb i w (omega arith), ne-eqb (suc i) 0 (omega arith))
     go (inr a) (inl b) r =
         let e : suc i - w ≡ 0 = omega arith in
-        rw (le-ltb (suc i) w a, lt-ltb i w b, e, begins-zero ws, variable-zero ws (p .1))
+        rw (le-ltb (suc i) w a, lt-ltb i w b, e, begins-first ws, variable-zero ws (p .1))
     go (inr a) (inr b) r =
         let e : suc i - w ≡ suc (i - w) = omega arith in
         rw (le-ltb (suc i) w a, le-ltb i w b, e) (omega (arith, r (omega arith)))
 
 pub variable-tally : (ws : List ℕ) → Positive ws → (i : ℕ) → i < widthSum ws → suc (variableAt ws i) ≡ tally (suc i) (begins ws)
 unfolding tally
-variable-tally ws p zero l = rw (begins-zero ws, variable-zero ws p)
+variable-tally ws p zero l = rw (begins-first ws, variable-zero ws p)
 variable-tally ws p (suc i) l = omega (arith, variable-more ws p i l, variable-tally ws p i (omega arith))

@@ -22,7 +22,8 @@ use Rattle.laws.proofs.Numbers.{dec-eq}
 use Rattle.laws.proofs.Numbers.{lt-or-le}
 use Rattle.answers.proofs.GeneralSystems.{widthSum}
 use Rattle.borders.specs.Borders.{Zeros, MarksBegins}
-use Rattle.borders.proofs.Beginning.{begins-low, begins-high, begins-past, widths-append, widths-sum, begins-row}
+use Rattle.answers.proofs.Variables.{widths-sum}
+use Rattle.borders.proofs.Beginning.{begins-low, begins-high, begins-past, widths-append, begins-row}
 
 -- the places of the first r rows are marked; the one behind them may be
 pub record MarkedTo (t : List Row) (r : ℕ) (marks : List ℕ) : Type 0 where

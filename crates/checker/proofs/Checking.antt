@@ -23,7 +23,7 @@ use Rattle.laws.proofs.Bools.{not-both}
 use Rattle.terms.proofs.Rows.{rows-length}
 use Rattle.laws.proofs.Buffers.{overwrite-length, overwrite-read, overwrite-more}
 use Rattle.terms.proofs.Widths.{widths-count, width-row, width-early, widths-more, width-same, bits-more, count-more}
-use Rattle.terms.proofs.Faults.{Passed, kept, kept-names, same-first, concat-names, extract-names, equation-names, widths-small, totals-small, lowest-past, lowest-here}
+use Rattle.terms.proofs.Faults.{Passed, kept, kept-names, rule-same, concat-names, extract-names, equation-names, widths-small, totals-small, lowest-past, lowest-here}
 use Rattle.terms.proofs.AcceptedTable.{accepted-table}
 
 -- a table of the wrong shape, or too little room: nothing is written
@@ -162,13 +162,13 @@ module _ (table ws₀ ws : List ℕ) (variables bits equations r : ℕ) (k : Che
     checking-fault =
         let small : r % 65536 ≡ r = omega (arith, few) in
         rw small
-        (same-first _ _ _ _ _ refl (λ _.
-        same-first _ _ _ _ _ refl (λ _.
-        same-first _ _ _ _ _ refl (λ m.
-        same-first _ _ _ _ _ (ap (wrongWidth (rowAt rows r)) (width-read m)) (λ _.
-        same-first _ _ _ _ _ (bounds-read m) (λ _.
-        same-first _ _ _ _ _ totals-are (λ _.
-        same-first _ _ _ _ _ (sides-read m) (λ _. refl))))))))
+        (rule-same _ _ _ _ _ refl (λ _.
+        rule-same _ _ _ _ _ refl (λ _.
+        rule-same _ _ _ _ _ refl (λ m.
+        rule-same _ _ _ _ _ (ap (wrongWidth (rowAt rows r)) (width-read m)) (λ _.
+        rule-same _ _ _ _ _ (bounds-read m) (λ _.
+        rule-same _ _ _ _ _ totals-are (λ _.
+        rule-same _ _ _ _ _ (sides-read m) (λ _. refl))))))))
 
     pub checking-answer : (row : Row) (v b e : ℕ) (f : Fault) → row ≡ rowAt rows r
         → v ≡ variables + cond (eqb (row .kind) 0) 1 0 → b ≡ bits + bitsIn row → e ≡ equations + cond (eqb (row .kind) 4) 1 0

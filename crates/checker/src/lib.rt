@@ -1,10 +1,11 @@
-// The check of document 01's rules 11 to 18, and each row's width and start. A table is lent as numbers, four to a row. The check is one
+// The check of document 01's rules 11 to 18, each row's width, and where the variables stand. A table is lent as numbers, four to a row. The check is one
 // pass: a row's rules ask only for the kinds and widths of earlier rows and for three running totals.
 ghost use mathlib.Core.Path.{_≡_};
 ghost use Prim.Native.Nat.{_+_, _-_, _%_, _≤_};
 ghost use lib.ListN.{getD, length, take};
-ghost use Rattle.terms.specs.Table.{rowsOf, widthIn, widthsOf, bitsIn, bitsOf, startsOf};
+ghost use Rattle.terms.specs.Table.{rowsOf, widthIn, widthsOf, bitsIn, bitsOf};
 ghost use Rattle.terms.specs.Faults.{unusedColumn, notTerm, misnamed, wrongWidth, wrongBounds, tooMany, unequalSides, firstRule};
+ghost use Rattle.terms.specs.Places.{NumbersVariables, FindsLows};
 ghost use Rattle.checker.specs.Check.{rulesIn, faultIn, rowsPassed};
 ghost use Rattle.laws.specs.Buffers.{overwrite};
 use terms::Fault;
@@ -255,21 +256,27 @@ pub fn check(table: &[u16], widths: &mut [u16]) -> Fault
     Fault::Accepted
 }
 
-// How many variable bits the first 512 rows have. `starts` has afterwards, for each of them, those of the rows before it.
-pub fn place(table: &[u16], starts: &mut [u32]) -> usize
+// How many variable bits the first 512 rows have. `places` has afterwards, for each row of an accepted table, how many variables stand
+// before it, and from number 512 on the source of each variable's low bit, as far as there is room. A row that is no variable stores at
+// the place of the next one, which stores again.
+pub fn place(table: &[u16], places: &mut [u16]) -> usize
     ensures bits { λ n. ⌜ n ≡ bitsOf (take 512 (rowsOf (now (table .entry)))) ⌝ }
-    ensures starts { λ _. ⌜ now (starts .exit) ≡ overwrite (startsOf (take 512 (rowsOf (now (table .entry))))) (now (starts .entry)) ⌝ }
+    ensures variables { λ _. ⌜ NumbersVariables (now (table .entry)) (length (now (places .entry))) (now (places .exit)) ⌝ }
+    ensures lows { λ _. ⌜ FindsLows (now (table .entry)) (length (now (places .entry))) (now (places .exit)) ⌝ }
 {
-    let mut bits: u32 = 0;
+    let mut bits = 0;
+    let mut v = 0;
     let mut r = 0;
     while r < terms::MAX_ROWS {
         if table.len() / 4 <= r {
             break;
         }
-        numbers::put(starts, r, bits);
         let row = rows::row_at(table, r);
-        bits = bits + row_bits(row);
+        bits = bits + (row_bits(row) as usize);
+        numbers::store(places, r, numbers::narrow(v));
+        numbers::store(places, terms::MAX_ROWS + v, numbers::narrow(bits + 1));
+        v = v + numbers::one_if(row.kind, terms::VARIABLE);
         r += 1;
     }
-    bits as usize
+    bits
 }

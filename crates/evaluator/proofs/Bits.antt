@@ -1,22 +1,20 @@
 -- One bit of a row's value, kind by kind: where it stands in the pattern, or which bit of an earlier row it is.
 use mathlib.Core.Path.{_≡_, sym, _∙_, ap}
-use mathlib.Core.Bool.{false}
 use mathlib.Core.List.{List, _++_}
 use Prim.Native.Nat.{ℕ, _+_, _-_, _<_, _≤_}
 use native.Mathlib.Omega.{arith}
 use lib.ListN.{length, getD, take, drop, getD-replicate, List·getD-append}
 use lib.Seq.{getD-take, getD-drop, getD-append-add}
 use Rattle.terms.specs.declared.Row.{Row}
-use Rattle.terms.specs.Table.{rowsOf, rowAt, widthOf, bitsOf, valueOf}
+use Rattle.terms.specs.Table.{rowsOf, rowAt, widthOf, bitsOf, countKind, valueOf}
+use Rattle.terms.proofs.Places.{low-row, number-small}
 use Rattle.terms.proofs.AcceptedTable.{Table, accepted-table}
-use Rattle.terms.proofs.Faults.{Term, Kept, kept, kept-names, kept-kind, kept-bit, kept-bounds, concat-names, extract-names, equation-names}
-use Rattle.terms.proofs.RowKinds.{KindOf, is-variable, is-constant, is-concat, is-extract, is-equation, kind-of}
-use Rattle.terms.specs.Faults.{misnamed}
+use Rattle.terms.proofs.Faults.{Term, Kept, kept, kept-names, kept-kind, kept-first, kept-bit, kept-bounds, concat-names, extract-names}
 use Rattle.terms.proofs.Values.{value-length, value-variable, value-constant, value-concat, value-extract, width-variable, width-constant, width-concat, width-extract, variable-fits}
 use Rattle.terms.proofs.Words.{extract-bit}
 use Rattle.evaluator.specs.Ready.{Ready, IsTerm}
 
-module _ (table widths starts pattern : List ℕ) (ready : Ready table widths starts pattern) (row : ℕ) (is : IsTerm table row) where
+module _ (table widths places pattern : List ℕ) (ready : Ready table widths places pattern) (row : ℕ) (is : IsTerm table row) where
   abbrev rows : List Row
   rows = rowsOf table
 
@@ -43,32 +41,31 @@ module _ (table widths starts pattern : List ℕ) (ready : Ready table widths st
 
   -- a concatenation and an extraction name an earlier row first
   pub first-lower : (at .kind ≡ 0 → ⊥) → (at .kind ≡ 1 → ⊥) → at .a < row
-  first-lower h₀ h₁ = go (kind-of (at .kind))
-    where
-      m : misnamed rows row at ≡ false
-      m = kept-names rows row row-kept
-
-      go : KindOf (at .kind) → at .a < row
-      go (is-variable e) = absurd (h₀ e)
-      go (is-constant e) = absurd (h₁ e)
-      go (is-concat e) = concat-names rows row at m e .0 .earlier
-      go (is-extract e) = extract-names rows row at m e .earlier
-      go (is-equation e) = equation-names rows row at m e .0 .earlier
+  first-lower = kept-first rows row row-kept
 
   pub extract-left-over : (at .kind ≡ 0 → ⊥) → (at .kind ≡ 1 → ⊥) → (at .kind ≡ 2 → ⊥) → at .kind ≡ 3
   extract-left-over h₀ h₁ h₂ = omega (arith, kept-kind rows row row-kept, is .no-equation)
 
-  module _ (i : ℕ) (inside : i < widthOf rows row) where
-    pub variable-within : at .kind ≡ 0 → bitsOf (take row rows) + i < length pattern
-    variable-within e = omega (arith, ready .whole, variable-fits rows row (is .there) e, width-variable rows row (is .there) e)
+  -- where the variable begins
+  start-is : at .kind ≡ 0 → getD places (512 + getD places row 0) 0 - (at .a + 1) ≡ bitsOf (take row rows)
+  start-is e =
+      let v = ready .variables-are row (is .there) in
+      let low = ready .lows-are (countKind 0 (take row rows)) (number-small rows row (is .there) e) in
+      omega (arith, ap (λ (n : ℕ). getD places (512 + n) 0) v, low, low-row rows row (is .there) e)
 
-    pub variable-bit : at .kind ≡ 0 → getD pattern (bitsOf (take row rows) + i) 0 ≡ getD (valueOf rows pattern row) i 0
+  module _ (i : ℕ) (inside : i < widthOf rows row) (start : ℕ) (begins : start ≡ getD places (512 + getD places row 0) 0 - (at .a + 1)) where
+    pub variable-within : at .kind ≡ 0 → start + i < length pattern
+    variable-within e = omega (arith, start-is e, ready .whole, variable-fits rows row (is .there) e, width-variable rows row (is .there) e)
+
+    pub variable-bit : at .kind ≡ 0 → getD pattern (start + i) 0 ≡ getD (valueOf rows pattern row) i 0
     variable-bit e =
         sym
         (ap (λ (v : List ℕ). getD v i 0) (value-variable rows pattern row (is .there) e)
         ∙ getD-take (at .a) (drop (bitsOf (take row rows)) pattern) i 0 (omega (arith, width-variable rows row (is .there) e))
-        ∙ getD-drop (bitsOf (take row rows)) pattern i 0)
+        ∙ getD-drop (bitsOf (take row rows)) pattern i 0
+        ∙ ap (λ (s : ℕ). getD pattern (s + i) 0) (sym (begins ∙ start-is e)))
 
+  module _ (i : ℕ) (inside : i < widthOf rows row) where
     pub constant-small : at .kind ≡ 1 → at .a ≤ 1
     constant-small e = kept-bit rows row row-kept e
 

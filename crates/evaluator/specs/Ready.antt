@@ -1,19 +1,20 @@
--- What the inner functions ask of their caller: a table that was accepted, with its widths and starts, a pattern of
+-- What the inner functions ask of their caller: a table that was accepted, with its widths and the places of its variables, a pattern of
 -- its length, and a term of it.
 use mathlib.Core.Path.{_≡_}
 use mathlib.Core.List.{List}
-use Prim.Native.Nat.{ℕ, _<_, _≤_}
+use Prim.Native.Nat.{ℕ, _+_, _<_, _≤_}
 use lib.ListN.{length, getD, take}
 use Rattle.terms.specs.declared.Fault.the-variants.{Accepted}
-use Rattle.terms.specs.Table.{rowsOf, rowAt, widthOf, bitsOf}
+use Rattle.terms.specs.Table.{rowsOf, rowAt, widthOf, bitsOf, countKind}
+use Rattle.terms.specs.Places.{lowSource}
 use Rattle.terms.specs.Faults.{firstFault}
 
-pub record Ready (table widths starts pattern : List ℕ) : Type 0 where
+pub record Ready (table widths places pattern : List ℕ) : Type 0 where
   pub accepted : firstFault table ≡ Accepted
   pub widths-are : (r : ℕ) → r < length (rowsOf table) → getD widths r 0 ≡ widthOf (rowsOf table) r
-  pub starts-are : (r : ℕ) → r < length (rowsOf table) → getD starts r 0 ≡ bitsOf (take r (rowsOf table))
+  pub variables-are : (r : ℕ) → r < length (rowsOf table) → getD places r 0 ≡ countKind 0 (take r (rowsOf table))
+  pub lows-are : (v : ℕ) → v < countKind 0 (rowsOf table) → getD places (512 + v) 0 ≡ lowSource (rowsOf table) v
   pub widths-room : length (rowsOf table) ≤ length widths
-  pub starts-room : length (rowsOf table) ≤ length starts
   pub whole : length pattern ≡ bitsOf (rowsOf table)
 
 pub record IsTerm (table : List ℕ) (row : ℕ) : Type 0 where

@@ -2,7 +2,7 @@
 // Each bit is found by recursion into earlier rows: a concatenation passes the bit on to one of its sides, an
 // extraction to the row that it is cut from, until a variable or a constant is met.
 ghost use mathlib.Core.Path.{_≡_};
-ghost use Prim.Native.Nat.{_<_, _≤_};
+ghost use Prim.Native.Nat.{_+_, _-_, _<_, _≤_};
 ghost use lib.ListN.{getD, length};
 ghost use Rattle.terms.specs.Table.{rowsOf, widthOf, valueOf};
 ghost use Rattle.laws.specs.Buffers.{overwrite};
@@ -10,9 +10,18 @@ ghost use Rattle.terms.specs.Value.{valueRecord, valueAfter};
 ghost use Rattle.evaluator.specs.Ready.{Ready, IsTerm};
 use terms::Record;
 
+// The first place of the variable that a row is, of so many bits: `places` has the source of its low bit.
+fn start(places: &[u16], row: usize, width: u16) -> usize
+    ensures { λ s. ⌜ s ≡ getD (now (places .entry)) (512 + getD (now (places .entry)) row 0) 0 - (width + 1) ⌝ }
+{
+    let v = numbers::wide(numbers::load(places, row));
+    let low = numbers::wide(numbers::load(places, terms::MAX_ROWS + v));
+    numbers::minus(low, numbers::wide(width) + 1)
+}
+
 // Bit i of a row's value, counted from its high end.
-fn bit(table: &[u16], widths: &[u16], starts: &[u32], pattern: &[u8], row: usize, i: usize) -> u8
-    requires { ⌜ Ready (now table) (now widths) (now starts) (now pattern) ⌝ }
+fn bit(table: &[u16], widths: &[u16], places: &[u16], pattern: &[u8], row: usize, i: usize) -> u8
+    requires { ⌜ Ready (now table) (now widths) (now places) (now pattern) ⌝ }
     requires { ⌜ IsTerm (now table) row ⌝ }
     requires { ⌜ i < widthOf (rowsOf (now table)) row ⌝ }
     ensures { λ b. ⌜ b ≡ getD (valueOf (rowsOf (now (table .entry))) (now (pattern .entry)) row) i 0 ⌝ }
@@ -22,8 +31,7 @@ fn bit(table: &[u16], widths: &[u16], starts: &[u32], pattern: &[u8], row: usize
     let a = numbers::wide(r.a);
     let b = numbers::wide(r.b);
     if kind == terms::VARIABLE {
-        let start = starts[row] as usize;
-        return pattern[start + i];
+        return pattern[start(places, row, r.a) + i];
     }
     if kind == terms::CONSTANT {
         return a as u8;
@@ -31,23 +39,23 @@ fn bit(table: &[u16], widths: &[u16], starts: &[u32], pattern: &[u8], row: usize
     let width = numbers::wide(widths[a]);
     if kind == terms::CONCAT {
         if i < width {
-            return bit(table, widths, starts, pattern, a, i);
+            return bit(table, widths, places, pattern, a, i);
         }
-        return bit(table, widths, starts, pattern, b, i - width);
+        return bit(table, widths, places, pattern, b, i - width);
     }
-    bit(table, widths, starts, pattern, a, width - (b + 1) + i)
+    bit(table, widths, places, pattern, a, width - (b + 1) + i)
 }
 
 // Writes the row's value to the beginning of the output.
 fn write_value(
     table: &[u16],
     widths: &[u16],
-    starts: &[u32],
+    places: &[u16],
     pattern: &[u8],
     row: usize,
     output: &mut [u8],
 )
-    requires { ⌜ Ready (now table) (now widths) (now starts) (now pattern) ⌝ }
+    requires { ⌜ Ready (now table) (now widths) (now places) (now pattern) ⌝ }
     requires { ⌜ IsTerm (now table) row ⌝ }
     requires { ⌜ widthOf (rowsOf (now table)) row ≤ length (now output) ⌝ }
     ensures { λ _. ⌜ now (output .exit) ≡ overwrite (valueOf (rowsOf (now (table .entry))) (now (pattern .entry)) row) (now (output .entry)) ⌝ }
@@ -55,7 +63,7 @@ fn write_value(
     let width = numbers::wide(widths[row]);
     let mut i = 0;
     while i < width {
-        output[i] = bit(table, widths, starts, pattern, row, i);
+        output[i] = bit(table, widths, places, pattern, row, i);
         i += 1;
     }
 }
@@ -73,8 +81,8 @@ pub fn value(table: &[u16], row: usize, pattern: &[u8], output: &mut [u8]) -> Re
     if checker::not_term(table, table.len() / 4, row) {
         return records::refuse(30, 0);
     }
-    let mut starts = [0u32; 512];
-    let bits = checker::place(table, &mut starts[..]);
+    let mut places = [0u16; 576];
+    let bits = checker::place(table, &mut places[..]);
     if bits != pattern.len() {
         return records::refuse(31, 0);
     }
@@ -85,6 +93,6 @@ pub fn value(table: &[u16], row: usize, pattern: &[u8], output: &mut [u8]) -> Re
     if output.len() < width as usize {
         return records::refuse(32, 0);
     }
-    write_value(table, &widths[..], &starts[..], pattern, row, output);
+    write_value(table, &widths[..], &places[..], pattern, row, output);
     records::complete(0, width)
 }

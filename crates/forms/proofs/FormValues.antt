@@ -1,7 +1,7 @@
 -- The value of a form's pieces is the value of the row: a piece of one bit has its source's bit, and merging keeps
 -- values.
 use mathlib.Core.Path.{_≡_, refl, sym, _∙_, ap, ap₂}
-use mathlib.Core.Bool.{Bool, true, false, cond}
+use mathlib.Core.Bool.{Bool, true, false}
 use mathlib.Core.List.{List, [], _∷_, _++_, map, append-assoc}
 use Prim.Native.Nat.{ℕ, zero, suc, _+_, _-_, _<_, _≤_}
 use native.Mathlib.Omega.{arith}
@@ -9,10 +9,10 @@ use lib.Dec.{eqb, ltb}
 use lib.ListN.{length, getD, take, drop, length-drop, replicate-append-replicate, List·getD-eq-default, List·getD-append}
 use lib.Seq.{getD-take, getD-drop, getD-append-add, length-take-le, drop-cons}
 use mathlib.Core.Logic.{_⊎_, inl, inr, ⊎-elim}
-use borrow.Author.Tests.{eqb-true, eqb-false, ne-eqb}
+use borrow.Author.Tests.{eqb-true, eqb-false}
 use Rattle.terms.specs.declared.Row.{Row}
-use Rattle.terms.specs.Table.{byKind, bitsIn, bitsOf, bitOf, extract, sourceOf, valueOf}
-use Rattle.terms.proofs.RowKinds.{KindOf, is-variable, is-constant, is-concat, is-extract, is-equation, kind-of, else-kind}
+use Rattle.terms.specs.Table.{bitsIn, bitsOf, bitOf, extract, sourceOf, valueOf}
+use Rattle.terms.proofs.RowKinds.{of-variable, of-other, bits-variable, bits-other}
 use Rattle.laws.proofs.Bools.{not-both}
 use Rattle.laws.proofs.Numbers.{lt-or-le}
 use Rattle.terms.proofs.Sources.{value-sources}
@@ -21,7 +21,7 @@ use Rattle.terms.proofs.Words.{extract-join}
 use Rattle.forms.specs.declared.Piece.{Piece}
 use Rattle.forms.specs.Form.{fill, part, bitsUp, placePieces, pieceOf, meets, merged, add, addAll, group, formFrom, formOf, variableBits, pieceValue, piecesValue, formValue}
 use Rattle.forms.proofs.Grouping.{Meeting, meeting}
-use Rattle.forms.proofs.Places.{places-count, bits-count}
+use Rattle.forms.proofs.Places.{places-count, bits-count, bits-at, pieces-variable, pieces-other}
 
 -- a piece that lies within its variable
 pub record Within (vs : List (List ℕ)) (p : Piece) : Type 0 where
@@ -112,12 +112,6 @@ one-bit w j h =
     let k = length w - (j + 1) in
     rw (n, drop-cons w k 0 (omega arith))
 
-bits-at : (v low n i : ℕ) (d : Piece) → i < n → getD (bitsUp v low n) i d ≡ part v (low + (n - 1 - i)) (low + (n - 1 - i))
-unfolding bitsUp
-bits-at v low zero i d h = absurd (omega arith)
-bits-at v low (suc n) zero d h = let e : low + n ≡ low + (suc n - 1 - 0) = omega arith in ap (λ (k : ℕ). part v k k) e
-bits-at v low (suc n) (suc i) d h = let e : low + (n - 1 - i) ≡ low + (suc n - 1 - suc i) = omega arith in bits-at v low n i d (omega arith) ∙ ap (λ (k : ℕ). part v k k) e
-
 head-at : (vs : List (List ℕ)) (v : ℕ) (w : List ℕ) (ws : List (List ℕ)) → drop v vs ≡ w ∷ ws → (getD vs v [] ≡ w) × (drop (suc v) vs ≡ ws)
 head-at [] zero w ws e = absurd (let z : _≡_ {A = ℕ} 0 1 = cc in omega arith)
 head-at [] (suc v) w ws e = absurd (let z : _≡_ {A = ℕ} 0 1 = cc in omega arith)
@@ -144,23 +138,13 @@ record Skipped (r : Row) (t : List Row) (v : ℕ) (p : List ℕ) : Type 0 where
   no-bits : bitsIn r ≡ 0
 
 skipped : (r : Row) (t : List Row) (v : ℕ) (p : List ℕ) → (r .kind ≡ 0 → ⊥) → Skipped r t v p
-unfolding placePieces variableBits bitsIn byKind
-skipped r t v p h = go (kind-of (r .kind))
-  where
-    same : v + cond (eqb (r .kind) 0) 1 0 ≡ v
-    same = rw (ne-eqb (r .kind) 0 h) (omega arith)
-
-    go : KindOf (r .kind) → Skipped r t v p
-    go (is-variable k) = absurd (h k)
-    go (is-constant k) = record { no-pieces = rw (same, k); no-variable = rw k; no-bits = rw k }
-    go (is-concat k) = record { no-pieces = rw (same, k); no-variable = rw k; no-bits = rw k }
-    go (is-extract k) = record { no-pieces = rw (same, k); no-variable = rw k; no-bits = rw k }
-    go (is-equation k) =
-        record {
-          no-pieces = rw (same, else-kind (r .kind) (bitsUp v 0 (r .a)) [] [] [] [] k);
-          no-variable = else-kind (r .kind) (take (r .a) p ∷ variableBits t (drop (r .a) p)) (variableBits t p) (variableBits t p) (variableBits t p) (variableBits t p) k;
-          no-bits = else-kind (r .kind) (r .a) 0 0 0 0 k;
-        }
+unfolding variableBits
+skipped r t v p h =
+    record {
+      no-pieces = pieces-other v r t h;
+      no-variable = of-other r (take (r .a) p ∷ variableBits t (drop (r .a) p)) (variableBits t p) h;
+      no-bits = bits-other r h;
+    }
 
 -- a variable adds its bits
 record Added (r : Row) (t : List Row) (v : ℕ) (p : List ℕ) : Type 0 where
@@ -169,8 +153,13 @@ record Added (r : Row) (t : List Row) (v : ℕ) (p : List ℕ) : Type 0 where
   its-bits : bitsIn r ≡ r .a
 
 added : (r : Row) (t : List Row) (v : ℕ) (p : List ℕ) → r .kind ≡ 0 → Added r t v p
-unfolding placePieces variableBits bitsIn byKind
-added r t v p k = let e : v + 1 ≡ suc v = omega arith in record { its-pieces = rw (k, e); its-value = rw k; its-bits = rw k }
+unfolding variableBits
+added r t v p k =
+    record {
+      its-pieces = pieces-variable v r t k;
+      its-value = of-variable r (take (r .a) p ∷ variableBits t (drop (r .a) p)) (variableBits t p) k;
+      its-bits = bits-variable r k;
+    }
 
 -- the pieces of an assignment's places have its bits
 place-reads : (t : List Row) (v : ℕ) (p : List ℕ) (vs : List (List ℕ)) → drop v vs ≡ variableBits t p → length p ≡ bitsOf t → (i : ℕ) → i < bitsOf t

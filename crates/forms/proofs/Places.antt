@@ -5,13 +5,13 @@ use mathlib.Core.List.{List, [], _∷_, _++_, map, append-assoc}
 use Prim.Native.Nat.{ℕ, zero, suc, _+_, _-_, _<_, _≤_}
 use native.Mathlib.Omega.{arith}
 use lib.Dec.{eqb}
-use lib.ListN.{length, take, drop, replicate, length-append}
+use lib.ListN.{length, getD, take, drop, replicate, length-append}
 use lib.Seq.{split-at, take-at, drop-at}
-use borrow.Author.Tests.{eq-eqb, lt-ltb}
+use borrow.Author.Tests.{eq-eqb, ne-eqb, lt-ltb}
 use Rattle.terms.specs.declared.Row.{Row}
-use Rattle.terms.specs.Table.{rowAt, noRow, byKind, bitsIn, bitsOf, countKind, sourcesOf, sourceOf}
+use Rattle.terms.specs.Table.{rowAt, noRow, ifVariable, bitsIn, bitsOf, countKind, sourcesOf, sourceOf}
 use Rattle.laws.specs.Lists.{countUp}
-use Rattle.terms.proofs.RowKinds.{KindOf, is-variable, is-constant, is-concat, is-extract, is-equation, kind-of, else-kind}
+use Rattle.terms.proofs.RowKinds.{of-variable, of-other, by-variable, bits-variable, bits-other}
 use Rattle.laws.proofs.Lists.{map-take, map-drop, map-replicate, read-places}
 use Rattle.terms.proofs.Values.{value-variable, value-constant}
 use Rattle.forms.specs.declared.Piece.{Piece}
@@ -22,21 +22,34 @@ unfolding bitsUp
 bits-count v low zero = refl
 bits-count v low (suc n) = ap suc (bits-count v low n)
 
+pub bits-at : (v low n i : ℕ) (d : Piece) → i < n → getD (bitsUp v low n) i d ≡ part v (low + (n - 1 - i)) (low + (n - 1 - i))
+unfolding bitsUp
+bits-at v low zero i d h = absurd (omega arith)
+bits-at v low (suc n) zero d h = let e : low + n ≡ low + (suc n - 1 - 0) = omega arith in ap (λ (k : ℕ). part v k k) e
+bits-at v low (suc n) (suc i) d h = let e : low + (n - 1 - i) ≡ low + (suc n - 1 - suc i) = omega arith in bits-at v low n i d (omega arith) ∙ ap (λ (k : ℕ). part v k k) e
+
 -- the pieces that a row adds
+pub pieces-variable : (v : ℕ) (r : Row) (t : List Row) → r .kind ≡ 0 → placePieces v (r ∷ t) ≡ bitsUp v 0 (r .a) ++ placePieces (suc v) t
+unfolding placePieces
+pieces-variable v r t e =
+    let n : v + cond (eqb (r .kind) 0) 1 0 ≡ suc v = rw (eq-eqb (r .kind) 0 e) (omega arith) in
+    rw (n, of-variable r (bitsUp v 0 (r .a)) [] e)
+
+pub pieces-other : (v : ℕ) (r : Row) (t : List Row) → (r .kind ≡ 0 → ⊥) → placePieces v (r ∷ t) ≡ placePieces v t
+unfolding placePieces
+pieces-other v r t h =
+    let same : v + cond (eqb (r .kind) 0) 1 0 ≡ v = rw (ne-eqb (r .kind) 0 h) (omega arith) in
+    rw (same, of-other r (bitsUp v 0 (r .a)) [] h)
+
 row-pieces : ℕ → Row → List Piece
-row-pieces v r = byKind (r .kind) (bitsUp v 0 (r .a)) [] [] [] []
+row-pieces v r = ifVariable r (bitsUp v 0 (r .a)) []
 
 row-count : (v : ℕ) (r : Row) → length (row-pieces v r) ≡ bitsIn r
-unfolding row-pieces bitsIn byKind
-row-count v r = go (kind-of (r .kind))
-  where
-    go : KindOf (r .kind) → length (row-pieces v r) ≡ bitsIn r
-    go (is-variable e) = rw e (bits-count v 0 (r .a))
-    go (is-constant e) = rw e
-    go (is-concat e) = rw e
-    go (is-extract e) = rw e
-    go (is-equation e) =
-        ap length (else-kind (r .kind) (bitsUp v 0 (r .a)) [] [] [] [] e) ∙ sym (else-kind (r .kind) (r .a) 0 0 0 0 e)
+unfolding row-pieces
+row-count v r =
+    by-variable r (bitsUp v 0 (r .a)) [] (λ (ps : List Piece). length ps ≡ bitsIn r)
+    (λ e. bits-count v 0 (r .a) ∙ sym (bits-variable r e))
+    (λ h. sym (bits-other r h))
 
 pub places-count : (v : ℕ) (t : List Row) → length (placePieces v t) ≡ bitsOf t
 unfolding placePieces bitsOf row-pieces
@@ -51,21 +64,21 @@ places-append v [] ys = let e : v ≡ v + 0 = omega arith in ap (λ (n : ℕ). p
 places-append v (r ∷ xs) ys =
     let n : ℕ = cond (eqb (r .kind) 0) 1 0 in
     let e : v + n + countKind 0 xs ≡ v + (n + countKind 0 xs) = omega arith in
-    let here = byKind (r .kind) (bitsUp v 0 (r .a)) [] [] [] [] in
+    let here = ifVariable r (bitsUp v 0 (r .a)) [] in
     ap (λ (l : List Piece). here ++ l) (places-append (v + n) xs ys ∙ ap (λ (k : ℕ). placePieces (v + n) xs ++ placePieces k ys) e)
     ∙ sym (append-assoc here (placePieces (v + n) xs) (placePieces (v + (n + countKind 0 xs)) ys))
 
 -- a variable's bits stand at its start
 variable-places : (t : List Row) (r : ℕ) → r < length t → rowAt t r .kind ≡ 0
     → take (rowAt t r .a) (drop (bitsOf (take r t)) (placePieces 0 t)) ≡ bitsUp (countKind 0 (take r t)) 0 (rowAt t r .a)
-unfolding placePieces byKind
+unfolding placePieces
 variable-places t r h e =
     let row = rowAt t r in
     let v = countKind 0 (take r t) in
     let rest = drop (suc r) t in
     let more = placePieces (0 + v + cond (eqb (row .kind) 0) 1 0) rest in
     let front = placePieces 0 (take r t) in
-    let here : placePieces (0 + v) (row ∷ rest) ≡ bitsUp (0 + v) 0 (row .a) ++ more = ap (λ (k : ℕ). byKind k (bitsUp (0 + v) 0 (row .a)) [] [] [] [] ++ more) e in
+    let here : placePieces (0 + v) (row ∷ rest) ≡ bitsUp (0 + v) 0 (row .a) ++ more = ap (λ (l : List Piece). l ++ more) (of-variable row (bitsUp (0 + v) 0 (row .a)) [] e) in
     let all : placePieces 0 t ≡ front ++ (bitsUp (0 + v) 0 (row .a) ++ more) =
     ap (placePieces 0) (split-at t r noRow h) ∙ places-append 0 (take r t) (row ∷ rest) ∙ ap (λ (l : List Piece). front ++ l) here in
     let v₀ : 0 + v ≡ v = omega arith in

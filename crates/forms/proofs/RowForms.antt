@@ -9,10 +9,9 @@ use lib.ListN.{length, getD, take, drop, replicate}
 use Rattle.terms.specs.declared.Row.{Row}
 use Rattle.terms.specs.Table.{rowsOf, rowAt, widthOf, bitsOf, countKind, extract, sourcesOf, sourceOf}
 use Rattle.laws.specs.Lists.{countUp}
-use Rattle.terms.specs.Faults.{absent, misnamed}
+use Rattle.terms.specs.Faults.{absent}
 use Rattle.terms.proofs.AcceptedTable.{Table, accepted-table, term-there, term-present}
-use Rattle.terms.proofs.RowKinds.{KindOf, is-variable, is-constant, is-concat, is-extract, is-equation, kind-of}
-use Rattle.terms.proofs.Faults.{Term, Kept, kept, kept-names, kept-kind, kept-bit, kept-width, kept-bounds, concat-names, extract-names, equation-names, widths-small}
+use Rattle.terms.proofs.Faults.{Term, Kept, kept, kept-names, kept-kind, kept-first, kept-bit, kept-width, kept-bounds, concat-names, extract-names, widths-small}
 use Rattle.laws.proofs.Lists.{map-take, map-drop}
 use Rattle.terms.proofs.Sources.{source-length}
 use Rattle.terms.proofs.Values.{value-concat, value-extract, width-variable, width-constant, width-concat, width-extract}
@@ -71,17 +70,7 @@ module _ (table widths variables : List ℕ) (num : Numbered table widths variab
 
   -- what is named first is earlier, where it is neither a variable nor a constant
   pub first-earlier : (at .kind ≡ 0 → ⊥) → (at .kind ≡ 1 → ⊥) → at .a < row
-  first-earlier h₀ h₁ = go (kind-of (at .kind))
-    where
-      m : misnamed rows row at ≡ false
-      m = kept-names rows row row-kept
-
-      go : KindOf (at .kind) → at .a < row
-      go (is-variable e) = absurd (h₀ e)
-      go (is-constant e) = absurd (h₁ e)
-      go (is-concat e) = concat-names rows row at m e .0 .earlier
-      go (is-extract e) = extract-names rows row at m e .earlier
-      go (is-equation e) = equation-names rows row at m e .0 .earlier
+  first-earlier = kept-first rows row row-kept
 
   pub concat-left : (at .kind ≡ 0 → ⊥) → (at .kind ≡ 1 → ⊥) → (at .kind ≡ 3 → ⊥) → at .kind ≡ 2
   concat-left h₀ h₁ h₃ = omega (arith, kept-kind rows row row-kept, no-equation)

@@ -22,12 +22,12 @@ use Rattle.terms.proofs.Sources.{source-length}
 use Rattle.terms.proofs.Values.{Sound, value-concat, value-extract, width-variable}
 use Rattle.terms.proofs.Words.{extract-join, extract-whole}
 use Rattle.forms.specs.Form.{fill, part, pieceOf, addAll, group, formFrom, formOf, numbersOf, formWidth, formValue}
-use Rattle.forms.specs.Numbered.{Numbered, variablesIn}
+use Rattle.forms.specs.Numbered.{Numbered}
 use Rattle.forms.proofs.FormNumbers.{numbers-length}
 use Rattle.forms.proofs.FormValues.{form-value}
 use Rattle.forms.proofs.Grouping.{group-append}
 use Rattle.forms.proofs.Maximal.{Maximal, group-maximal}
-use Rattle.forms.proofs.Numbered.{number-row}
+use Rattle.forms.proofs.Numbered.{variablesIn, number-row}
 use Rattle.forms.proofs.PieceWidths.{AllProper}
 use Rattle.forms.proofs.RowForms.{variable-form, constant-cut}
 use Rattle.forms.proofs.Units.{form-proper, form-width, form-count}

@@ -7,8 +7,8 @@ use native.Mathlib.Omega.{arith}
 use lib.Dec.{eqb}
 use lib.ListN.{length, getD, length-map}
 use Rattle.terms.specs.declared.Row.{Row}
-use Rattle.terms.specs.Table.{byKind}
-use Rattle.terms.proofs.RowKinds.{KindOf, is-variable, is-constant, is-concat, is-extract, is-equation, kind-of, else-kind}
+use Rattle.terms.specs.Table.{ifVariable}
+use Rattle.terms.proofs.RowKinds.{by-variable}
 use Rattle.laws.proofs.Bools.{not-both}
 use Rattle.forms.specs.declared.Piece.{Piece}
 use Rattle.forms.specs.Form.{fill, part, bitsUp, placePieces, pieceOf, formFrom, pieceWidth, formWidth}
@@ -39,16 +39,8 @@ append-unit : (f g : List Piece) → AllUnit f → AllUnit g → AllUnit (f ++ g
 append-unit f g nothing k = k
 append-unit f g (another {f = rest} u us) k = another u (append-unit rest g us k)
 
-row-unit : (v : ℕ) (r : Row) → AllUnit (byKind (r .kind) (bitsUp v 0 (r .a)) [] [] [] [])
-unfolding byKind
-row-unit v r = go (kind-of (r .kind))
-  where
-    go : KindOf (r .kind) → AllUnit (byKind (r .kind) (bitsUp v 0 (r .a)) [] [] [] [])
-    go (is-variable e) = rw e (bits-unit v 0 (r .a))
-    go (is-constant e) = rw e nothing
-    go (is-concat e) = rw e nothing
-    go (is-extract e) = rw e nothing
-    go (is-equation e) = rw (else-kind (r .kind) (bitsUp v 0 (r .a)) [] [] [] [] e) nothing
+row-unit : (v : ℕ) (r : Row) → AllUnit (ifVariable r (bitsUp v 0 (r .a)) [])
+row-unit v r = by-variable r (bitsUp v 0 (r .a)) [] AllUnit (λ e. bits-unit v 0 (r .a)) (λ h. nothing)
 
 places-unit : (v : ℕ) (t : List Row) → AllUnit (placePieces v t)
 unfolding placePieces

@@ -6,7 +6,7 @@ use Prim.Native.Nat.{ℕ, zero, suc, _+_, _-_}
 use lib.Dec.{eqb, ltb}
 use lib.ListN.{getD, take, drop, replicate}
 use Rattle.terms.specs.declared.Row.{Row}
-use Rattle.terms.specs.Table.{byKind, extract, sourceOf}
+use Rattle.terms.specs.Table.{ifVariable, extract, sourceOf}
 use Rattle.forms.specs.declared.Piece.{Piece}
 
 -- A fill (constant) of the bit b that is n + 1 wide.
@@ -25,7 +25,7 @@ bitsUp v low (suc n) = part v (low + n) (low + n) ∷ bitsUp v low n
 -- The places of an assignment as pieces of one bit: rows of which v variables stand before.
 unfoldable pub placePieces : ℕ → List Row → List Piece
 placePieces v [] = []
-placePieces v (r ∷ rs) = byKind (r .kind) (bitsUp v 0 (r .a)) [] [] [] [] ++ placePieces (v + cond (eqb (r .kind) 0) 1 0) rs
+placePieces v (r ∷ rs) = ifVariable r (bitsUp v 0 (r .a)) [] ++ placePieces (v + cond (eqb (r .kind) 0) 1 0) rs
 
 -- One source as a piece.
 unfoldable pub pieceOf : List Row → ℕ → Piece
@@ -69,13 +69,7 @@ formOf t r = formFrom t (sourceOf t r)
 -- The bits of each variable under the assignment p, variable 0 first.
 unfoldable pub variableBits : List Row → List ℕ → List (List ℕ)
 variableBits [] p = []
-variableBits (r ∷ rs) p =
-    byKind (r .kind)
-    (take (r .a) p ∷ variableBits rs (drop (r .a) p))
-    (variableBits rs p)
-    (variableBits rs p)
-    (variableBits rs p)
-    (variableBits rs p)
+variableBits (r ∷ rs) p = ifVariable r (take (r .a) p ∷ variableBits rs (drop (r .a) p)) (variableBits rs p)
 
 -- The value of a piece, where vs are the variables' bits: a fill's copies, or bits high to low of its variable.
 unfoldable pub pieceValue : List (List ℕ) → Piece → List ℕ

@@ -4,15 +4,13 @@
 // last piece where they meet. So the two phases of figure 3 are one pass, and what stands in the buffer is always the
 // normal form of the bits that were met.
 ghost use mathlib.Core.Path.{_≡_};
-ghost use mathlib.Core.Bool.{false, cond};
+ghost use mathlib.Core.Bool.{false};
 ghost use Prim.Native.Nat.{_<_, _≤_};
-ghost use lib.Dec.{eqb};
-ghost use lib.ListN.{length, take};
+ghost use lib.ListN.{length};
 ghost use Rattle.terms.specs.Table.{rowsOf, widthOf, sourceOf, extract};
 ghost use Rattle.terms.specs.Faults.{absent};
-ghost use Rattle.laws.specs.Buffers.{overwrite};
 ghost use Rattle.forms.specs.Form.{meets};
-ghost use Rattle.forms.specs.Numbered.{Numbered, variablesIn};
+ghost use Rattle.forms.specs.Numbered.{Numbered};
 ghost use Rattle.normalizer.specs.Append.{Appended, pieceAt, putPiece, mergedIn, pushedCount, pushedNumbers};
 ghost use Rattle.forms.specs.Call.{formRecord, formAfter};
 use forms::Piece;
@@ -277,33 +275,6 @@ fn put_cut(
     )
 }
 
-// 1 for a variable.
-fn one(kind: u16) -> u16
-    ensures { λ r. ⌜ (r ≡ cond (eqb kind 0) 1 0) × (r ≤ 1) ⌝ }
-{
-    if kind == terms::VARIABLE {
-        return 1;
-    }
-    0
-}
-
-// For each of the first 512 rows, how many variables stand before it.
-pub fn number(table: &[u16], variables: &mut [u16])
-    ensures { λ _. ⌜ now (variables .exit) ≡ overwrite (variablesIn (take 512 (rowsOf (now (table .entry))))) (now (variables .entry)) ⌝ }
-{
-    let mut count: u16 = 0;
-    let mut r = 0;
-    while r < terms::MAX_ROWS {
-        if table.len() / 4 <= r {
-            break;
-        }
-        numbers::store(variables, r, count);
-        let row = rows::row_at(table, r);
-        count = count + one(row.kind);
-        r += 1;
-    }
-}
-
 // The normal form of a row, four numbers for each piece.
 pub fn normal_form(table: &[u16], row: usize, out: &mut [u16]) -> Record
     ensures record { λ r. ⌜ r ≡ formRecord (now (table .entry)) row (length (now (out .entry))) ⌝ }
@@ -321,7 +292,7 @@ pub fn normal_form(table: &[u16], row: usize, out: &mut [u16]) -> Record
         return records::refuse(32, 0);
     }
     let mut variables = [0u16; 512];
-    number(table, &mut variables[..]);
+    checker::place(table, &mut variables[..]);
     let pieces = put_form(table, &widths[..], &variables[..], row, out, 0);
     records::complete(pieces as u32, widths[row] as u32)
 }

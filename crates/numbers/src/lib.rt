@@ -77,15 +77,6 @@ pub fn store(buffer: &mut [u16], i: usize, x: u16)
     }
 }
 
-// The same for wider numbers.
-pub fn put(buffer: &mut [u32], i: usize, x: u32)
-    ensures { λ _. ⌜ now (buffer .exit) ≡ set (now (buffer .entry)) i x ⌝ }
-{
-    if i < buffer.len() {
-        buffer[i] = x;
-    }
-}
-
 // 1 if a row has the kind that is counted.
 pub fn one_if(kind: u16, wanted: u16) -> usize
     ensures { λ r. ⌜ (r ≡ cond (eqb kind wanted) 1 0) × (r ≤ 1) ⌝ }

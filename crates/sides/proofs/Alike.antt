@@ -3,17 +3,19 @@ use mathlib.Core.Path.{_≡_, refl, sym, _∙_, ap, ap₂}
 use mathlib.Core.Bool.{Bool, true, false, cond}
 use mathlib.Core.List.{List, [], _∷_}
 use mathlib.Core.Logic.{⊎-elim}
-use Prim.Native.Nat.{ℕ, suc, _+_, _<_, min}
+use Prim.Native.Nat.{ℕ, zero, suc, _+_, _<_, min}
 use native.Mathlib.Omega.{arith}
 use lib.Dec.{eqb}
 use lib.ListN.{length, take, length-take, List·getD-eq-default}
 use lib.Seq.{getD-take}
 use borrow.Author.Tests.{eqb-true, eqb-false}
 use Rattle.terms.specs.declared.Row.{Row}
-use Rattle.terms.specs.Table.{rowAt, noRow, byKind, bitsIn, bitsOf, countKind, sourcesOf}
+use Rattle.terms.specs.Table.{rowAt, noRow, bitsIn, bitsOf, countKind, sourcesOf, sourceOf}
+use Rattle.terms.specs.Places.{firstPlace}
+use Rattle.terms.proofs.RowKinds.{of-term, bits-other}
+use Rattle.terms.proofs.Places.{place-other}
 use Rattle.laws.proofs.Numbers.{lt-or-le}
-use Rattle.answers.specs.Pairs.{Pair, pairsOf, pairsIn}
-use Rattle.sides.specs.Sides.{lowSources}
+use Rattle.answers.specs.Pairs.{paired, pairsOf}
 
 -- a cut where the other is a cut, and equal where it is none
 pub record AlikeRow (s r : Row) : Type 0 where
@@ -52,8 +54,7 @@ alike-use f s r a cuts = go (eqb (r .kind) 3) refl
     go false e = ap f (a .same (eqb-false (r .kind) 3 e))
 
 alike-bits-in : (s r : Row) → AlikeRow s r → bitsIn s ≡ bitsIn r
-unfolding bitsIn byKind
-alike-bits-in s r a = alike-use bitsIn s r a (λ x e y f. rw (e, f))
+alike-bits-in s r a = alike-use bitsIn s r a (λ x e y f. bits-other x (λ z. absurd (omega arith)) ∙ sym (bits-other y (λ z. absurd (omega arith))))
 
 pub alike-bits : (ss rs : List Row) → Alike ss rs → bitsOf ss ≡ bitsOf rs
 unfolding bitsOf
@@ -70,41 +71,32 @@ alike-count k (s ∷ ss) [] a = absurd (omega (arith, a .count))
 alike-count k (s ∷ ss) (r ∷ rs) a =
     ap₂ (λ (x y : ℕ). cond (eqb x k) 1 0 + y) (head-alike s r ss rs a .kind-is) (alike-count k ss rs (tail-alike s r ss rs a))
 
-low-one : (k : ℕ) (rs : List Row) (x y : Row) → x .kind ≡ 3 → y .kind ≡ 3 → lowSources k (x ∷ rs) ≡ lowSources k (y ∷ rs)
-unfolding lowSources byKind
-low-one k rs x y e f = rw (e, f)
+place-one : (v : ℕ) (rs : List Row) (x y : Row) → x .kind ≡ 3 → y .kind ≡ 3 → firstPlace (x ∷ rs) v ≡ firstPlace (y ∷ rs) v
+place-one v rs x y e f = place-other x rs v (λ z. absurd (omega arith)) ∙ sym (place-other y rs v (λ z. absurd (omega arith)))
 
-lows-under : (s : Row) (ss rs : List Row) → ((k : ℕ) → lowSources k ss ≡ lowSources k rs) → (k : ℕ) → lowSources k (s ∷ ss) ≡ lowSources k (s ∷ rs)
-unfolding lowSources
-lows-under s ss rs h k = rw (h (k + s .a), h k)
+places-under : (s : Row) (ss rs : List Row) → ((v : ℕ) → firstPlace ss v ≡ firstPlace rs v) → (v : ℕ) → firstPlace (s ∷ ss) v ≡ firstPlace (s ∷ rs) v
+unfolding firstPlace
+places-under s ss rs h zero = refl
+places-under s ss rs h (suc v) = rw (h v, h (suc v))
 
-pub alike-lows : (ss rs : List Row) → Alike ss rs → (k : ℕ) → lowSources k ss ≡ lowSources k rs
-alike-lows [] [] a k = refl
-alike-lows [] (r ∷ rs) a k = absurd (omega (arith, a .count))
-alike-lows (s ∷ ss) [] a k = absurd (omega (arith, a .count))
-alike-lows (s ∷ ss) (r ∷ rs) a k =
-    lows-under s ss rs (alike-lows ss rs (tail-alike s r ss rs a)) k
-    ∙ alike-use (λ (x : Row). lowSources k (x ∷ rs)) s r (head-alike s r ss rs a) (λ x e y f. low-one k rs x y e f)
+pub alike-places : (ss rs : List Row) → Alike ss rs → (v : ℕ) → firstPlace ss v ≡ firstPlace rs v
+alike-places [] [] a v = refl
+alike-places [] (r ∷ rs) a v = absurd (omega (arith, a .count))
+alike-places (s ∷ ss) [] a v = absurd (omega (arith, a .count))
+alike-places (s ∷ ss) (r ∷ rs) a v =
+    places-under s ss rs (alike-places ss rs (tail-alike s r ss rs a)) v
+    ∙ alike-use (λ (x : Row). firstPlace (x ∷ rs) v) s r (head-alike s r ss rs a) (λ x e y f. place-one v rs x y e f)
 
 pairs-one : (t : List Row) (x y : Row) → x .kind ≡ 3 → y .kind ≡ 3 → pairsOf t x ≡ pairsOf t y
-unfolding pairsOf byKind
-pairs-one t x y e f = rw (e, f)
-
-pub alike-pairs : (t ss rs : List Row) → Alike ss rs → pairsIn t ss ≡ pairsIn t rs
-unfolding pairsIn
-alike-pairs t [] [] a = refl
-alike-pairs t [] (r ∷ rs) a = absurd (omega (arith, a .count))
-alike-pairs t (s ∷ ss) [] a = absurd (omega (arith, a .count))
-alike-pairs t (s ∷ ss) (r ∷ rs) a =
-    ap₂ (λ (x : List Pair) (l : List (List Pair)). x ∷ l) (alike-use (pairsOf t) s r (head-alike s r ss rs a) (λ x e y f. pairs-one t x y e f))
-    (alike-pairs t ss rs (tail-alike s r ss rs a))
-
-same-pairs-of : (u t : List Row) (r : Row) → sourcesOf u ≡ sourcesOf t → pairsOf u r ≡ pairsOf t r
 unfolding pairsOf
-same-pairs-of u t r e = rw e
+pairs-one t x y e f =
+    of-term x (paired (sourceOf t (x .a)) (sourceOf t (x .b))) [] (λ z. absurd (omega arith))
+    ∙ sym (of-term y (paired (sourceOf t (y .a)) (sourceOf t (y .b))) [] (λ z. absurd (omega arith)))
 
--- the pairs ask for the sources alone
-pub same-pairs : (u t rs : List Row) → sourcesOf u ≡ sourcesOf t → pairsIn u rs ≡ pairsIn t rs
-unfolding pairsIn
-same-pairs u t [] e = refl
-same-pairs u t (r ∷ rs) e = ap₂ (λ (x : List Pair) (l : List (List Pair)). x ∷ l) (same-pairs-of u t r e) (same-pairs u t rs e)
+same-pairs : (u t : List Row) (r : Row) → sourcesOf u ≡ sourcesOf t → pairsOf u r ≡ pairsOf t r
+unfolding pairsOf
+same-pairs u t r e = rw e
+
+-- bit pairs ask for the sources alone, and a cut has none
+pub alike-pairs : (u t : List Row) (s r : Row) → AlikeRow s r → sourcesOf u ≡ sourcesOf t → pairsOf u s ≡ pairsOf t r
+alike-pairs u t s r a e = same-pairs u t s e ∙ alike-use (pairsOf t) s r a (λ x i y j. pairs-one t x y i j)

@@ -6,12 +6,12 @@ use Prim.Native.Nat.{ℕ, suc, _+_, _<_, _≤_}
 use native.Mathlib.Omega.{arith}
 use lib.ListN.{length, getD}
 use Rattle.terms.specs.declared.Row.{Row}
-use Rattle.terms.specs.Table.{rowsOf, rowAt, byKind, bitsOf, widthOf, sourceOf}
+use Rattle.terms.specs.Table.{rowsOf, rowAt, bitsOf, widthOf, sourceOf}
 use Rattle.laws.specs.Buffers.{overwrite}
 use Rattle.terms.specs.Faults.{absent}
 use Rattle.terms.proofs.AcceptedTable.{Table, accepted-table, term-present}
 use Rattle.laws.proofs.Buffers.{overwrite-read}
-use Rattle.terms.proofs.RowKinds.{KindOf, is-variable, is-constant, is-concat, is-extract, is-equation, kind-of, else-kind}
+use Rattle.terms.proofs.RowKinds.{Equation, of-equation, of-term}
 use Rattle.terms.proofs.Faults.{Term, Kept, kept, kept-kind, kept-names, kept-sides, equation-names, widths-small}
 use Rattle.terms.proofs.Sources.{source-length}
 use Rattle.answers.specs.Pairs.{Pair, paired, pairsOf}
@@ -49,15 +49,16 @@ module _ (table widths variables lows : List ℕ) (ready : Prepared table widths
 
   -- a row that is no equation has no pairs
   pub no-pairs : (left right : List ℕ) → (rowAt rows r .kind ≡ 4 → ⊥) → SidesRead rows r left right 0
-  unfolding pairsFrom pairsOf byKind
-  no-pairs left right h = record { pairs = sym (go (kind-of (rowAt rows r .kind))); few = omega arith; left-small = λ i l. absurd (omega arith); right-small = λ i l. absurd (omega arith) }
-    where
-      go : KindOf (rowAt rows r .kind) → pairsOf rows (rowAt rows r) ≡ []
-      go (is-variable e) = rw e
-      go (is-constant e) = rw e
-      go (is-concat e) = rw e
-      go (is-extract e) = rw e
-      go (is-equation e) = absurd (h (omega (arith, kept-kind rows r row-kept)))
+  unfolding pairsFrom pairsOf
+  no-pairs left right h =
+      let row = rowAt rows r in
+      let n : Equation row → ⊥ = λ e. h (omega (arith, kept-kind rows r row-kept)) in
+      record {
+        pairs = sym (of-term row (paired (sourceOf rows (row .a)) (sourceOf rows (row .b))) [] n);
+        few = omega arith;
+        left-small = λ i l. absurd (omega arith);
+        right-small = λ i l. absurd (omega arith);
+      }
 
   module _ (e : rowAt rows r .kind ≡ 4) where
     abbrev a : ℕ
@@ -113,7 +114,7 @@ module _ (table widths variables lows : List ℕ) (ready : Prepared table widths
               ∙ pairs-from left right (sourceOf rows a) (sourceOf rows b) 0 (left-wide ∙ sym right-wide)
               (λ i h. ap (λ (j : ℕ). getD left j 0) (z i) ∙ read a left-in left-wide left₀ left roomₗ eₗ i (omega (arith, left-wide)))
               (λ i h. ap (λ (j : ℕ). getD right j 0) (z i) ∙ read b right-in right-wide right₀ right roomᵣ eᵣ i (omega (arith, right-wide)))
-              ∙ sym (else-kind (rowAt rows r .kind) [] [] [] [] (paired (sourceOf rows a) (sourceOf rows b)) (omega arith));
+              ∙ sym (of-equation (rowAt rows r) (paired (sourceOf rows a) (sourceOf rows b)) [] (omega arith));
           few = omega (arith, small);
           left-small = λ i h. read-small a left-in left-wide left₀ left roomₗ eₗ i (omega arith);
           right-small = λ i h. read-small b right-in right-wide right₀ right roomᵣ eᵣ i (omega arith);

@@ -26,9 +26,8 @@ use Rattle.forms.proofs.FormNumbers.{numbers-length}
 use Rattle.forms.proofs.RowForms.{sources-wide, width-small}
 use Rattle.normalizer.proofs.Appending.{appended-form}
 use Rattle.forms.proofs.FormCall.{form-few}
-use Rattle.sides.specs.Sides.{lowSources, Prepared}
+use Rattle.sides.specs.Sides.{Prepared}
 use Rattle.sides.specs.Spread.{stepped, sourcesIn, spelled, Spells}
-use Rattle.sides.proofs.Lows.{lows-count}
 use Rattle.sides.proofs.Spelling.{named, namedAll, Lies, AllLie, form-lies, form-named, AllBelow, none, some}
 
 -- a run that stands still, and one that rises
@@ -76,26 +75,26 @@ spelled-turn lows ps (suc n) h =
     ap (λ (l : List ℕ). l ++ sourcesIn lows (rowAt ps n)) (spelled-turn lows ps n (omega arith))
     ∙ sym (turn-snoc lows (take n ps) (rowAt ps n)) ∙ ap (inTurn lows) (sym (take-suc ps n noRow h))
 
-module _ (n : ℕ) (lows ls : List ℕ) (fit : n < 65535) (same : (v : ℕ) → v < length ls → getD lows v 0 ≡ getD ls v 0) where
+module _ (n : ℕ) (lows : List ℕ) (fit : n < 65535) where
   -- what is read of a piece are its sources
-  piece-read : (p : Piece) → Lies n ls p → sourcesIn lows (asRow p) ≡ named ls p
+  piece-read : (p : Piece) → Lies n lows p → sourcesIn lows (asRow p) ≡ named lows p
   unfolding sourcesIn named
   piece-read p k = go (ltb (p .kind) 2) refl
     where
-      go : (b : Bool) → ltb (p .kind) 2 ≡ b → sourcesIn lows (asRow p) ≡ named ls p
+      go : (b : Bool) → ltb (p .kind) 2 ≡ b → sourcesIn lows (asRow p) ≡ named lows p
       go true e = rw (e) (stepped-still (p .kind) (p .high + 1) (omega (arith, ltb-true (p .kind) 2 e)))
       go false e =
-          let low = getD ls (p .variable) 0 in
-          let x : (getD lows (p .variable) 0 - p .high) % 65536 ≡ low - p .high = omega (arith, same (p .variable) (k .there e), k .small e) in
+          let low = getD lows (p .variable) 0 in
+          let x : (low - p .high) % 65536 ≡ low - p .high = omega (arith, k .small e) in
           rw (e, x) (stepped-up (low - p .high) (p .high + 1 - p .low) (omega (arith, k .inside e, k .small e)))
 
-  pieces-read : (f : List Piece) → AllLie n ls f → inTurn lows (map asRow f) ≡ namedAll ls f
+  pieces-read : (f : List Piece) → AllLie n lows f → inTurn lows (map asRow f) ≡ namedAll lows f
   unfolding inTurn namedAll
   pieces-read f none = refl
   pieces-read f (some {p = p} {form = rest} k ks) = ap₂ (λ (a b : List ℕ). a ++ b) (piece-read p k) (pieces-read rest ks)
 
-  form-read : (f : List Piece) (base : List ℕ) → AllLie n ls f → length f * 4 ≤ length base
-      → spelled lows (rowsOf (overwrite (numbersOf f) base)) (length f) ≡ namedAll ls f
+  form-read : (f : List Piece) (base : List ℕ) → AllLie n lows f → length f * 4 ≤ length base
+      → spelled lows (rowsOf (overwrite (numbersOf f) base)) (length f) ≡ namedAll lows f
   form-read f base k h =
       let rest = rowsOf (drop (length (numbersOf f)) base) in
       ap (λ (ps : List Row). spelled lows ps (length f)) (rows-form f base h)
@@ -154,7 +153,7 @@ module _ (table widths variables lows : List ℕ) (ready : Prepared table widths
       let done = appended-form rows row form n form′ small room put in
       let all : spelled lows (rowsOf form′) n ≡ sourceOf rows row =
       ap₂ (λ (f : List ℕ) (k : ℕ). spelled lows (rowsOf f) k) (done .1) (done .0)
-      ∙ form-read (bitsOf rows + 1) lows (lowSources 0 rows) (omega (arith, few-bits)) (λ v h. ready .lows-are v (omega (arith, lows-count 0 rows)))
-      (formOf rows row) form (form-lies rows (sourceOf rows row) below) (omega (arith, form-few rows row, small))
-      ∙ form-named rows (sourceOf rows row) below in
+      ∙ form-read (bitsOf rows + 1) lows (omega (arith, few-bits)) (formOf rows row) form (form-lies rows lows (ready .lows-are) (sourceOf rows row) below)
+      (omega (arith, form-few rows row, small))
+      ∙ form-named rows lows (ready .lows-are) (sourceOf rows row) below in
       spells (rw all (omega (arith, small))) ∙ ap (λ (l : List ℕ). overwrite l out) all

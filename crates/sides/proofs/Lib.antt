@@ -1,4 +1,3 @@
-pub mod Lows
 pub mod Spelling
 pub mod FormSources
 pub mod Writing

@@ -1,27 +1,27 @@
 -- The shortened table of an accepted one is accepted, and has its widths, its sources and its bit pairs.
 use mathlib.Core.Path.{_≡_, refl, sym, _∙_, ap, ap₂}
 use mathlib.Core.Bool.{Bool, true, false}
-use mathlib.Core.List.{List, [], _++_}
+use mathlib.Core.List.{List, []}
 use Prim.Native.Nat.{ℕ, zero, suc, _+_, _%_, _<_, _≤_}
 use native.Mathlib.Omega.{arith}
 use lib.Dec.{eqb}
-use lib.ListN.{length, getD, take, drop, replicate}
+use lib.ListN.{length, getD, take}
 use lib.Seq.{ext-getD}
-use borrow.Author.Tests.{eqb-true, eqb-false, ne-eqb, eq-eqb, lt-ltb, le-ltb}
+use borrow.Author.Tests.{eqb-true, eqb-false, eq-eqb, le-ltb}
 use Rattle.terms.specs.declared.Row.{Row}
 use Rattle.terms.specs.declared.Fault.the-variants.{Accepted}
-use Rattle.terms.specs.Table.{rowsOf, rowAt, byKind, widthIn, widthsOf, widthOf, bitsOf, extract, valuesOf, valueOf, sourcesOf}
+use Rattle.terms.specs.Table.{rowsOf, rowAt, widthIn, widthsOf, widthOf, bitsOf, extract, valuesOf, valueOf, sourcesOf}
 use Rattle.laws.specs.Lists.{countUp}
-use Rattle.terms.specs.Faults.{breaks11, breaks12, breaks13, breaks14, breaks15, breaks16, breaks17, breaks18, unusedColumn, notTerm, misnamed, wrongWidth, wrongBounds, unequalSides, faultAt, isAccepted, lowestFault, firstFault}
-use Rattle.terms.proofs.RowKinds.{KindOf, is-variable, is-constant, is-concat, is-extract, is-equation, kind-of}
+use Rattle.terms.specs.Faults.{breaks11, breaks12, breaks13, breaks14, breaks15, breaks16, breaks17, breaks18, notTerm, misnamed, faultAt, isAccepted, lowestFault, firstFault}
 use Rattle.laws.proofs.Numbers.{by-strong}
 use Rattle.terms.proofs.Widths.{width-row, width-early, width-same, widths-count}
-use Rattle.terms.proofs.Faults.{Term, Kept, kept, unbroken, kept-names, concat-names}
-use Rattle.terms.proofs.Values.{Sound, values-count, value-variable, value-constant, value-concat, value-extract, value-equation, width-extract}
+use Rattle.terms.proofs.Faults.{Kept, kept, unbroken, kept-names, concat-names, cut-keeps-13, cut-keeps-14, cut-keeps-15, cut-keeps-16, cut-keeps-18}
+use Rattle.terms.proofs.Values.{Sound, values-count, value-extract, value-same, width-extract}
 use Rattle.laws.proofs.CountUp.{count-up}
-use Rattle.answers.specs.Pairs.{pairsIn}
+use Rattle.answers.specs.Pairs.{equationPairs}
+use Rattle.answers.proofs.Equations.{pairs-same}
 use Rattle.sides.specs.Shortened.{shortened}
-use Rattle.sides.proofs.Alike.{AlikeRow, Alike, alike-kinds, alike-take, alike-bits, alike-count, alike-pairs, same-pairs}
+use Rattle.sides.proofs.Alike.{AlikeRow, Alike, alike-kinds, alike-take, alike-bits, alike-count, alike-pairs}
 use Rattle.sides.proofs.Shortened.{short-count, short-same, CutOf, short-cut}
 
 -- a table no row of which breaks a rule has no lowest fault
@@ -114,23 +114,19 @@ module _ (t : List Row) (sound : Sound t) where
         kept18 = rw (e, short-widths) (k .kept18);
       }
 
-  term-same : (r x : ℕ) → Term t r x → notTerm t r x ≡ false
-  unfolding notTerm
-  term-same r x k = rw (lt-ltb x r (k .earlier), ne-eqb (rowAt t x .kind) 4 (k .no-equation))
-
   -- nor does a cut
   kept-cut : (r : ℕ) → CutOf t r (rowAt s r) → Kept t r → Kept s r
-  unfolding breaks13 breaks14 breaks15 breaks16 breaks18 unusedColumn misnamed wrongWidth wrongBounds unequalSides byKind
   kept-cut r cut k =
+      let e = cut .is-cut in
+      let x = rowAt s r .a in
       record {
         kept12 = kinds-same r ∙ k .kept12;
-        kept13 = rw (cut .is-cut);
-        kept14 = rw (cut .is-cut) (terms-same r (rowAt s r .a) ∙ term-same r (rowAt s r .a) (cut .names));
-        kept15 = rw (cut .is-cut);
-        kept16 =
-            rw (cut .is-cut, short-widths, lt-ltb (rowAt s r .b) (widthOf t (rowAt s r .a)) (cut .below), le-ltb (rowAt s r .b) (rowAt s r .c) (cut .order));
+        kept13 = cut-keeps-13 s r e;
+        kept14 = cut-keeps-14 s r e (record { earlier = cut .names .earlier; no-equation = λ f. cut .names .no-equation (sym (alike-kinds s t short-alike x) ∙ f) });
+        kept15 = cut-keeps-15 s r e;
+        kept16 = cut-keeps-16 s r e (rw short-widths (cut .below)) (cut .order);
         kept17 = totals-same r ∙ k .kept17;
-        kept18 = rw (cut .is-cut);
+        kept18 = cut-keeps-18 s r e;
       }
 
   short-kept : (r : ℕ) → r < length t → Kept s r
@@ -150,47 +146,22 @@ module _ (t : List Row) (sound : Sound t) where
   short-value p whole = by-strong (λ (r : ℕ). r < length t → valueOf s p r ≡ valueOf t p r) step
     where
       step : (r : ℕ) → ((i : ℕ) → i < r → i < length t → valueOf s p i ≡ valueOf t p i) → r < length t → valueOf s p r ≡ valueOf t p r
-      step r before h = go (kind-of (rowAt t r .kind))
+      step r before h = go (eqb (rowAt t r .kind) 3) refl
         where
           l : r < length s
           l = omega (arith, short-count t)
 
-          k : Kept t r
-          k = kept t r (sound r h)
-
-          row : Row
-          row = rowAt t r
-
-          same : (row .kind ≡ 3 → ⊥) → rowAt s r ≡ row
-          same = short-same t sound r h
-
-          go : KindOf (row .kind) → valueOf s p r ≡ valueOf t p r
-          go (is-variable e) =
-              let f = same (λ z. absurd (omega arith)) in
-              value-variable s p r l (rw f e)
-              ∙ ap₂ (λ (x : Row) (b : ℕ). take (x .a) (drop b p)) f (alike-bits (take r s) (take r t) (alike-take r s t short-alike))
-              ∙ sym (value-variable t p r h e)
-          go (is-constant e) =
-              let f = same (λ z. absurd (omega arith)) in
-              value-constant s p r l (rw f e) ∙ ap (λ (x : Row). replicate (x .b) (x .a)) f ∙ sym (value-constant t p r h e)
-          go (is-concat e) =
-              let f = same (λ z. absurd (omega arith)) in
-              let names = concat-names t r row (kept-names t r k) e in
-              value-concat s p r l (short-kept r h) (rw f e)
-              ∙ ap (λ (x : Row). valueOf s p (x .a) ++ valueOf s p (x .b)) f
-              ∙ ap₂ (λ (x y : List ℕ). x ++ y)
-              (before (row .a) (names .0 .earlier) (omega (arith, names .0 .earlier)))
-              (before (row .b) (names .1 .earlier) (omega (arith, names .1 .earlier)))
-              ∙ sym (value-concat t p r h k e)
-          go (is-extract e) =
-              let it = short-cut t sound r h e in
+          go : (b : Bool) → eqb (rowAt t r .kind) 3 ≡ b → valueOf s p r ≡ valueOf t p r
+          go true e =
+              let it = short-cut t sound r h (eqb-true (rowAt t r .kind) 3 e) in
               value-extract s p r l (short-kept r h) (it .is-cut)
               ∙ ap (λ (w : List ℕ). extract w (rowAt s r .b) (rowAt s r .c))
               (before (rowAt s r .a) (it .names .earlier) (omega (arith, it .names .earlier)))
               ∙ sym (it .value p whole)
-          go (is-equation e) =
-              let f = same (λ z. absurd (omega arith)) in
-              value-equation s p r l (rw f e) ∙ sym (value-equation t p r h e)
+          go false e =
+              value-same s t p r l h (short-kept r h) (kept t r (sound r h)) (short-same t sound r h (eqb-false (rowAt t r .kind) 3 e))
+              (alike-bits (take r s) (take r t) (alike-take r s t short-alike))
+              (λ i m. before i m (omega arith))
 
   short-values : (p : List ℕ) → length p ≡ bitsOf t → valuesOf s p ≡ valuesOf t p
   short-values p whole =
@@ -202,5 +173,5 @@ module _ (t : List Row) (sound : Sound t) where
   short-sources =
       ap (λ (n : ℕ). valuesOf s (countUp 2 n)) (alike-bits s t short-alike) ∙ short-values (countUp 2 (bitsOf t)) (count-up 2 (bitsOf t))
 
-  pub short-pairs : pairsIn s s ≡ pairsIn t t
-  short-pairs = same-pairs s t s short-sources ∙ alike-pairs t s t short-alike
+  pub short-pairs : equationPairs s ≡ equationPairs t
+  short-pairs = pairs-same s t (short-count t) (λ r h. alike-pairs s t (rowAt s r) (rowAt t r) (short-alike .each r h) short-sources)

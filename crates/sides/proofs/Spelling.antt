@@ -9,19 +9,19 @@ use native.Mathlib.Omega.{arith}
 use lib.Dec.{eqb, ltb}
 use lib.ListN.{length, getD, replicate, replicate-append-replicate, List·getD-append}
 use lib.Seq.{getD-append-add}
-use borrow.Author.Tests.{eqb-true, eqb-false, ne-eqb}
+use borrow.Author.Tests.{eqb-true, eqb-false}
 use Rattle.terms.specs.declared.Row.{Row}
-use Rattle.terms.specs.Table.{byKind, bitsOf, countKind}
+use Rattle.terms.specs.Table.{bitsOf, countKind}
 use Rattle.laws.specs.Lists.{countUp}
-use Rattle.terms.proofs.RowKinds.{KindOf, is-variable, is-constant, is-concat, is-extract, is-equation, kind-of, else-kind}
+use Rattle.terms.specs.Places.{firstPlace, lowSource}
+use Rattle.terms.proofs.RowKinds.{bits-variable, bits-other}
+use Rattle.terms.proofs.Places.{count-variable, count-other, place-variable, place-one, place-other}
 use Rattle.laws.proofs.Bools.{not-both}
 use Rattle.laws.proofs.Numbers.{lt-or-le}
 use Rattle.forms.specs.declared.Piece.{Piece}
 use Rattle.forms.specs.Form.{fill, part, bitsUp, placePieces, pieceOf, meets, merged, add, addAll, group, formFrom}
 use Rattle.forms.proofs.Grouping.{Meeting, meeting}
-use Rattle.forms.proofs.Places.{bits-count}
-use Rattle.sides.specs.Sides.{lowSources}
-use Rattle.sides.proofs.Lows.{adds, skips, lows-count}
+use Rattle.forms.proofs.Places.{bits-count, bits-at, pieces-variable, pieces-other}
 
 -- the sources of a piece, where ls are the variables' low sources
 unfoldable pub named : List ℕ → Piece → List ℕ
@@ -35,7 +35,6 @@ namedAll ls (p ∷ form) = named ls p ++ namedAll ls form
 -- a piece that is a fill or lies within a variable; no low source is above n
 pub record Lies (n : ℕ) (ls : List ℕ) (p : Piece) : Type 0 where
   pub in-order : p .low ≤ p .high
-  pub there : ltb (p .kind) 2 ≡ false → p .variable < length ls
   pub inside : ltb (p .kind) 2 ≡ false → p .high ≤ getD ls (p .variable) 0
   pub small : ltb (p .kind) 2 ≡ false → getD ls (p .variable) 0 ≤ n
 
@@ -66,14 +65,12 @@ module _ (n : ℕ) (ls : List ℕ) where
       go true f =
           record {
             in-order = rw f (omega (arith, kq .in-order));
-            there = λ e. absurd (not-both f e);
             inside = λ e. absurd (not-both f e);
             small = λ e. absurd (not-both f e);
           }
       go false f =
           record {
             in-order = rw f (omega (arith, kp .in-order, kq .in-order, m .beside f .1));
-            there = λ e. kp .there f;
             inside = λ e. rw f (kp .inside f);
             small = λ e. kp .small f;
           }
@@ -130,51 +127,25 @@ module _ (n : ℕ) (ls : List ℕ) where
   group-named ps (some {p = p} {form = rest} k ks) =
       add-named p (group rest) k (group-lies rest ks) ∙ ap (λ (l : List ℕ). named ls p ++ l) (group-named rest ks)
 
--- the pieces that a row adds
-pieces-variable : (v : ℕ) (r : Row) (t : List Row) → r .kind ≡ 0 → placePieces v (r ∷ t) ≡ bitsUp v 0 (r .a) ++ placePieces (suc v) t
-unfolding placePieces byKind
-pieces-variable v r t e = let n : v + 1 ≡ suc v = omega arith in rw (e, n)
-
-pieces-other : (v : ℕ) (r : Row) (t : List Row) → (r .kind ≡ 0 → ⊥) → placePieces v (r ∷ t) ≡ placePieces v t
-unfolding placePieces byKind
-pieces-other v r t h = go (kind-of (r .kind))
-  where
-    same : v + cond (eqb (r .kind) 0) 1 0 ≡ v
-    same = rw (ne-eqb (r .kind) 0 h) (omega arith)
-
-    go : KindOf (r .kind) → placePieces v (r ∷ t) ≡ placePieces v t
-    go (is-variable e) = absurd (h e)
-    go (is-constant e) = rw (same, e)
-    go (is-concat e) = rw (same, e)
-    go (is-extract e) = rw (same, e)
-    go (is-equation e) = rw (same, else-kind (r .kind) (bitsUp v 0 (r .a)) [] [] [] [] e)
-
-bits-at : (v low n i : ℕ) (d : Piece) → i < n → getD (bitsUp v low n) i d ≡ part v (low + (n - 1 - i)) (low + (n - 1 - i))
-unfolding bitsUp
-bits-at v low zero i d h = absurd (omega arith)
-bits-at v low (suc n) zero d h = let e : low + n ≡ low + (suc n - 1 - 0) = omega arith in ap (λ (k : ℕ). part v k k) e
-bits-at v low (suc n) (suc i) d h = let e : low + (n - 1 - i) ≡ low + (suc n - 1 - suc i) = omega arith in bits-at v low n i d (omega arith) ∙ ap (λ (k : ℕ). part v k k) e
-
--- place i of rows, with v variables and k variable bits before them: which bit of which variable it is, and its low source
-record Place (t : List Row) (v k i : ℕ) : Type 0 where
+-- place i of rows, with v variables before them: which bit of which variable it is, and where the next variable begins
+record Place (t : List Row) (v i : ℕ) : Type 0 where
   which : ℕ
   bit : ℕ
   piece : getD (placePieces v t) i (fill 0 0) ≡ part (v + which) bit bit
   there : which < countKind 0 t
-  low : getD (lowSources k t) which 0 ≡ k + i + bit + 2
+  next : firstPlace t (suc which) ≡ i + bit + 1
   few : i + bit < bitsOf t
 
-place : (t : List Row) (v k i : ℕ) → i < bitsOf t → Place t v k i
+place : (t : List Row) (v i : ℕ) → i < bitsOf t → Place t v i
 unfolding bitsOf
-place [] v k i h = absurd (omega arith)
-place (r ∷ t) v k i h = go (eqb (r .kind) 0) refl (place t)
+place [] v i h = absurd (omega arith)
+place (r ∷ t) v i h = go (eqb (r .kind) 0) refl (place t)
   where
     Later : Type 0
-    Later = (v k i : ℕ) → i < bitsOf t → Place t v k i
+    Later = (v i : ℕ) → i < bitsOf t → Place t v i
 
-    among : r .kind ≡ 0 → Later → (i < r .a) ⊎ (r .a ≤ i) → Place (r ∷ t) v k i
+    among : r .kind ≡ 0 → Later → (i < r .a) ⊎ (r .a ≤ i) → Place (r ∷ t) v i
     among e later (inl l) =
-        let it = adds k r t e in
         let b : ℕ = 0 + (r .a - 1 - i) in
         let z : v ≡ v + 0 = omega arith in
         record {
@@ -184,13 +155,12 @@ place (r ∷ t) v k i h = go (eqb (r .kind) 0) refl (place t)
               ap (λ (ps : List Piece). getD ps i (fill 0 0)) (pieces-variable v r t e)
               ∙ List·getD-append (bitsUp v 0 (r .a)) (placePieces (suc v) t) (fill 0 0) i (omega (arith, bits-count v 0 (r .a)))
               ∙ bits-at v 0 (r .a) i (fill 0 0) l ∙ ap (λ (u : ℕ). part u b b) z;
-          there = omega (arith, it .one-more);
-          low = ap (λ (l : List ℕ). getD l 0 0) (it .low) ∙ omega arith;
-          few = omega (arith, it .bits);
+          there = omega (arith, count-variable r t e);
+          next = place-one r t e ∙ omega arith;
+          few = omega (arith, bits-variable r e);
         }
     among e later (inr l) =
-        let it = adds k r t e in
-        let p = later (suc v) (k + r .a) (i - r .a) (omega (arith, it .bits)) in
+        let p = later (suc v) (i - r .a) (omega (arith, bits-variable r e)) in
         let j : i ≡ length (bitsUp v 0 (r .a)) + (i - r .a) = omega (arith, bits-count v 0 (r .a)) in
         let z : suc v + p .which ≡ v + suc (p .which) = omega arith in
         record {
@@ -200,24 +170,23 @@ place (r ∷ t) v k i h = go (eqb (r .kind) 0) refl (place t)
               ap₂ (λ (ps : List Piece) (n : ℕ). getD ps n (fill 0 0)) (pieces-variable v r t e) j
               ∙ getD-append-add (bitsUp v 0 (r .a)) (placePieces (suc v) t) (i - r .a) (fill 0 0)
               ∙ p .piece ∙ ap (λ (u : ℕ). part u (p .bit) (p .bit)) z;
-          there = omega (arith, it .one-more, p .there);
-          low = ap (λ (l : List ℕ). getD l (suc (p .which)) 0) (it .low) ∙ p .low ∙ omega arith;
-          few = omega (arith, it .bits, p .few);
+          there = omega (arith, count-variable r t e, p .there);
+          next = place-variable r t (suc (p .which)) e ∙ omega (arith, p .next);
+          few = omega (arith, bits-variable r e, p .few);
         }
 
-    go : (b : Bool) → eqb (r .kind) 0 ≡ b → Later → Place (r ∷ t) v k i
+    go : (b : Bool) → eqb (r .kind) 0 ≡ b → Later → Place (r ∷ t) v i
     go true e later = among (eqb-true (r .kind) 0 e) later (lt-or-le i (r .a))
     go false e later =
         let other = eqb-false (r .kind) 0 e in
-        let it = skips k r t other in
-        let p = later v k i (omega (arith, it .no-bits)) in
+        let p = later v i (omega (arith, bits-other r other)) in
         record {
           which = p .which;
           bit = p .bit;
           piece = ap (λ (ps : List Piece). getD ps i (fill 0 0)) (pieces-other v r t other) ∙ p .piece;
-          there = omega (arith, it .no-more, p .there);
-          low = ap (λ (l : List ℕ). getD l (p .which) 0) (it .no-low) ∙ p .low;
-          few = omega (arith, it .no-bits, p .few);
+          there = omega (arith, count-other r t other, p .there);
+          next = place-other r t (suc (p .which)) other ∙ p .next;
+          few = omega (arith, bits-other r other, p .few);
         }
 
 -- a source's piece names the source
@@ -230,55 +199,55 @@ unfolding named
 fill-names n ls zero h =
     record {
       sources = refl;
-      lies = record { in-order = omega arith; there = λ e. absurd (not-both refl e); inside = λ e. absurd (not-both refl e); small = λ e. absurd (not-both refl e) };
+      lies = record { in-order = omega arith; inside = λ e. absurd (not-both refl e); small = λ e. absurd (not-both refl e) };
     }
 fill-names n ls (suc zero) h =
     record {
       sources = refl;
-      lies = record { in-order = omega arith; there = λ e. absurd (not-both refl e); inside = λ e. absurd (not-both refl e); small = λ e. absurd (not-both refl e) };
+      lies = record { in-order = omega arith; inside = λ e. absurd (not-both refl e); small = λ e. absurd (not-both refl e) };
     }
 fill-names n ls (suc (suc b)) h = absurd (omega arith)
 
-part-names : (n : ℕ) (ls : List ℕ) (v b i : ℕ) → v < length ls → getD ls v 0 ≡ i + b + 2 → i + b + 2 ≤ n → Names n ls (part v b b) (suc (suc i))
+part-names : (n : ℕ) (ls : List ℕ) (v b i : ℕ) → getD ls v 0 ≡ i + b + 2 → i + b + 2 ≤ n → Names n ls (part v b b) (suc (suc i))
 unfolding named countUp
-part-names n ls v b i t l s =
+part-names n ls v b i l s =
     let w : b + 1 - b ≡ 1 = omega arith in
     let k : getD ls v 0 - b ≡ suc (suc i) = omega arith in
     record {
       sources = rw (w, k);
-      lies = record { in-order = omega arith; there = λ e. t; inside = λ e. omega arith; small = λ e. omega arith };
+      lies = record { in-order = omega arith; inside = λ e. omega arith; small = λ e. omega arith };
     }
-
-source-names : (t : List Row) (s : ℕ) → s < bitsOf t + 2 → Names (bitsOf t + 1) (lowSources 0 t) (pieceOf t s) s
-unfolding pieceOf
-source-names t zero h = fill-names (bitsOf t + 1) (lowSources 0 t) 0 (omega arith)
-source-names t (suc zero) h = fill-names (bitsOf t + 1) (lowSources 0 t) 1 (omega arith)
-source-names t (suc (suc i)) h =
-    let p = place t 0 0 i (omega arith) in
-    let z : 0 + p .which ≡ p .which = omega arith in
-    rw (p .piece, z)
-    (part-names (bitsOf t + 1) (lowSources 0 t) (p .which) (p .bit) i (omega (arith, lows-count 0 t, p .there)) (p .low ∙ omega arith) (omega (arith, p .few)))
 
 -- every number of a list is below a bound
 pub data AllBelow (n : ℕ) : List ℕ → Type 0 where
   none : AllBelow n []
   some : {x : ℕ} {xs : List ℕ} → x < n → AllBelow n xs → AllBelow n (x ∷ xs)
 
-module _ (t : List Row) where
-  sources-lie : (xs : List ℕ) → AllBelow (bitsOf t + 2) xs → AllLie (bitsOf t + 1) (lowSources 0 t) (map (pieceOf t) xs)
-  sources-lie xs none = none
-  sources-lie xs (some {x = x} {xs = ys} l h) = some (source-names t x l .lies) (sources-lie ys h)
+module _ (t : List Row) (ls : List ℕ) (lows : (v : ℕ) → v < countKind 0 t → getD ls v 0 ≡ lowSource t v) where
+  source-names : (s : ℕ) → s < bitsOf t + 2 → Names (bitsOf t + 1) ls (pieceOf t s) s
+  unfolding pieceOf
+  source-names zero h = fill-names (bitsOf t + 1) ls 0 (omega arith)
+  source-names (suc zero) h = fill-names (bitsOf t + 1) ls 1 (omega arith)
+  source-names (suc (suc i)) h =
+      let p = place t 0 i (omega arith) in
+      let z : 0 + p .which ≡ p .which = omega arith in
+      rw (p .piece, z)
+      (part-names (bitsOf t + 1) ls (p .which) (p .bit) i (lows (p .which) (p .there) ∙ omega (arith, p .next)) (omega (arith, p .few)))
 
-  sources-named : (xs : List ℕ) → AllBelow (bitsOf t + 2) xs → namedAll (lowSources 0 t) (map (pieceOf t) xs) ≡ xs
+  sources-lie : (xs : List ℕ) → AllBelow (bitsOf t + 2) xs → AllLie (bitsOf t + 1) ls (map (pieceOf t) xs)
+  sources-lie xs none = none
+  sources-lie xs (some {x = x} {xs = ys} l h) = some (source-names x l .lies) (sources-lie ys h)
+
+  sources-named : (xs : List ℕ) → AllBelow (bitsOf t + 2) xs → namedAll ls (map (pieceOf t) xs) ≡ xs
   unfolding namedAll
   sources-named xs none = refl
-  sources-named xs (some {x = x} {xs = ys} l h) = ap₂ (λ (a b : List ℕ). a ++ b) (source-names t x l .sources) (sources-named ys h)
+  sources-named xs (some {x = x} {xs = ys} l h) = ap₂ (λ (a b : List ℕ). a ++ b) (source-names x l .sources) (sources-named ys h)
 
   -- the pieces of a form lie within variables, and name the sources that it was made of
-  pub form-lies : (xs : List ℕ) → AllBelow (bitsOf t + 2) xs → AllLie (bitsOf t + 1) (lowSources 0 t) (formFrom t xs)
+  pub form-lies : (xs : List ℕ) → AllBelow (bitsOf t + 2) xs → AllLie (bitsOf t + 1) ls (formFrom t xs)
   unfolding formFrom
-  form-lies xs h = group-lies (bitsOf t + 1) (lowSources 0 t) (map (pieceOf t) xs) (sources-lie xs h)
+  form-lies xs h = group-lies (bitsOf t + 1) ls (map (pieceOf t) xs) (sources-lie xs h)
 
-  pub form-named : (xs : List ℕ) → AllBelow (bitsOf t + 2) xs → namedAll (lowSources 0 t) (formFrom t xs) ≡ xs
+  pub form-named : (xs : List ℕ) → AllBelow (bitsOf t + 2) xs → namedAll ls (formFrom t xs) ≡ xs
   unfolding formFrom
-  form-named xs h = group-named (bitsOf t + 1) (lowSources 0 t) (map (pieceOf t) xs) (sources-lie xs h) ∙ sources-named xs h
+  form-named xs h = group-named (bitsOf t + 1) ls (map (pieceOf t) xs) (sources-lie xs h) ∙ sources-named xs h

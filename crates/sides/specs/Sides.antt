@@ -4,20 +4,15 @@ use mathlib.Core.List.{List, [], _∷_}
 use Prim.Native.Nat.{ℕ, zero, suc, _+_, _≤_, _<_}
 use lib.ListN.{length, getD}
 use Rattle.terms.specs.declared.Row.{Row}
-use Rattle.terms.specs.Table.{rowsOf, rowAt, byKind, bitsOf, countKind}
+use Rattle.terms.specs.Table.{rowsOf, rowAt, bitsOf, countKind}
+use Rattle.terms.specs.Places.{lowSource}
 use Rattle.forms.specs.Numbered.{Numbered}
 use Rattle.answers.specs.Pairs.{Pair, pairsOf}
-
--- The source of each variable's low bit, where k variable bits stand before the rows.
-unfoldable pub lowSources : ℕ → List Row → List ℕ
-lowSources k [] = []
-lowSources k (r ∷ rs) =
-    byKind (r .kind) ((k + r .a + 1) ∷ lowSources (k + r .a) rs) (lowSources k rs) (lowSources k rs) (lowSources k rs) (lowSources k rs)
 
 -- An accepted table, its widths, the variables before each row, and the source of each variable's low bit.
 pub record Prepared (table widths variables lows : List ℕ) : Type 0 where
   pub numbered : Numbered table widths variables
-  pub lows-are : (v : ℕ) → v < countKind 0 (rowsOf table) → getD lows v 0 ≡ getD (lowSources 0 (rowsOf table)) v 0
+  pub lows-are : (v : ℕ) → v < countKind 0 (rowsOf table) → getD lows v 0 ≡ lowSource (rowsOf table) v
 
 -- w pairs of two lists of sources, from number k on.
 unfoldable pub pairsFrom : List ℕ → List ℕ → ℕ → ℕ → List Pair

@@ -1,21 +1,15 @@
--- What the functions promise of the numbers that they write: low sources, and the sources that a form spells out.
+-- What the functions promise of the numbers that they write: the sources that a form spells out.
 use mathlib.Core.Path.{_≡_}
 use mathlib.Core.Bool.{false, cond}
 use mathlib.Core.List.{List, [], _∷_, _++_}
-use Prim.Native.Nat.{ℕ, zero, suc, _+_, _-_, _%_, _≤_, _<_}
+use Prim.Native.Nat.{ℕ, zero, suc, _+_, _-_, _%_, _≤_}
 use lib.Dec.{ltb}
 use lib.ListN.{length, getD}
 use Rattle.terms.specs.declared.Row.{Row}
-use Rattle.terms.specs.declared.Fault.the-variants.{Accepted}
-use Rattle.terms.specs.Table.{rowsOf, rowAt, countKind, sourceOf}
-use Rattle.terms.specs.Faults.{firstFault, absent}
+use Rattle.terms.specs.Table.{rowsOf, rowAt, sourceOf}
+use Rattle.terms.specs.Faults.{absent}
 use Rattle.laws.specs.Buffers.{overwrite}
-use Rattle.sides.specs.Sides.{lowSources, Prepared}
-
--- For an accepted table and room for 64 numbers: each variable's low source stands at the variable's number.
-abbrev pub FindsLows : List ℕ → ℕ → List ℕ → Type 0
-FindsLows table room lows =
-    firstFault table ≡ Accepted → 64 ≤ room → (v : ℕ) → v < countKind 0 (rowsOf table) → getD lows v 0 ≡ getD (lowSources 0 (rowsOf table)) v 0
+use Rattle.sides.specs.Sides.{Prepared}
 
 -- x, x + step, x + 2 · step and so on, n numbers in 16 bits.
 unfoldable pub stepped : ℕ → ℕ → ℕ → List ℕ

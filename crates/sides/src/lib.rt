@@ -1,48 +1,13 @@
 // An equation's bit pairs, from the normal forms of its sides: the sources of each side, high end first. And a copy of a table in which
 // each cut of a cut is made one cut, so that the forms take few calls.
 ghost use mathlib.Core.Path.{_≡_};
-ghost use mathlib.Core.Bool.{cond};
 ghost use Prim.Native.Nat.{_≤_, min};
-ghost use lib.Dec.{eqb};
-ghost use lib.ListN.{length, take};
-ghost use Rattle.terms.specs.Table.{rowsOf, bitsOf};
+ghost use lib.ListN.{length};
 ghost use Rattle.laws.specs.Buffers.{Behind};
 ghost use Rattle.sides.specs.Sides.{ReadsSides};
-ghost use Rattle.sides.specs.Spread.{FindsLows, stepped, sourcesIn, Spells, ReadsSide};
+ghost use Rattle.sides.specs.Spread.{stepped, sourcesIn, Spells, ReadsSide};
 ghost use Rattle.sides.specs.Shortened.{shortIn, storedRow, Shortens};
 use terms::Row;
-
-// 1 for a variable.
-fn one(kind: u16) -> usize
-    ensures { λ r. ⌜ (r ≡ cond (eqb kind 0) 1 0) × (r ≤ 1) ⌝ }
-{
-    if kind == terms::VARIABLE {
-        return 1;
-    }
-    0
-}
-
-// The source of each variable's low bit, at the variable's number. How many variable bits the first 512 rows have.
-// A row that is no variable stores at the place of the next one, which stores again.
-pub fn low_sources(table: &[u16], lows: &mut [u16]) -> usize
-    ensures bits { λ n. ⌜ n ≡ bitsOf (take 512 (rowsOf (now (table .entry)))) ⌝ }
-    ensures lows { λ _. ⌜ FindsLows (now (table .entry)) (length (now (lows .entry))) (now (lows .exit)) ⌝ }
-{
-    let mut bits = 0;
-    let mut v = 0;
-    let mut r = 0;
-    while r < terms::MAX_ROWS {
-        if table.len() / 4 <= r {
-            break;
-        }
-        let row = rows::row_at(table, r);
-        bits = bits + (checker::row_bits(row) as usize);
-        numbers::store(lows, v, numbers::narrow(bits + 1));
-        v = v + one(row.kind);
-        r += 1;
-    }
-    bits
-}
 
 // Writes count numbers from a place on: x, x + step, x + 2 · step and so on. The place behind them.
 fn run(out: &mut [u16], from: usize, count: usize, x: u16, step: u16) -> usize

@@ -18,7 +18,7 @@ use Rattle.terms.specs.Calls.{completed}
 use Rattle.terms.proofs.AcceptedTable.{accepted-table}
 use Rattle.terms.proofs.Faults.{totals-small}
 use Rattle.laws.proofs.Tallies.{tally-most}
-use Rattle.answers.specs.Pairs.{Pair, pairsIn}
+use Rattle.answers.specs.Pairs.{Pair, equationPairs}
 use Rattle.answers.specs.Classes.{inClass}
 use Rattle.answers.specs.declared.AnswerRow.{AnswerRow}
 use Rattle.answers.specs.Answer.{appears, variableWidths, answerRows, answerNumbers, freshPieces, freeBits}
@@ -51,7 +51,7 @@ module _ (table : List ℕ) (accepted : firstFault table ≡ Accepted) (links an
   c₀ = countUp 0 (suc (suc (bitsOf (rowsOf table))))
 
   abbrev es : List (List Pair)
-  es = pairsIn (rowsOf table) (rowsOf table)
+  es = equationPairs (rowsOf table)
 
   pub conclude-never : row < length t → (r : Record) → r ≡ neverRecord (ties % 4294967296) (row % 4294967296) → Answered t answer answer r
   unfolding answerOver

@@ -2,26 +2,34 @@
 -- taken from the copy are the table's.
 use mathlib.Core.Path.{_≡_, sym, _∙_, ap}
 use mathlib.Core.List.{List}
-use Prim.Native.Nat.{ℕ, _%_, _<_, _≤_}
+use Prim.Native.Nat.{ℕ, suc, _+_, _-_, _%_, _<_, _≤_, min}
 use native.Mathlib.Omega.{arith}
-use lib.ListN.{length, getD, take}
-use lib.Seq.{length-take-le}
+use lib.ListN.{length, getD, take, drop}
+use lib.Seq.{length-take-le, getD-take, getD-drop}
 use Rattle.terms.specs.declared.Row.{Row}
 use Rattle.terms.specs.declared.Fault.the-variants.{Accepted}
 use Rattle.terms.specs.Table.{rowsOf, bitsOf, widthsOf, widthOf, countKind}
 use Rattle.terms.specs.Faults.{firstFault}
+use Rattle.terms.specs.Places.{lowSource}
 use Rattle.terms.proofs.AcceptedTable.{accepted-table}
 use Rattle.terms.proofs.Values.{Sound}
-use Rattle.answers.specs.Pairs.{pairsIn}
+use Rattle.answers.specs.Pairs.{equationPairs}
 use Rattle.sides.specs.Shortened.{shortened}
-use Rattle.sides.specs.Sides.{lowSources, Prepared}
+use Rattle.sides.specs.Sides.{Prepared}
 use Rattle.solver.specs.Equations.{EquationsTaken}
-use Rattle.sides.proofs.Alike.{Alike, alike-bits, alike-count, alike-lows}
+use Rattle.sides.proofs.Alike.{Alike, alike-take, alike-bits, alike-count, alike-places}
 use Rattle.sides.proofs.ShortTable.{sound-accepted, short-alike, short-widths, short-sound, short-pairs}
 
 -- the first n numbers of a buffer are such a copy
 pub copy-length : (table buffer : List ℕ) (n room : ℕ) → n ≡ length table → n ≤ room → length buffer ≡ room → length (take n buffer) ≡ length table
 copy-length table buffer n room e l m = length-take-le n buffer (omega arith) ∙ e
+
+-- the low sources stand behind 512 numbers
+pub behind-rows : (places : List ℕ) (l v : ℕ) → l ≡ min 512 (length places) → 576 ≤ length places → v < 64
+    → getD (take (length places - l) (drop l places)) v 0 ≡ getD places (512 + v) 0
+behind-rows places l v e room h =
+    let n : l ≡ 512 = omega arith in
+    getD-take (length places - l) (drop l places) v 0 (omega arith) ∙ getD-drop l places v 0 ∙ ap (λ (k : ℕ). getD places (k + v) 0) n
 
 module _ (table short : List ℕ) (accepted : firstFault table ≡ Accepted) (size : length short ≡ length table) (rows : rowsOf short ≡ shortened (rowsOf table)) where
   abbrev t : List Row
@@ -42,23 +50,23 @@ module _ (table short : List ℕ) (accepted : firstFault table ≡ Accepted) (si
   copy-bits = alike-bits (rowsOf short) t alike
 
   pub copy-prepared : (widths variables lows : List ℕ) → ((r : ℕ) → r < length t → getD widths r 0 ≡ widthOf t r)
-      → ((r : ℕ) → r < length (rowsOf short) → getD variables r 0 ≡ countKind 0 (take r (rowsOf short)))
-      → ((v : ℕ) → v < countKind 0 t → getD lows v 0 ≡ getD (lowSources 0 t) v 0) → Prepared short widths variables lows
+      → ((r : ℕ) → r < length t → getD variables r 0 ≡ countKind 0 (take r t))
+      → ((v : ℕ) → v < countKind 0 t → getD lows v 0 ≡ lowSource t v) → Prepared short widths variables lows
   copy-prepared widths variables lows ws vs ls =
       record {
         numbered = record {
           accepted = copy-accepted;
           widths-are = λ r h. ws r (omega (arith, alike .count)) ∙ ap (λ (l : List ℕ). getD l r 0) (sym (ap widthsOf rows ∙ short-widths t sound));
-          variables-are = vs;
+          variables-are = λ r h. vs r (omega (arith, alike .count)) ∙ sym (alike-count 0 (take r (rowsOf short)) (take r t) (alike-take r (rowsOf short) t alike));
         };
         lows-are =
             λ v h.
             ls v (omega (arith, alike-count 0 (rowsOf short) t alike))
-            ∙ ap (λ (l : List ℕ). getD l v 0) (sym (alike-lows (rowsOf short) t alike 0));
+            ∙ ap (λ (n : ℕ). n + 1) (sym (alike-places (rowsOf short) t alike (suc v)));
       }
 
-  copy-pairs : pairsIn (rowsOf short) (rowsOf short) ≡ pairsIn t t
-  copy-pairs = ap (λ (u : List Row). pairsIn u u) rows ∙ short-pairs t sound
+  copy-pairs : equationPairs (rowsOf short) ≡ equationPairs t
+  copy-pairs = ap equationPairs rows ∙ short-pairs t sound
 
   pub copy-taken : (links : List ℕ) (row ties : ℕ) → EquationsTaken (rowsOf short) links row ties → EquationsTaken t links row ties
   copy-taken links row ties taken =

@@ -12,11 +12,12 @@ use borrow.Author.Tests.{eq-eqb, ne-eqb}
 use Rattle.terms.specs.declared.Row.{Row}
 use Rattle.terms.specs.Table.{rowAt, bitsOf}
 use Rattle.laws.specs.Lists.{countUp}
-use Rattle.answers.specs.Pairs.{Pair, pairsOf, pairsIn}
+use Rattle.answers.specs.Pairs.{Pair, pairsOf, equationPairs}
 use Rattle.answers.specs.Classes.{rep, relabel, merge, run, runAll, links, conflictAt, linksBefore}
 use Rattle.laws.proofs.Numbers.{dec-eq}
 use Rattle.answers.proofs.Agreement.{relabel-zero, base}
 use Rattle.laws.proofs.CountUp.{count-at, count-up}
+use Rattle.answers.proofs.Equations.{pairs-from, pairs-past}
 use Rattle.classes.specs.Links.{Low, rootsOf, pair, linked, PairTaken}
 use Rattle.classes.proofs.Links.{Canon, canon-merge, merge-len, merge-is}
 use Rattle.classes.proofs.Roots.{roots-settled}
@@ -135,7 +136,7 @@ module _ (l r c h : List ℕ) (k found : ℕ) (t : Taking l r c h k found) (h′
 -- ---- between equations: `row` rows are taken; c are the classes now
 module _ (t : List Row) where
   abbrev es : List (List Pair)
-  es = pairsIn t t
+  es = equationPairs t
 
   abbrev c₀ : List ℕ
   c₀ = countUp 0 (suc (suc (bitsOf t)))
@@ -146,22 +147,9 @@ module _ (t : List Row) where
     pub one : rep (rootsOf h) 1 ≡ 1
     pub len : length h ≡ suc (suc (bitsOf t))
     pub roots-len : length (rootsOf h) ≡ length h
-    pub stopped : row + conflictAt (rootsOf h) (drop row (pairsIn t t)) ≡ conflictAt (countUp 0 (suc (suc (bitsOf t)))) (pairsIn t t)
-    pub joined : ties + linksBefore (rootsOf h) (drop row (pairsIn t t)) ≡ linksBefore (countUp 0 (suc (suc (bitsOf t)))) (pairsIn t t)
-    pub ran : runAll (rootsOf h) (drop row (pairsIn t t)) ≡ runAll (countUp 0 (suc (suc (bitsOf t)))) (pairsIn t t)
-
-  drop-row : (rs : List Row) (row : ℕ) → row < length rs → drop row (pairsIn t rs) ≡ pairsOf t (rowAt rs row) ∷ drop (suc row) (pairsIn t rs)
-  unfolding pairsIn
-  drop-row [] row l = absurd (omega arith)
-  drop-row (r ∷ rs) zero l = refl
-  drop-row (r ∷ rs) (suc row) l = drop-row rs row (omega arith)
-
-  drop-all : (rs : List Row) (row : ℕ) → length rs ≤ row → drop row (pairsIn t rs) ≡ []
-  unfolding pairsIn
-  drop-all [] zero l = refl
-  drop-all [] (suc row) l = refl
-  drop-all (r ∷ rs) zero l = absurd (omega arith)
-  drop-all (r ∷ rs) (suc row) l = drop-all rs row (omega arith)
+    pub stopped : row + conflictAt (rootsOf h) (drop row (equationPairs t)) ≡ conflictAt (countUp 0 (suc (suc (bitsOf t)))) (equationPairs t)
+    pub joined : ties + linksBefore (rootsOf h) (drop row (equationPairs t)) ≡ linksBefore (countUp 0 (suc (suc (bitsOf t)))) (equationPairs t)
+    pub ran : runAll (rootsOf h) (drop row (equationPairs t)) ≡ runAll (countUp 0 (suc (suc (bitsOf t)))) (equationPairs t)
 
   pub between-first : (h : List ℕ) → h ≡ countUp 0 (suc (suc (bitsOf t))) → Between h 0 0
   between-first h e =
@@ -186,7 +174,7 @@ module _ (t : List Row) where
     ps = pairsOf t (rowAt t row)
 
     rest : drop row es ≡ ps ∷ drop (suc row) es
-    rest = drop-row t row g
+    rest = pairs-from t row g
 
     conflict-is : conflictAt c (drop row es) ≡ cond (eqb (rep (run c ps) 1) 0) 0 (suc (conflictAt (run c ps) (drop (suc row) es)))
     unfolding conflictAt
@@ -235,7 +223,7 @@ module _ (t : List Row) where
   pub between-done : (h : List ℕ) (ties row : ℕ) → Between h ties row → length t ≤ row → ties ≤ 524288 → EquationsTaken t h row ties
   unfolding conflictAt linksBefore runAll
   between-done h ties row b g few =
-      let z : drop row es ≡ [] = drop-all t row g in
+      let z : drop row es ≡ [] = pairs-past t row g in
       record {
         row-is = omega (arith, rw z at (b .stopped));
         ties-are = omega (arith, rw z at (b .joined));

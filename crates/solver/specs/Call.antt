@@ -2,19 +2,19 @@
 use mathlib.Core.Path.{_≡_}
 use mathlib.Core.Bool.{cond}
 use mathlib.Core.List.{List}
-use Prim.Native.Nat.{ℕ, suc, _≤_, _<_}
+use Prim.Native.Nat.{ℕ, suc, _+_, _≤_, _<_}
 use lib.Dec.{eqb}
-use lib.ListN.{length, getD}
+use lib.ListN.{length, getD, take}
 use Rattle.terms.specs.declared.Record.{Record}
 use Rattle.terms.specs.declared.Row.{Row}
 use Rattle.terms.specs.declared.Fault.the-variants.{Accepted}
 use Rattle.terms.specs.Table.{rowsOf, bitsOf, widthOf, countKind}
 use Rattle.laws.specs.Lists.{countUp}
 use Rattle.terms.specs.Faults.{firstFault}
+use Rattle.terms.specs.Places.{lowSource}
 use Rattle.laws.specs.Buffers.{overwrite}
 use Rattle.answers.specs.Answer.{answerNumbers}
 use Rattle.answers.specs.Solve.{solvedRows, answerRecord}
-use Rattle.sides.specs.Sides.{lowSources}
 use Rattle.solver.specs.Equations.{EquationsTaken}
 
 -- Links that were undone: each source links to itself.
@@ -36,11 +36,12 @@ Concludes table bits row ties links answer answer′ found =
     firstFault table ≡ Accepted → bits ≡ bitsOf (rowsOf table) → EquationsTaken (rowsOf table) links row ties → 16384 ≤ length answer
     → Answered (rowsOf table) answer answer′ found
 
--- The same, from the table's widths and the sources of its variables' low bits, with a link for each source.
+-- The same, from the table's widths and the places of its variables, with a link for each source.
 abbrev pub AnswersTable : List ℕ → List ℕ → List ℕ → ℕ → List ℕ → List ℕ → List ℕ → Record → Type 0
-AnswersTable table widths lows bits links answer answer′ found =
+AnswersTable table widths places bits links answer answer′ found =
     firstFault table ≡ Accepted → ((r : ℕ) → r < length (rowsOf table) → getD widths r 0 ≡ widthOf (rowsOf table) r)
-    → ((v : ℕ) → v < countKind 0 (rowsOf table) → getD lows v 0 ≡ getD (lowSources 0 (rowsOf table)) v 0)
+    → ((r : ℕ) → r < length (rowsOf table) → getD places r 0 ≡ countKind 0 (take r (rowsOf table)))
+    → ((v : ℕ) → v < countKind 0 (rowsOf table) → getD places (512 + v) 0 ≡ lowSource (rowsOf table) v) → 576 ≤ length places
     → bits ≡ bitsOf (rowsOf table) → length links ≡ suc (suc (bitsOf (rowsOf table))) → 16384 ≤ length answer
     → Answered (rowsOf table) answer answer′ found
 

@@ -6,7 +6,7 @@ use lib.ListN.{length}
 use Rattle.terms.specs.declared.Row.{Row}
 use Rattle.terms.specs.Table.{rowsOf, bitsOf}
 use Rattle.laws.specs.Lists.{countUp}
-use Rattle.answers.specs.Pairs.{pairsIn}
+use Rattle.answers.specs.Pairs.{equationPairs}
 use Rattle.answers.specs.Classes.{runAll, conflictAt, linksBefore}
 use Rattle.classes.specs.Links.{Low, rootsOf}
 use Rattle.sides.specs.Sides.{Prepared}
@@ -18,11 +18,11 @@ unlinked t = countUp 0 (suc (suc (bitsOf t)))
 -- The equations of a table were taken up to a row: the first at which two different fixed bits met, or the number of rows. `ties` are
 -- those of the equations before it; if there was none, the links have the classes of all equations.
 pub record EquationsTaken (t : List Row) (links : List ℕ) (row ties : ℕ) : Type 0 where
-  pub row-is : row ≡ conflictAt (countUp 0 (suc (suc (bitsOf t)))) (pairsIn t t)
-  pub ties-are : ties ≡ linksBefore (countUp 0 (suc (suc (bitsOf t)))) (pairsIn t t)
+  pub row-is : row ≡ conflictAt (countUp 0 (suc (suc (bitsOf t)))) (equationPairs t)
+  pub ties-are : ties ≡ linksBefore (countUp 0 (suc (suc (bitsOf t)))) (equationPairs t)
   pub few : ties ≤ 524288
   pub low : row ≡ length t → Low links
-  pub classes-are : row ≡ length t → rootsOf links ≡ runAll (countUp 0 (suc (suc (bitsOf t)))) (pairsIn t t)
+  pub classes-are : row ≡ length t → rootsOf links ≡ runAll (countUp 0 (suc (suc (bitsOf t)))) (equationPairs t)
 
 -- What taking them promises, from unlinked sources and with room for a form and for the bits of two sides.
 abbrev pub TakesEquations : List ℕ → List ℕ → List ℕ → List ℕ → ℕ → ℕ → ℕ → List ℕ → List ℕ → ℕ → ℕ → Type 0

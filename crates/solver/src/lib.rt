@@ -106,17 +106,16 @@ fn conclude(
 fn answer_table(
     table: &[u16],
     widths: &[u16],
-    lows: &[u16],
+    places: &[u16],
     bits: usize,
     links: &mut [u16],
     answer: &mut [u16],
 ) -> Record
-    ensures { λ r. ⌜ AnswersTable (now (table .entry)) (now (widths .entry)) (now (lows .entry)) bits (now (links .entry)) (now (answer .entry)) (now (answer .exit)) r ⌝ }
+    ensures { λ r. ⌜ AnswersTable (now (table .entry)) (now (widths .entry)) (now (places .entry)) bits (now (links .entry)) (now (answer .entry)) (now (answer .exit)) r ⌝ }
 {
     let mut short = [0u16; 2048];
     let len = sides::shorten(table, &mut short[..]);
-    let mut variables = [0u16; 512];
-    normalizer::number(&short[..len], &mut variables[..]);
+    let lows = numbers::lesser(terms::MAX_ROWS, places.len());
     let mut form = [0u16; 4096];
     let mut left = [0u16; 1024];
     let mut right = [0u16; 1024];
@@ -124,8 +123,8 @@ fn answer_table(
     let taken = take_equations(
         &short[..len],
         widths,
-        &variables[..],
-        lows,
+        places,
+        &places[lows..],
         &mut form[..],
         &mut left[..],
         &mut right[..],
@@ -138,10 +137,17 @@ fn answer_table(
 fn solve_accepted(table: &[u16], widths: &[u16], answer: &mut [u16], work: &mut [u16]) -> Record
     ensures { λ r. ⌜ SolvesAccepted (now (table .entry)) (now (widths .entry)) (now (answer .entry)) (now (answer .exit)) (length (now (work .entry))) r ⌝ }
 {
-    let mut lows = [0u16; 64];
-    let bits = sides::low_sources(table, &mut lows[..]);
+    let mut places = [0u16; 576];
+    let bits = checker::place(table, &mut places[..]);
     let sources = numbers::lesser(numbers::lesser(bits, terms::MAX_BITS) + 2, work.len());
-    answer_table(table, widths, &lows[..], bits, &mut work[..sources], answer)
+    answer_table(
+        table,
+        widths,
+        &places[..],
+        bits,
+        &mut work[..sources],
+        answer,
+    )
 }
 
 // How many numbers the answer table and the work area have at least.

@@ -14,7 +14,7 @@ use Rattle.terms.specs.Table.{rowsOf, rowAt}
 use Rattle.terms.specs.Calls.{faultNumber}
 use Rattle.terms.specs.Faults.{nonzero, breaks11, isAccepted, lowestFault, firstFault, notTerm, absent}
 use Rattle.laws.proofs.Bools.{not-both, or-first, or-second}
-use Rattle.terms.proofs.Faults.{passed-from, term, Term}
+use Rattle.terms.proofs.Faults.{passed-from, term, Term, term-named}
 use Rattle.terms.proofs.Values.{Sound}
 
 pub fault-none : (f : Fault) → isAccepted f ≡ true → f ≡ Accepted
@@ -77,5 +77,5 @@ term-there t row a = term t (length t) row a
 
 -- and a term is not absent
 pub term-present : (t : List Row) (row : ℕ) → row < length t → (rowAt t row .kind ≡ 4 → ⊥) → absent t row ≡ false
-unfolding absent notTerm
-term-present t row h k = rw (lt-ltb row (length t) h, ne-eqb (rowAt t row .kind) 4 k)
+unfolding absent
+term-present t row h k = term-named t (length t) row (record { earlier = h; no-equation = k })

@@ -7,12 +7,12 @@ use Prim.Native.Nat.{ℕ, zero, suc, _+_, _-_, _<_, _≤_}
 use native.Mathlib.Omega.{arith}
 use lib.Dec.{eqb, ltb}
 use lib.ListN.{length, take}
-use borrow.Author.Tests.{ltb-true, ltb-false, eqb-true, eqb-false, not-false}
+use borrow.Author.Tests.{ltb-true, ltb-false, eqb-true, eqb-false, not-false, lt-ltb, le-ltb, ne-eqb}
 use Rattle.terms.specs.declared.Row.{Row}
 use Rattle.terms.specs.declared.Fault.{Fault}
 use Rattle.terms.specs.declared.Fault.the-variants.{Accepted, Kind, Unused, Named, Width, Bounds, Count, Sides}
 use Rattle.terms.specs.Table.{rowAt, byKind, widthIn, widthOf, bitsOf, countKind}
-use Rattle.terms.specs.Faults.{breaks12, breaks13, breaks14, breaks15, breaks16, breaks17, breaks18, notTerm, misnamed, outside, wrongWidth, wrongBounds, tooMany, unequalSides, firstRule, rulesAt, faultAt, isAccepted, lowestFault}
+use Rattle.terms.specs.Faults.{breaks12, breaks13, breaks14, breaks15, breaks16, breaks17, breaks18, unusedColumn, notTerm, misnamed, outside, wrongWidth, wrongBounds, tooMany, unequalSides, firstRule, rulesAt, faultAt, isAccepted, lowestFault}
 use Rattle.terms.proofs.RowKinds.{else-kind, KindOf, is-variable, is-constant, is-concat, is-extract, is-equation, kind-of}
 use Rattle.laws.proofs.Bools.{not-both, or-first, or-second}
 use Rattle.terms.proofs.Widths.{width-row}
@@ -21,18 +21,18 @@ use Rattle.laws.proofs.Numbers.{below-or-at, at-or-after}
 -- ---- rules read from the top
 
 -- a rule that is kept, and those behind it
-pub kept-first : (b : Bool) (f : Fault) (rules : List (Bool × Fault)) → isAccepted f ≡ false → isAccepted (firstRule ((b, f) ∷ rules)) ≡ true
+pub rule-kept : (b : Bool) (f : Fault) (rules : List (Bool × Fault)) → isAccepted f ≡ false → isAccepted (firstRule ((b, f) ∷ rules)) ≡ true
     → (b ≡ false) × (isAccepted (firstRule rules) ≡ true)
 unfolding firstRule
-kept-first true f rules n h = absurd (not-both h n)
-kept-first false f rules n h = (refl, h)
+rule-kept true f rules n h = absurd (not-both h n)
+rule-kept false f rules n h = (refl, h)
 
 -- what is asked behind a rule matters only where that one is kept
-pub same-first : (b c : Bool) (f : Fault) (rules others : List (Bool × Fault)) → b ≡ c → (b ≡ false → firstRule rules ≡ firstRule others)
+pub rule-same : (b c : Bool) (f : Fault) (rules others : List (Bool × Fault)) → b ≡ c → (b ≡ false → firstRule rules ≡ firstRule others)
     → firstRule ((b, f) ∷ rules) ≡ firstRule ((c, f) ∷ others)
 unfolding firstRule
-same-first true c f rules others e h = rw (← e)
-same-first false c f rules others e h = rw (← e) (h refl)
+rule-same true c f rules others e h = rw (← e)
+rule-same false c f rules others e h = rw (← e) (h refl)
 
 -- x names a term before row r
 pub record Term (t : List Row) (r x : ℕ) : Type 0 where
@@ -63,6 +63,33 @@ pub equation-names : (t : List Row) (r : ℕ) (row : Row) → misnamed t r row �
 unfolding misnamed
 equation-names t r row h k = both-terms t r (row .a) (row .b) (rw else-kind at h)
 
+-- a row that names a term there names none wrongly
+pub term-named : (t : List Row) (r x : ℕ) → Term t r x → notTerm t r x ≡ false
+unfolding notTerm
+term-named t r x k = rw (lt-ltb x r (k .earlier), ne-eqb (rowAt t x .kind) 4 (k .no-equation))
+
+-- what a cut must be so that it breaks no rule of its own
+module _ (t : List Row) (r : ℕ) (e : rowAt t r .kind ≡ 3) where
+  pub cut-keeps-13 : breaks13 t r ≡ false
+  unfolding breaks13 unusedColumn byKind
+  cut-keeps-13 = rw e
+
+  pub cut-keeps-14 : Term t r (rowAt t r .a) → breaks14 t r ≡ false
+  unfolding breaks14 misnamed byKind
+  cut-keeps-14 k = rw e (term-named t r (rowAt t r .a) k)
+
+  pub cut-keeps-15 : breaks15 t r ≡ false
+  unfolding breaks15 wrongWidth byKind
+  cut-keeps-15 = rw e
+
+  pub cut-keeps-16 : rowAt t r .b < widthOf t (rowAt t r .a) → rowAt t r .c ≤ rowAt t r .b → breaks16 t r ≡ false
+  unfolding breaks16 wrongBounds byKind
+  cut-keeps-16 h l = rw (e, lt-ltb (rowAt t r .b) (widthOf t (rowAt t r .a)) h, le-ltb (rowAt t r .b) (rowAt t r .c) l)
+
+  pub cut-keeps-18 : breaks18 t r ≡ false
+  unfolding breaks18 unequalSides byKind
+  cut-keeps-18 = rw e
+
 pub inside : (w : ℕ) → outside w ≡ false → (1 ≤ w) × (w ≤ 1024)
 unfolding outside
 inside w h =
@@ -81,13 +108,13 @@ pub record Kept (t : List Row) (r : ℕ) : Type 0 where
 pub kept : (t : List Row) (r : ℕ) → isAccepted (faultAt t r) ≡ true → Kept t r
 unfolding faultAt rulesAt
 kept t r h =
-    let k12 = kept-first (breaks12 t r) (Kind r) _ refl h in
-    let k13 = kept-first (breaks13 t r) (Unused r) _ refl (k12 .1) in
-    let k14 = kept-first (breaks14 t r) (Named r) _ refl (k13 .1) in
-    let k15 = kept-first (breaks15 t r) (Width r) _ refl (k14 .1) in
-    let k16 = kept-first (breaks16 t r) (Bounds r) _ refl (k15 .1) in
-    let k17 = kept-first (breaks17 t r) (Count r) _ refl (k16 .1) in
-    let k18 = kept-first (breaks18 t r) (Sides r) _ refl (k17 .1) in
+    let k12 = rule-kept (breaks12 t r) (Kind r) _ refl h in
+    let k13 = rule-kept (breaks13 t r) (Unused r) _ refl (k12 .1) in
+    let k14 = rule-kept (breaks14 t r) (Named r) _ refl (k13 .1) in
+    let k15 = rule-kept (breaks15 t r) (Width r) _ refl (k14 .1) in
+    let k16 = rule-kept (breaks16 t r) (Bounds r) _ refl (k15 .1) in
+    let k17 = rule-kept (breaks17 t r) (Count r) _ refl (k16 .1) in
+    let k18 = rule-kept (breaks18 t r) (Sides r) _ refl (k17 .1) in
     record { kept12 = k12 .0; kept13 = k13 .0; kept14 = k14 .0; kept15 = k15 .0; kept16 = k16 .0; kept17 = k17 .0; kept18 = k18 .0 }
 
 -- and a row that breaks none is accepted
@@ -103,6 +130,17 @@ module _ (t : List Row) (r : ℕ) (k : Kept t r) where
   pub kept-names : misnamed t r (rowAt t r) ≡ false
   unfolding breaks14
   kept-names = k .kept14
+
+  -- what is named first is earlier, where the row is neither a variable nor a constant
+  pub kept-first : (rowAt t r .kind ≡ 0 → ⊥) → (rowAt t r .kind ≡ 1 → ⊥) → rowAt t r .a < r
+  kept-first h₀ h₁ = go (kind-of (rowAt t r .kind))
+    where
+      go : KindOf (rowAt t r .kind) → rowAt t r .a < r
+      go (is-variable e) = absurd (h₀ e)
+      go (is-constant e) = absurd (h₁ e)
+      go (is-concat e) = concat-names t r (rowAt t r) kept-names e .0 .earlier
+      go (is-extract e) = extract-names t r (rowAt t r) kept-names e .earlier
+      go (is-equation e) = equation-names t r (rowAt t r) kept-names e .0 .earlier
 
   pub kept-bit : rowAt t r .kind ≡ 1 → rowAt t r .a ≤ 1
   unfolding breaks15 wrongWidth byKind

@@ -16,3 +16,4 @@ pub mod Separation
 pub mod RowKinds
 pub mod RowNumbers
 pub mod ValueCall
+pub mod Places

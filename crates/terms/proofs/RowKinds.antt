@@ -1,8 +1,12 @@
--- Statements about what goes with a kind are shown kind by kind; tests as truth values.
-use mathlib.Core.Path.{_≡_, refl}
+-- Statements about what goes with a kind are shown kind by kind, or two ways: a variable or any other row, an equation or any
+-- other row.
+use mathlib.Core.Path.{_≡_, refl, sym, subst}
+use mathlib.Core.Logic.{_⊎_, inl, inr, ⊎-elim}
 use Prim.Native.Nat.{ℕ, zero, suc, _≤_}
 use native.Mathlib.Omega.{arith}
-use Rattle.terms.specs.Table.{byKind}
+use Rattle.terms.specs.declared.Row.{Row}
+use Rattle.terms.specs.Table.{byKind, ifVariable, ifEquation, bitsIn}
+use Rattle.laws.proofs.Numbers.{lt-or-le}
 
 pub each-kind : {A : Type 0} (k : ℕ) (x : A) {v f j c e : A}
     → (k ≡ 0 → x ≡ v) → (k ≡ 1 → x ≡ f) → (k ≡ 2 → x ≡ j) → (k ≡ 3 → x ≡ c) → (4 ≤ k → x ≡ e)
@@ -46,3 +50,43 @@ kind-of (suc zero) = is-constant refl
 kind-of (suc (suc zero)) = is-concat refl
 kind-of (suc (suc (suc zero))) = is-extract refl
 kind-of (suc (suc (suc (suc k)))) = is-equation (omega arith)
+
+-- a row is an equation or not
+abbrev pub Equation : Row → Type 0
+Equation r = 4 ≤ r .kind
+
+pub equation-or-not : (r : Row) → Equation r ⊎ (Equation r → ⊥)
+equation-or-not r = ⊎-elim (λ l. inr (λ e. absurd (omega arith))) (λ l. inl l) (lt-or-le (r .kind) 4)
+
+module _ {A : Type 0} (r : Row) (x y : A) where
+  -- what goes with a variable, and with any other row
+  pub of-variable : r .kind ≡ 0 → ifVariable r x y ≡ x
+  unfolding byKind
+  of-variable e = rw e
+
+  pub of-other : (r .kind ≡ 0 → ⊥) → ifVariable r x y ≡ y
+  of-other h = sym (each-kind (r .kind) y (λ e. absurd (h e)) (λ e. refl) (λ e. refl) (λ e. refl) (λ e. refl))
+
+  -- what goes with an equation, and with a term
+  pub of-equation : Equation r → ifEquation r x y ≡ x
+  of-equation e = else-kind (r .kind) y y y y x e
+
+  pub of-term : (Equation r → ⊥) → ifEquation r x y ≡ y
+  of-term h = sym (each-kind (r .kind) y (λ e. refl) (λ e. refl) (λ e. refl) (λ e. refl) (λ e. absurd (h e)))
+
+  -- what is shown of both is shown of what goes with the row
+  pub by-variable : (P : A → Type 0) → (r .kind ≡ 0 → P x) → ((r .kind ≡ 0 → ⊥) → P y) → P (ifVariable r x y)
+  by-variable P h₀ h₁ =
+      ⊎-elim
+      (λ l. let e : r .kind ≡ 0 = omega arith in subst P (sym (of-variable e)) (h₀ e))
+      (λ l. let h : r .kind ≡ 0 → ⊥ = λ e. absurd (omega arith) in subst P (sym (of-other h)) (h₁ h))
+      (lt-or-le (r .kind) 1)
+
+-- the variable bits of a row
+pub bits-variable : (r : Row) → r .kind ≡ 0 → bitsIn r ≡ r .a
+unfolding bitsIn
+bits-variable r e = of-variable r (r .a) 0 e
+
+pub bits-other : (r : Row) → (r .kind ≡ 0 → ⊥) → bitsIn r ≡ 0
+unfolding bitsIn
+bits-other r h = of-other r (r .a) 0 h

@@ -7,8 +7,8 @@ use native.Mathlib.Omega.{arith}
 use lib.ListN.{length, getD, take, drop, replicate, length-append, length-drop, length-replicate}
 use lib.Seq.{length-take-le}
 use Rattle.terms.specs.declared.Row.{Row}
-use Rattle.terms.specs.Table.{rowAt, byKind, widthIn, widthOf, bitsIn, bitsOf, extract, valueIn, valuesOf, valueOf}
-use Rattle.terms.proofs.RowKinds.{else-kind, KindOf, is-variable, is-constant, is-concat, is-extract, is-equation, kind-of}
+use Rattle.terms.specs.Table.{rowAt, byKind, widthIn, widthOf, bitsOf, extract, valueIn, valuesOf, valueOf}
+use Rattle.terms.proofs.RowKinds.{bits-variable, else-kind, KindOf, is-variable, is-constant, is-concat, is-extract, is-equation, kind-of}
 use Rattle.laws.proofs.Numbers.{by-strong}
 use Rattle.terms.proofs.ByRows.{rows-count, rows-early, rows-at}
 use Rattle.terms.proofs.Widths.{width-row, width-early, bits-more}
@@ -63,10 +63,7 @@ bits-part (x ∷ t) (suc r) = omega (arith, bits-part t r)
 
 -- a variable's bits lie within the assignment
 pub variable-fits : (t : List Row) (r : ℕ) → r < length t → rowAt t r .kind ≡ 0 → bitsOf (take r t) + rowAt t r .a ≤ bitsOf t
-unfolding bitsIn byKind
-variable-fits t r h e =
-    let b : bitsIn (rowAt t r) ≡ rowAt t r .a = rw e in
-    omega (arith, bits-more t r h, bits-part t (suc r))
+variable-fits t r h e = omega (arith, bits-variable (rowAt t r) e, bits-more t r h, bits-part t (suc r))
 
 -- widths, kind by kind
 module _ (t : List Row) (r : ℕ) (h : r < length t) where
@@ -92,6 +89,32 @@ module _ (t : List Row) (r : ℕ) (h : r < length t) where
   pub width-equation : 4 ≤ rowAt t r .kind → widthOf t r ≡ 0
   unfolding widthIn
   width-equation e = width-row t r h ∙ rw else-kind
+
+-- a row that two tables have has one value, where as many variable bits stand before it and the rows before it have one value
+pub value-same : (s t : List Row) (p : List ℕ) (r : ℕ) → r < length s → r < length t → Kept s r → Kept t r → rowAt s r ≡ rowAt t r
+    → bitsOf (take r s) ≡ bitsOf (take r t) → ((i : ℕ) → i < r → valueOf s p i ≡ valueOf t p i) → valueOf s p r ≡ valueOf t p r
+value-same s t p r l h m k f n before = go (kind-of (rowAt t r .kind))
+  where
+    row : Row
+    row = rowAt t r
+
+    go : KindOf (rowAt t r .kind) → valueOf s p r ≡ valueOf t p r
+    go (is-variable e) =
+        value-variable s p r l (rw f e) ∙ ap₂ (λ (x : Row) (b : ℕ). take (x .a) (drop b p)) f n ∙ sym (value-variable t p r h e)
+    go (is-constant e) = value-constant s p r l (rw f e) ∙ ap (λ (x : Row). replicate (x .b) (x .a)) f ∙ sym (value-constant t p r h e)
+    go (is-concat e) =
+        let names = concat-names t r row (kept-names t r k) e in
+        value-concat s p r l m (rw f e)
+        ∙ ap (λ (x : Row). valueOf s p (x .a) ++ valueOf s p (x .b)) f
+        ∙ ap₂ (λ (x y : List ℕ). x ++ y) (before (row .a) (names .0 .earlier)) (before (row .b) (names .1 .earlier))
+        ∙ sym (value-concat t p r h k e)
+    go (is-extract e) =
+        let named = extract-names t r row (kept-names t r k) e in
+        value-extract s p r l m (rw f e)
+        ∙ ap (λ (x : Row). extract (valueOf s p (x .a)) (x .b) (x .c)) f
+        ∙ ap (λ (w : List ℕ). extract w (row .b) (row .c)) (before (row .a) (named .earlier))
+        ∙ sym (value-extract t p r h k e)
+    go (is-equation e) = value-equation s p r l (rw f e) ∙ sym (value-equation t p r h e)
 
 -- each row of an accepted table breaks no rule
 abbrev pub Sound : List Row → Type 0

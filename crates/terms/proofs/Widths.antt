@@ -1,4 +1,4 @@
--- Widths, totals and starts, row by row.
+-- Widths and totals, row by row.
 use mathlib.Core.Path.{_≡_, refl, _∙_, ap}
 use mathlib.Core.Bool.{cond}
 use mathlib.Core.List.{List, [], _∷_, _++_}
@@ -8,7 +8,7 @@ use lib.Dec.{eqb}
 use lib.ListN.{length, getD, take}
 use lib.Seq.{take-suc}
 use Rattle.terms.specs.declared.Row.{Row}
-use Rattle.terms.specs.Table.{rowAt, noRow, widthIn, widthsOf, widthOf, bitsIn, bitsOf, startsOf, countKind}
+use Rattle.terms.specs.Table.{rowAt, noRow, widthIn, widthsOf, widthOf, bitsIn, bitsOf, countKind}
 use Rattle.terms.proofs.RowKinds.{kind-same}
 use Rattle.terms.proofs.ByRows.{rows-count, rows-early, rows-more, rows-at}
 
@@ -53,15 +53,3 @@ count-snoc k (x ∷ t) r = omega (arith, count-snoc k t r)
 pub count-more : (k : ℕ) (t : List Row) (r : ℕ) → r < length t
     → countKind k (take (suc r) t) ≡ countKind k (take r t) + cond (eqb (rowAt t r .kind) k) 1 0
 count-more k t r h = ap (countKind k) (take-suc t r noRow h) ∙ count-snoc k (take r t) (rowAt t r)
-
-pub starts-count : (t : List Row) → length (startsOf t) ≡ length t
-unfolding startsOf
-starts-count t = rows-count (λ before starts r. bitsOf before) t
-
-pub start-row : (t : List Row) (r : ℕ) → r < length t → getD (startsOf t) r 0 ≡ bitsOf (take r t)
-unfolding startsOf
-start-row t r h = rows-at (λ before starts r. bitsOf before) t r 0 h
-
-pub starts-more : (t : List Row) (r : ℕ) → r < length t → startsOf (take (suc r) t) ≡ startsOf (take r t) ++ (bitsOf (take r t) ∷ [])
-unfolding startsOf
-starts-more t r h = rows-more (λ before starts r. bitsOf before) t r h

@@ -38,6 +38,14 @@ byKind (suc (suc zero)) variable constant concat extraction equation = concat
 byKind (suc (suc (suc zero))) variable constant concat extraction equation = extraction
 byKind (suc (suc (suc (suc k)))) variable constant concat extraction equation = equation
 
+-- What goes with a variable, and what with any other row.
+abbrev pub ifVariable : {A : Type 0} → Row → A → A → A
+ifVariable r variable other = byKind (r .kind) variable other other other other
+
+-- What goes with an equation, and what with any other row.
+abbrev pub ifEquation : {A : Type 0} → Row → A → A → A
+ifEquation r equation other = byKind (r .kind) other other other other equation
+
 -- A list with one element for each row, from the first row on: `next` makes the element of the rows before the
 -- row, of their elements, and of the row.
 unfoldable pub byRows : {A : Type 0} → (List Row → List A → Row → A) → List Row → List A → List Row → List A
@@ -63,15 +71,11 @@ widthOf t r = getD (widthsOf t) r 0
 
 -- The variable bits of one row, and of rows together. An assignment (pattern) of a table has so many bits.
 unfoldable pub bitsIn : Row → ℕ
-bitsIn r = byKind (r .kind) (r .a) 0 0 0 0
+bitsIn r = ifVariable r (r .a) 0
 
 unfoldable pub bitsOf : List Row → ℕ
 bitsOf [] = 0
 bitsOf (r ∷ rs) = bitsIn r + bitsOf rs
-
--- For each row, how many variable bits the rows before it have. That is a variable's first place in an assignment.
-unfoldable pub startsOf : List Row → List ℕ
-startsOf t = byRows (λ before starts r. bitsOf before) [] [] t
 
 -- How many rows are of one kind.
 unfoldable pub countKind : ℕ → List Row → ℕ
@@ -121,7 +125,7 @@ sameWord (x ∷ xs) (y ∷ ys) = eqb x y && sameWord xs ys
 
 -- Whether a row, if it is an equation, has equal sides, where vs are the values of the rows.
 unfoldable pub sidesAgree : List (List ℕ) → Row → Bool
-sidesAgree vs r = byKind (r .kind) true true true true (sameWord (getD vs (r .a) []) (getD vs (r .b) []))
+sidesAgree vs r = ifEquation r (sameWord (getD vs (r .a) []) (getD vs (r .b) [])) true
 
 unfoldable pub allRows : (Row → Bool) → List Row → Bool
 allRows f [] = true

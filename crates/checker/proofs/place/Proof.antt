@@ -1,26 +1,23 @@
 -- `place` meets its contract: the invariant is `Placing`, of proofs/Placing.antt. Assumes nothing.
-use Rattle.checker.proofs.Placing.{Placing, placing-first, placing-length, placing-more, placing-ends, placing-done}
+use Rattle.checker.proofs.Placing.{Placing, placing-first, placing-more, placing-done}
 use Rattle.terms.proofs.Rows.{rows-length}
 use Rattle.terms.specs.Table.{rowsOf}
 use denote.Ref.{now}
 use lib.ListN.{length}
 use native.Mathlib.Omega.{arith}
 use Prim.Native.Nat.{_-_, _<_, _≤_}
-use mathlib.Core.Logic.{inl, inr, ⊎-elim}
+use mathlib.Core.Logic.{inl, inr}
 use Rattle.checker.proofs.place.Statement.{statement}
 use Rattle.checker.proofs.place.Tie as tie
 
 abbrev Inv-loop : tie.InvT-loop
-Inv-loop table starts₀ bits₀ r₀ starts bits r = (r ≤ 512) × Placing table starts₀ starts bits r
+Inv-loop table places₀ bits₀ v₀ r₀ places bits v r = (r ≤ 512) × Placing table places₀ places bits v r
 
 abbrev μ-loop : tie.MeasureT-loop
-μ-loop table starts₀ bits₀ r₀ starts bits r = 512 - r
+μ-loop table places₀ bits₀ v₀ r₀ places bits v r = 512 - r
 
 loop-holds : tie.Need-loop-holds Inv-loop μ-loop
 loop-holds c = (omega arith, placing-first _ _)
-
-put-requires : tie.Need-put-requires Inv-loop μ-loop
-put-requires c κs = tt
 
 row-at-requires : tie.Need-row-at-requires Inv-loop μ-loop
 row-at-requires c κs = tt
@@ -28,8 +25,35 @@ row-at-requires c κs = tt
 row-bits-requires : tie.Need-row-bits-requires Inv-loop μ-loop
 row-bits-requires c κs = tt
 
+cast-bits : tie.Need-cast-bits Inv-loop μ-loop
+cast-bits c = omega arith
+
 add-bits : tie.Need-add-bits Inv-loop μ-loop
-add-bits c = omega (arith, c .before .before .before .before .before .before .before .before .loop .inv .1 .few, c .before .before .before .before .before .before .before .loop-test .taken)
+add-bits c = omega (arith, c .before .before .before .before .loop .inv .1 .few, c .before .before .before .loop-test .taken)
+
+narrow-requires : tie.Need-narrow-requires Inv-loop μ-loop
+narrow-requires c κs = tt
+
+store-requires : tie.Need-store-requires Inv-loop μ-loop
+store-requires c κs = tt
+
+add-store : tie.Need-add-store Inv-loop μ-loop
+add-store c = omega (arith, c .before .before .before .before .before .before .before .before .before .before .loop .inv .1 .few-counted, c .before .before .before .before .before .before .before .before .before .loop-test .taken)
+
+add-narrow : tie.Need-add-narrow Inv-loop μ-loop
+add-narrow c = omega (arith, c .before .before .before .before .before .before .before .before .before .before .loop .inv .1 .few, c .before .before .before .before .before .before .before .before .before .loop-test .taken, c .before .before .before .before .before .before .row-bits .ensures .1)
+
+narrow-requires-2 : tie.Need-narrow-requires-2 Inv-loop μ-loop
+narrow-requires-2 c κs = tt
+
+store-requires-2 : tie.Need-store-requires-2 Inv-loop μ-loop
+store-requires-2 c κs = tt
+
+one-if-requires : tie.Need-one-if-requires Inv-loop μ-loop
+one-if-requires c κs = tt
+
+add-v : tie.Need-add-v Inv-loop μ-loop
+add-v c = omega (arith, c .before .before .before .before .before .before .before .before .before .before .before .before .before .before .before .loop .inv .1 .few-counted, c .before .before .before .before .before .before .before .before .before .before .before .before .before .before .loop-test .taken)
 
 add-r : tie.Need-add-r Inv-loop μ-loop
 add-r c = omega arith
@@ -39,24 +63,26 @@ loop-less c = omega arith
 
 loop-again : tie.Need-loop-again Inv-loop μ-loop
 loop-again c =
-    let k = c .before .before .before .before .before .before .before .before .loop .inv .1 in
-    let l : c .before .before .before .before .before .before .before .before .loop .r < length (rowsOf (now (c .before .before .before .before .before .before .before .before .before .before .before .args .table))) =
-    omega (arith, rows-length (now (c .before .before .before .before .before .before .before .before .before .before .before .args .table)), c .before .before .before .before .before .before .if1 .left) in
-    (omega arith, placing-more _ _ _ _ _ k l _ _ _ (c .before .row-at .ensures) (c .row-bits .ensures .0) (c .row-bits .ensures .1) (c .before .before .before .before .put .ensures))
-
-cast-result : tie.Need-cast-result Inv-loop μ-loop
-cast-result c = omega (arith, c .before .loop .inv .1 .few)
+    let t = now (c .before .before .before .before .before .before .before .before .before .before .before .before .before .before .before .before .before .before .args .table) in
+    let l : c .before .before .before .before .before .before .before .before .before .before .before .before .before .before .before .loop .r < length (rowsOf t) = omega (arith, rows-length t, c .before .before .before .before .before .before .before .before .before .before .before .before .before .if1 .left) in (
+      omega arith,
+      placing-more _ _ _ _ _ _ (c .before .before .before .before .before .before .before .before .before .before .before .before .before .before .before .loop .inv .1) l _ _ _ _ _ _ _ (c .before .before .before .before .before .before .before .before .before .before .before .before .row-at .ensures) (c .before .before .before .before .before .before .before .before .before .before .before .row-bits .ensures .0) (c .before .before .before .before .before .before .before .before .before .before .before .row-bits .ensures .1)
+          (c .before .before .before .before .before .before .before .before .before .narrow .ensures) (c .before .before .before .before .before .before .before .before .store .ensures) (c .before .before .before .before .narrow2 .ensures) (c .before .before .before .store2 .ensures) (c .one-if .ensures .0) (c .one-if .ensures .1),
+    )
 
 same-length : tie.Need-same-length Inv-loop μ-loop
-same-length c = placing-length _ _ _ _ _ (c .before .loop .inv .1)
+same-length c = c .before .loop .inv .1 .same-room
 
 returns : tie.Need-returns Inv-loop μ-loop
-returns c =
-    let k = c .before .loop .inv in
-    let t = now (c .before .before .before .before .args .table) in
-    placing-done _ _ _ _ _ (k .1)
-    (placing-ends _ _ _ _ _ (k .1) (k .0)
-    (⊎-elim (λ w. inl (w .left)) (λ w. inr (omega (arith, rows-length t, w .1 .taken))) (c .loop-test .came)))
+returns c = let k = c .before .loop .inv in placing-done _ _ _ _ _ _ (k .1) (k .0) (inl (c .loop-test .left))
+
+same-length-2 : tie.Need-same-length-2 Inv-loop μ-loop
+same-length-2 c = c .before .before .loop .inv .1 .same-room
+
+returns-2 : tie.Need-returns-2 Inv-loop μ-loop
+returns-2 c =
+    let k = c .before .before .loop .inv in
+    placing-done _ _ _ _ _ _ (k .1) (k .0) (inr (omega (arith, rows-length (now (c .before .before .before .before .before .args .table)), c .if1 .taken)))
 
 pub place-spec : {M : Type 1} → statement M
 place-spec =
@@ -65,13 +91,22 @@ place-spec =
     Inv-loop
     μ-loop
     loop-holds
-    put-requires
     row-at-requires
     row-bits-requires
+    cast-bits
     add-bits
+    narrow-requires
+    store-requires
+    add-store
+    add-narrow
+    narrow-requires-2
+    store-requires-2
+    one-if-requires
+    add-v
     add-r
     loop-less
     loop-again
-    cast-result
     same-length
-    returns)
+    returns
+    same-length-2
+    returns-2)

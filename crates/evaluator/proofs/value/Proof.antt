@@ -18,7 +18,7 @@ use Rattle.terms.proofs.Rows.{rows-length}
 use Rattle.terms.specs.Value.{wrongPattern}
 use Rattle.evaluator.specs.Ready.{Ready, IsTerm}
 use Rattle.terms.proofs.ValueCall.{stop-fault, stop-absent, stop-pattern, stop-room, written, pattern-short, pattern-broken, pattern-right}
-use Rattle.evaluator.proofs.Found.{starts-left, bits-found, row-there}
+use Rattle.evaluator.proofs.Found.{bits-found, row-there}
 use borrow.Author.Needs.{needs}
 use Rattle.evaluator.proofs.value.Statement.{statement}
 use Rattle.evaluator.proofs.value.Tie as tie
@@ -72,9 +72,9 @@ is-ready d =
     record {
       accepted = f;
       widths-are = λ r h. ap (λ (l : List ℕ). getD l r 0) (d .before .before .before .before .before .before .before .before .before .before .before .check .ensures .1) ∙ widths-left _ (replicate 512 0) refl f r h;
-      starts-are = λ r h. ap (λ (l : List ℕ). getD l r 0) (d .before .before .before .before .place .ensures .1) ∙ starts-left _ (replicate 512 0) refl f r h;
+      variables-are = d .before .before .before .before .place .ensures .1 .0 f (omega arith);
+      lows-are = d .before .before .before .before .place .ensures .1 .1 f (omega arith);
       widths-room = omega (arith, t .few, d .before .before .before .before .before .before .before .before .before .before .before .check .kept .1 .0);
-      starts-room = omega (arith, t .few, d .before .before .before .before .place .kept .1 .0);
       whole = sym (d .before .before .if3 .left) ∙ bits-are (d .before .before .before .before);
     }
 

@@ -12,11 +12,11 @@ use Rattle.evaluator.proofs.write_value.Statement.{statement}
 use Rattle.evaluator.proofs.write_value.Tie as tie
 
 abbrev Inv-loop : tie.InvT-loop
-Inv-loop table widths starts pattern row output₀ width i₀ output i =
+Inv-loop table widths places pattern row output₀ width i₀ output i =
     (i ≤ widthOf (rowsOf table) row) × (length output ≡ length output₀) × (output ≡ overwrite (take i (valueOf (rowsOf table) pattern row)) output₀)
 
 abbrev μ-loop : tie.MeasureT-loop
-μ-loop table widths starts pattern row output₀ width i₀ output i = width - i
+μ-loop table widths places pattern row output₀ width i₀ output i = width - i
 
 -- the width that was read is the row's
 width-is : (d : tie.After-wide Inv-loop μ-loop) → d .wide .result ≡ widthOf (rowsOf (now (d .before .before .before .before .before .before .before .args .table))) (d .before .before .before .before .before .before .before .args .row)

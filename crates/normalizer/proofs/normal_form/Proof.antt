@@ -17,7 +17,6 @@ use Rattle.checker.proofs.Checking.{fault-found, widths-left}
 use Rattle.terms.proofs.Rows.{rows-length}
 use Rattle.forms.specs.Form.{formOf, numbersOf}
 use Rattle.forms.specs.Numbered.{Numbered}
-use Rattle.forms.proofs.Numbered.{numbers-left}
 use Rattle.forms.proofs.RowForms.{sources-wide, width-small, width-read}
 use Rattle.forms.proofs.FormCall.{stop-fault, stop-absent, stop-room, written, form-few}
 use Rattle.normalizer.proofs.Appending.{appended-form}
@@ -44,13 +43,13 @@ is-there : (d : tie.Else2) → absent (rowsOf (now (d .before .before .before .b
 is-there d = absent-is (d .before) ∙ d .if2 .left
 
 -- the accepted table with its widths and numbers
-is-numbered : (d : tie.After-number) → Numbered (now (d .before .before .before .before .before .before .before .before .before .before .before .before .args .table)) (d .before .before .before .before .before .before .before .before .check .last .1 .0) (d .number .last .1 .0)
+is-numbered : (d : tie.After-place) → Numbered (now (d .before .before .before .before .before .before .before .before .before .before .before .before .args .table)) (d .before .before .before .before .before .before .before .before .check .last .1 .0) (d .place .last .1 .0)
 is-numbered d =
     let f = no-fault (d .before .before .before .before .before) in
     record {
       accepted = f;
       widths-are = λ r h. ap (λ (l : List ℕ). getD l r 0) (d .before .before .before .before .before .before .before .before .check .ensures .1) ∙ widths-left _ (replicate 512 0) refl f r h;
-      variables-are = λ r h. ap (λ (l : List ℕ). getD l r 0) (d .number .ensures) ∙ numbers-left _ (replicate 512 0) refl f r h;
+      variables-are = d .place .ensures .1 .0 f (omega arith);
     }
 
 -- the form that was written
@@ -112,11 +111,11 @@ refuse-requires-2 c κs = search needs
 returns-3 : tie.Need-returns-3
 returns-3 c = stop-room _ _ _ (is-good (c .before .before .before .before)) (is-there (c .before .before)) (c .before .if3 .taken) _ (c .refuse2 .ensures)
 
-slice-aggregate-number : tie.Need-slice-aggregate-number
-slice-aggregate-number c = search needs
+slice-aggregate-place : tie.Need-slice-aggregate-place
+slice-aggregate-place c = search needs
 
-number-requires : tie.Need-number-requires
-number-requires c κs = search needs
+place-requires : tie.Need-place-requires
+place-requires c κs = search needs
 
 slice-aggregate-put-form : tie.Need-slice-aggregate-put-form
 slice-aggregate-put-form c = search needs
@@ -164,8 +163,8 @@ normal-form-spec =
     returns-2
     refuse-requires-2
     returns-3
-    slice-aggregate-number
-    number-requires
+    slice-aggregate-place
+    place-requires
     slice-aggregate-put-form
     slice-aggregate-put-form-2
     put-form-requires

@@ -1,19 +1,18 @@
 -- `answer_table` meets its contract: the equations are taken from a copy of the table, of proofs/ShortCopy.antt. Assumes nothing.
-use mathlib.Core.Path.{_≡_, refl, sym, ap, _∙_}
+use mathlib.Core.Path.{_≡_, sym, ap, _∙_}
 use mathlib.Core.List.{List}
-use Prim.Native.Nat.{ℕ, suc, _≤_}
+use Prim.Native.Nat.{ℕ, suc, _-_}
 use native.Mathlib.Omega.{arith}
-use lib.ListN.{length, getD, take, replicate}
+use lib.ListN.{length, take, drop}
 use lib.Seq.{take-length, length-take-le}
 use denote.Ref.{now}
-use Rattle.terms.specs.Table.{rowsOf, bitsOf}
+use Rattle.terms.specs.Table.{rowsOf}
 use Rattle.laws.specs.Lists.{countUp}
 use Rattle.terms.proofs.AcceptedTable.{accepted-table}
 use Rattle.terms.proofs.Faults.{totals-small}
-use Rattle.forms.proofs.Numbered.{numbers-left}
 use Rattle.sides.specs.Sides.{Prepared}
 use Rattle.solver.specs.Equations.{unlinked}
-use Rattle.solver.proofs.ShortCopy.{copy-length, copy-accepted, copy-bits, copy-prepared, copy-taken}
+use Rattle.solver.proofs.ShortCopy.{behind-rows, copy-length, copy-bits, copy-prepared, copy-taken}
 use borrow.Author.Needs.{needs}
 use Rattle.solver.proofs.answer_table.Statement.{statement}
 use Rattle.solver.proofs.answer_table.Tie as tie
@@ -24,26 +23,29 @@ slice-aggregate-shorten c = search needs
 shorten-requires : tie.Need-shorten-requires
 shorten-requires c κs = search needs
 
-array-share-prefix-short : tie.Need-array-share-prefix-short
-array-share-prefix-short c = search needs
-
-slice-aggregate-number : tie.Need-slice-aggregate-number
-slice-aggregate-number c = sym (length-take-le (c .before .before .shorten .result) (c .before .before .shorten .last .1 .0) (omega (arith, c .before .before .shorten .ensures .0, c .before .before .shorten .kept .1 .0)))
-
-slice-aggregate-number-2 : tie.Need-slice-aggregate-number-2
-slice-aggregate-number-2 c = search needs
-
-number-requires : tie.Need-number-requires
-number-requires c κs = search needs
+lesser-requires : tie.Need-lesser-requires
+lesser-requires c κs = search needs
 
 unlink-requires : tie.Need-unlink-requires
 unlink-requires c κs = search needs
 
-array-share-prefix-short-2 : tie.Need-array-share-prefix-short-2
-array-share-prefix-short-2 c = search needs
+array-share-prefix-short : tie.Need-array-share-prefix-short
+array-share-prefix-short c = search needs
 
 slice-aggregate-take-equations : tie.Need-slice-aggregate-take-equations
-slice-aggregate-take-equations c = sym (length-take-le (c .before .before .before .before .before .before .before .before .before .before .shorten .result) (c .before .before .before .before .before .before .before .before .before .before .shorten .last .1 .0) (omega (arith, c .before .before .before .before .before .before .before .before .before .before .shorten .ensures .0, c .before .before .before .before .before .before .before .before .before .before .shorten .kept .1 .0)))
+slice-aggregate-take-equations c = sym (length-take-le (c .before .before .before .before .before .before .before .shorten .result) (c .before .before .before .before .before .before .before .shorten .last .1 .0) (omega (arith, c .before .before .before .before .before .before .before .shorten .ensures .0, c .before .before .before .before .before .before .before .shorten .kept .1 .0)))
+
+mul-take-equations : tie.Need-mul-take-equations
+mul-take-equations c = search needs
+
+sub-take-equations : tie.Need-sub-take-equations
+sub-take-equations c = search needs
+
+part-take-equations-start : tie.Need-part-take-equations-start
+part-take-equations-start c = search needs
+
+part-take-equations-end : tie.Need-part-take-equations-end
+part-take-equations-end c = search needs
 
 slice-aggregate-take-equations-2 : tie.Need-slice-aggregate-take-equations-2
 slice-aggregate-take-equations-2 c = search needs
@@ -53,9 +55,6 @@ slice-aggregate-take-equations-3 c = search needs
 
 slice-aggregate-take-equations-4 : tie.Need-slice-aggregate-take-equations-4
 slice-aggregate-take-equations-4 c = search needs
-
-slice-aggregate-take-equations-5 : tie.Need-slice-aggregate-take-equations-5
-slice-aggregate-take-equations-5 c = search needs
 
 take-equations-requires : tie.Need-take-equations-requires
 take-equations-requires c κs = search needs
@@ -71,17 +70,20 @@ same-length-2 c = search needs
 
 returns : tie.Need-returns
 returns c =
-    λ accepted widths lows bits len room.
-    let few = totals-small (rowsOf (now (c .before .before .before .before .before .before .before .before .before .before .before .before .before .before .before .before .before .before .before .before .before .before .before .before .before .before .before .before .before .before .before .before .before .before .before .args .table))) (length (rowsOf (now (c .before .before .before .before .before .before .before .before .before .before .before .before .before .before .before .before .before .before .before .before .before .before .before .before .before .before .before .before .before .before .before .before .before .before .before .args .table)))) (accepted-table _ accepted .sound) .1 in
-    let small : bitsOf (rowsOf (now (c .before .before .before .before .before .before .before .before .before .before .before .before .before .before .before .before .before .before .before .before .before .before .before .before .before .before .before .before .before .before .before .before .before .before .before .args .table))) ≤ 4096 = rw (take-length (rowsOf (now (c .before .before .before .before .before .before .before .before .before .before .before .before .before .before .before .before .before .before .before .before .before .before .before .before .before .before .before .before .before .before .before .before .before .before .before .args .table)))) at few in
-    let short = c .before .before .before .before .before .before .before .before .before .before .before .before .before .before .before .before .before .before .before .before .before .before .before .before .before .before .before .before .shorten .ensures .1 accepted (omega arith) in
-    let size : length (take (c .before .before .before .before .before .before .before .before .before .before .before .before .before .before .before .before .before .before .before .before .before .before .before .before .before .before .before .before .shorten .result) (c .before .before .before .before .before .before .before .before .before .before .before .before .before .before .before .before .before .before .before .before .before .before .before .before .before .before .before .before .shorten .last .1 .0)) ≡ length (now (c .before .before .before .before .before .before .before .before .before .before .before .before .before .before .before .before .before .before .before .before .before .before .before .before .before .before .before .before .before .before .before .before .before .before .before .args .table)) = copy-length (now (c .before .before .before .before .before .before .before .before .before .before .before .before .before .before .before .before .before .before .before .before .before .before .before .before .before .before .before .before .before .before .before .before .before .before .before .args .table)) (c .before .before .before .before .before .before .before .before .before .before .before .before .before .before .before .before .before .before .before .before .before .before .before .before .before .before .before .before .shorten .last .1 .0) (c .before .before .before .before .before .before .before .before .before .before .before .before .before .before .before .before .before .before .before .before .before .before .before .before .before .before .before .before .shorten .result) 2048 (short .0) (c .before .before .before .before .before .before .before .before .before .before .before .before .before .before .before .before .before .before .before .before .before .before .before .before .before .before .before .before .shorten .ensures .0) (c .before .before .before .before .before .before .before .before .before .before .before .before .before .before .before .before .before .before .before .before .before .before .before .before .before .before .before .before .shorten .kept .1 .0) in
-    let ready : Prepared (take (c .before .before .before .before .before .before .before .before .before .before .before .before .before .before .before .before .before .before .before .before .before .before .before .before .before .before .before .before .shorten .result) (c .before .before .before .before .before .before .before .before .before .before .before .before .before .before .before .before .before .before .before .before .before .before .before .before .before .before .before .before .shorten .last .1 .0)) (now (c .before .before .before .before .before .before .before .before .before .before .before .before .before .before .before .before .before .before .before .before .before .before .before .before .before .before .before .before .before .before .before .before .before .before .before .args .widths)) (c .before .before .before .before .before .before .before .before .before .before .before .before .before .before .before .before .before .before .before .before .before .before .before .before .number .last .1 .0) (now (c .before .before .before .before .before .before .before .before .before .before .before .before .before .before .before .before .before .before .before .before .before .before .before .before .before .before .before .before .before .before .before .before .before .before .before .args .lows)) =
-    copy-prepared (now (c .before .before .before .before .before .before .before .before .before .before .before .before .before .before .before .before .before .before .before .before .before .before .before .before .before .before .before .before .before .before .before .before .before .before .before .args .table)) (take (c .before .before .before .before .before .before .before .before .before .before .before .before .before .before .before .before .before .before .before .before .before .before .before .before .before .before .before .before .shorten .result) (c .before .before .before .before .before .before .before .before .before .before .before .before .before .before .before .before .before .before .before .before .before .before .before .before .before .before .before .before .shorten .last .1 .0)) accepted size (short .1) _ _ _ widths
-    (λ r h. ap (λ (l : List ℕ). getD l r 0) (c .before .before .before .before .before .before .before .before .before .before .before .before .before .before .before .before .before .before .before .before .before .before .before .before .number .ensures) ∙ numbers-left (take (c .before .before .before .before .before .before .before .before .before .before .before .before .before .before .before .before .before .before .before .before .before .before .before .before .before .before .before .before .shorten .result) (c .before .before .before .before .before .before .before .before .before .before .before .before .before .before .before .before .before .before .before .before .before .before .before .before .before .before .before .before .shorten .last .1 .0)) (replicate 512 0) refl (copy-accepted (now (c .before .before .before .before .before .before .before .before .before .before .before .before .before .before .before .before .before .before .before .before .before .before .before .before .before .before .before .before .before .before .before .before .before .before .before .args .table)) (take (c .before .before .before .before .before .before .before .before .before .before .before .before .before .before .before .before .before .before .before .before .before .before .before .before .before .before .before .before .shorten .result) (c .before .before .before .before .before .before .before .before .before .before .before .before .before .before .before .before .before .before .before .before .before .before .before .before .before .before .before .before .shorten .last .1 .0)) accepted size (short .1)) r h) lows in
-    let alone : c .before .before .before .before .before .before .before .before .before .before .before .before .before .before .before .before .before .before .before .before .before .unlink .last .0 ≡ unlinked (rowsOf (take (c .before .before .before .before .before .before .before .before .before .before .before .before .before .before .before .before .before .before .before .before .before .before .before .before .before .before .before .before .shorten .result) (c .before .before .before .before .before .before .before .before .before .before .before .before .before .before .before .before .before .before .before .before .before .before .before .before .before .before .before .before .shorten .last .1 .0))) = c .before .before .before .before .before .before .before .before .before .before .before .before .before .before .before .before .before .before .before .before .before .unlink .ensures (omega (arith, len, small)) ∙ ap (countUp 0) len ∙ ap (λ (n : ℕ). countUp 0 (suc (suc n))) (sym (copy-bits (now (c .before .before .before .before .before .before .before .before .before .before .before .before .before .before .before .before .before .before .before .before .before .before .before .before .before .before .before .before .before .before .before .before .before .before .before .args .table)) (take (c .before .before .before .before .before .before .before .before .before .before .before .before .before .before .before .before .before .before .before .before .before .before .before .before .before .before .before .before .shorten .result) (c .before .before .before .before .before .before .before .before .before .before .before .before .before .before .before .before .before .before .before .before .before .before .before .before .before .before .before .before .shorten .last .1 .0)) accepted size (short .1))) in
+    λ accepted widths variables lows long bits len room.
+    let table = now (c .before .before .before .before .before .before .before .before .before .before .before .before .before .before .before .before .before .before .before .before .before .before .before .before .before .before .before .before .before .before .before .before .args .table) in
+    let totals = rw (take-length (rowsOf table)) at (totals-small (rowsOf table) (length (rowsOf table)) (accepted-table table accepted .sound)) in
+    let made = c .before .before .before .before .before .before .before .before .before .before .before .before .before .before .before .before .before .before .before .before .before .before .before .before .before .shorten .ensures .1 accepted (omega arith) in
+    let short : List ℕ = take (c .before .before .before .before .before .before .before .before .before .before .before .before .before .before .before .before .before .before .before .before .before .before .before .before .before .shorten .result) (c .before .before .before .before .before .before .before .before .before .before .before .before .before .before .before .before .before .before .before .before .before .before .before .before .before .shorten .last .1 .0) in
+    let size : length short ≡ length table = copy-length table (c .before .before .before .before .before .before .before .before .before .before .before .before .before .before .before .before .before .before .before .before .before .before .before .before .before .shorten .last .1 .0) (c .before .before .before .before .before .before .before .before .before .before .before .before .before .before .before .before .before .before .before .before .before .before .before .before .before .shorten .result) 2048 (made .0) (c .before .before .before .before .before .before .before .before .before .before .before .before .before .before .before .before .before .before .before .before .before .before .before .before .before .shorten .ensures .0) (c .before .before .before .before .before .before .before .before .before .before .before .before .before .before .before .before .before .before .before .before .before .before .before .before .before .shorten .kept .1 .0) in
+    let places = now (c .before .before .before .before .before .before .before .before .before .before .before .before .before .before .before .before .before .before .before .before .before .before .before .before .before .before .before .before .before .before .before .before .args .places) in
+    let ready : Prepared short (now (c .before .before .before .before .before .before .before .before .before .before .before .before .before .before .before .before .before .before .before .before .before .before .before .before .before .before .before .before .before .before .before .before .args .widths)) places (take (length places - c .before .before .before .before .before .before .before .before .before .before .before .before .before .before .before .before .before .before .before .before .before .before .before .lesser .result) (drop (c .before .before .before .before .before .before .before .before .before .before .before .before .before .before .before .before .before .before .before .before .before .before .before .lesser .result) places)) =
+    copy-prepared table short accepted size (made .1) _ _ _ widths variables
+    (λ v h. behind-rows places (c .before .before .before .before .before .before .before .before .before .before .before .before .before .before .before .before .before .before .before .before .before .before .before .lesser .result) v (c .before .before .before .before .before .before .before .before .before .before .before .before .before .before .before .before .before .before .before .before .before .before .before .lesser .ensures .0) long (omega (arith, totals .0)) ∙ lows v h) in
+    let alone : c .before .before .before .before .before .before .before .before .before .before .before .before .before .before .before .before .before .before .before .before .before .unlink .last .0 ≡ unlinked (rowsOf short) =
+    c .before .before .before .before .before .before .before .before .before .before .before .before .before .before .before .before .before .before .before .before .before .unlink .ensures (omega (arith, len, totals .1)) ∙ ap (countUp 0) len ∙ ap (λ (n : ℕ). countUp 0 (suc (suc n))) (sym (copy-bits table short accepted size (made .1))) in
     let taken = c .before .before .before .before .before .before .before .before .before .before .before .before .take-equations .ensures ready (omega arith) (omega arith) (omega arith) alone in
-    c .before .before .before .before .conclude .ensures accepted bits (copy-taken (now (c .before .before .before .before .before .before .before .before .before .before .before .before .before .before .before .before .before .before .before .before .before .before .before .before .before .before .before .before .before .before .before .before .before .before .before .args .table)) (take (c .before .before .before .before .before .before .before .before .before .before .before .before .before .before .before .before .before .before .before .before .before .before .before .before .before .before .before .before .shorten .result) (c .before .before .before .before .before .before .before .before .before .before .before .before .before .before .before .before .before .before .before .before .before .before .before .before .before .before .before .before .shorten .last .1 .0)) accepted size (short .1) _ _ _ taken) room
+    c .before .before .before .before .conclude .ensures accepted bits (copy-taken table short accepted size (made .1) _ _ _ taken) room
 
 pub answer-table-spec : {M : Type 1} → statement M
 answer-table-spec =
@@ -89,17 +91,17 @@ answer-table-spec =
     (tie.spec
     slice-aggregate-shorten
     shorten-requires
-    array-share-prefix-short
-    slice-aggregate-number
-    slice-aggregate-number-2
-    number-requires
+    lesser-requires
     unlink-requires
-    array-share-prefix-short-2
+    array-share-prefix-short
     slice-aggregate-take-equations
+    mul-take-equations
+    sub-take-equations
+    part-take-equations-start
+    part-take-equations-end
     slice-aggregate-take-equations-2
     slice-aggregate-take-equations-3
     slice-aggregate-take-equations-4
-    slice-aggregate-take-equations-5
     take-equations-requires
     conclude-requires
     same-length

@@ -12,11 +12,11 @@ use Rattle.terms.proofs.Faults.{totals-small}
 use Rattle.solver.proofs.solve_accepted.Statement.{statement}
 use Rattle.solver.proofs.solve_accepted.Tie as tie
 
-slice-aggregate-low-sources : tie.Need-slice-aggregate-low-sources
-slice-aggregate-low-sources c = search needs
+slice-aggregate-place : tie.Need-slice-aggregate-place
+slice-aggregate-place c = search needs
 
-low-sources-requires : tie.Need-low-sources-requires
-low-sources-requires c κs = search needs
+place-requires : tie.Need-place-requires
+place-requires c κs = search needs
 
 lesser-requires : tie.Need-lesser-requires
 lesser-requires c κs = search needs
@@ -48,11 +48,12 @@ same-length-2 c = search needs
 returns : tie.Need-returns
 returns c =
     λ accepted widths room memory.
-    let bits : c .before .before .before .before .before .before .before .before .before .before .before .low-sources .result ≡ bitsOf (rowsOf (now (c .before .before .before .before .before .before .before .before .before .before .before .before .before .before .before .before .before .args .table))) =
-    c .before .before .before .before .before .before .before .before .before .before .before .low-sources .ensures .0 ∙ ap bitsOf (take-all 512 (rowsOf (now (c .before .before .before .before .before .before .before .before .before .before .before .before .before .before .before .before .before .args .table))) (accepted-table _ accepted .few)) in
+    let bits : c .before .before .before .before .before .before .before .before .before .before .before .place .result ≡ bitsOf (rowsOf (now (c .before .before .before .before .before .before .before .before .before .before .before .before .before .before .before .before .before .args .table))) =
+    c .before .before .before .before .before .before .before .before .before .before .before .place .ensures .0 ∙ ap bitsOf (take-all 512 (rowsOf (now (c .before .before .before .before .before .before .before .before .before .before .before .before .before .before .before .before .before .args .table))) (accepted-table _ accepted .few)) in
     let few = totals-small (rowsOf (now (c .before .before .before .before .before .before .before .before .before .before .before .before .before .before .before .before .before .args .table))) (length (rowsOf (now (c .before .before .before .before .before .before .before .before .before .before .before .before .before .before .before .before .before .args .table)))) (accepted-table _ accepted .sound) .1 in
     let small : bitsOf (rowsOf (now (c .before .before .before .before .before .before .before .before .before .before .before .before .before .before .before .before .before .args .table))) ≤ 4096 = rw (take-length (rowsOf (now (c .before .before .before .before .before .before .before .before .before .before .before .before .before .before .before .before .before .args .table)))) at few in
-    c .before .before .before .before .answer-table .ensures accepted widths (c .before .before .before .before .before .before .before .before .before .before .before .low-sources .ensures .1 accepted (omega arith)) bits
+    c .before .before .before .before .answer-table .ensures accepted widths (c .before .before .before .before .before .before .before .before .before .before .before .place .ensures .1 .0 accepted (omega arith)) (c .before .before .before .before .before .before .before .before .before .before .before .place .ensures .1 .1 accepted (omega arith))
+    (omega (arith, c .before .before .before .before .before .before .before .before .before .before .before .place .kept .1 .0)) bits
     (length-take-le (c .before .before .before .before .before .before .before .before .lesser2 .result) (now (c .before .before .before .before .before .before .before .before .before .before .before .before .before .before .before .before .before .args .work)) (c .before .before .before .before .before .before .before .before .lesser2 .ensures .1)
     ∙ omega (arith, c .before .before .before .before .before .before .before .before .lesser2 .ensures .0, c .before .before .before .before .before .before .before .before .before .lesser .ensures .0, bits, small, memory)) room
 
@@ -60,8 +61,8 @@ pub solve-accepted-spec : {M : Type 1} → statement M
 solve-accepted-spec =
     tie.close
     (tie.spec
-    slice-aggregate-low-sources
-    low-sources-requires
+    slice-aggregate-place
+    place-requires
     lesser-requires
     add-lesser
     lesser-requires-2
