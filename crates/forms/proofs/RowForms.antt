@@ -53,8 +53,17 @@ module _ (table widths variables : List ℕ) (num : Numbered table widths variab
   pub sources-wide : length (sourceOf rows row) ≡ widthOf rows row
   sources-wide = source-length rows (sound .sound) row inside
 
+  pub width-some : at .kind ≤ 2 → 1 ≤ widthOf rows row
+  width-some e = kept-width rows row row-kept e .0
+
   pub width-small : widthOf rows row ≤ 1024
   width-small = widths-small rows (length rows) (omega arith) (sound .sound) row inside
+
+  -- the cut that has all bits of the row
+  pub whole-cut : (high low : ℕ) → high + 1 ≡ widthOf rows row → low ≡ 0 → extract (sourceOf rows row) high low ≡ sourceOf rows row
+  whole-cut high low h l =
+      let n : high ≡ length (sourceOf rows row) - 1 = omega (arith, sources-wide) in
+      ap₂ (extract (sourceOf rows row)) n l ∙ extract-whole (sourceOf rows row) (omega (arith, sources-wide))
 
   named : (x : ℕ) → Term rows row x → absent rows x ≡ false
   named x e = term-present rows x (omega (arith, inside, e .earlier)) (e .no-equation)
@@ -80,7 +89,7 @@ module _ (table widths variables : List ℕ) (num : Numbered table widths variab
     pub variable-form : formFrom rows (sourceOf rows row) ≡ part (getD variables row 0) (at .a - 1) 0 ∷ []
     unfolding formFrom
     variable-form =
-        let w : 1 ≤ at .a = omega (arith, kept-width rows row row-kept (omega arith) .0, width-variable rows row inside e) in
+        let w : 1 ≤ at .a = omega (arith, width-some (omega arith), width-variable rows row inside e) in
         let n : at .a ≡ suc (at .a - 1) = omega arith in
         let z : 0 + (at .a - 1) ≡ at .a - 1 = omega arith in
         ap group (variable-pieces rows row inside e ∙ ap (bitsUp (countKind 0 (take row rows)) 0) n)
@@ -117,7 +126,7 @@ module _ (table widths variables : List ℕ) (num : Numbered table widths variab
     pub constant-form : formFrom rows (sourceOf rows row) ≡ fill (at .a) (at .b - 1) ∷ []
     unfolding formFrom
     constant-form =
-        let w : 1 ≤ at .b = omega (arith, kept-width rows row row-kept (omega arith) .0, width-constant rows row inside e) in
+        let w : 1 ≤ at .b = omega (arith, width-some (omega arith), width-constant rows row inside e) in
         let n : at .b ≡ suc (at .b - 1) = omega arith in
         ap group (constant-pieces rows row inside e bit ∙ ap (λ (k : ℕ). replicate k (fill (at .a) 0)) n) ∙ group-fills (at .a) (at .b - 1) bit
 
@@ -197,12 +206,6 @@ module _ (table widths variables : List ℕ) (num : Numbered table widths variab
     together : widthOf rows row ≡ widthOf rows (at .a) + widthOf rows (at .b)
     together = width-concat rows row inside row-kept e
 
-    whole : (x high low : ℕ) → length (sourceOf rows x) ≡ widthOf rows x → high + 1 ≡ widthOf rows x → low ≡ 0
-        → sourceOf rows x ≡ extract (sourceOf rows x) high low
-    whole x high low w h l =
-        let n : length (sourceOf rows x) - 1 ≡ high = omega arith in
-        sym (extract-whole (sourceOf rows x) (omega arith)) ∙ ap₂ (extract (sourceOf rows x)) n (sym l)
-
     module _ (high low : ℕ) (l : low ≤ high) (h : high < widthOf rows row) where
       -- within the right part
       pub right-cut : high < widthOf rows (at .b) → extract (sourceOf rows (at .b)) high low ≡ extract (sourceOf rows row) high low
@@ -210,9 +213,6 @@ module _ (table widths variables : List ℕ) (num : Numbered table widths variab
           sym
           (ap (λ (s : List ℕ). extract s high low) (sym both-sources)
           ∙ extract-right (sourceOf rows (at .a)) (sourceOf rows (at .b)) high low (omega (arith, right-wide)))
-
-      pub right-whole : high < widthOf rows (at .b) → high - low ≡ widthOf rows (at .b) - 1 → sourceOf rows (at .b) ≡ extract (sourceOf rows row) high low
-      right-whole r w = whole (at .b) high low right-wide (omega arith) (omega arith) ∙ right-cut r
 
       -- within the left part
       pub left-cut : widthOf rows (at .b) ≤ low
@@ -226,10 +226,6 @@ module _ (table widths variables : List ℕ) (num : Numbered table widths variab
       pub left-within : widthOf rows (at .b) ≤ high → high - widthOf rows (at .b) < widthOf rows (at .a)
       left-within r = omega (arith, together)
 
-      pub left-whole : widthOf rows (at .b) ≤ low → high - low ≡ widthOf rows (at .a) - 1 → sourceOf rows (at .a) ≡ extract (sourceOf rows row) high low
-      left-whole r w =
-          whole (at .a) (high - widthOf rows (at .b)) (low - widthOf rows (at .b)) left-wide (omega (arith, together)) (omega (arith, together)) ∙ left-cut r
-
       -- across both parts
       module _ (r : low < widthOf rows (at .b)) (s : widthOf rows (at .b) ≤ high) where
         pub across : extract (sourceOf rows (at .a)) (high - widthOf rows (at .b)) 0 ++ extract (sourceOf rows (at .b)) (widthOf rows (at .b) - 1) low
@@ -239,10 +235,3 @@ module _ (table widths variables : List ℕ) (num : Numbered table widths variab
             (ap (λ (w : List ℕ). extract w high low) (sym both-sources)
             ∙ extract-across (sourceOf rows (at .a)) (sourceOf rows (at .b)) high low (omega (arith, right-wide)) (omega (arith, right-wide)) (omega (arith, left-wide, right-wide, together))
             ∙ ap (λ (n : ℕ). extract (sourceOf rows (at .a)) (high - n) 0 ++ extract (sourceOf rows (at .b)) (n - 1) low) right-wide)
-
-        pub across-left : high - widthOf rows (at .b) ≡ widthOf rows (at .a) - 1
-            → sourceOf rows (at .a) ≡ extract (sourceOf rows (at .a)) (high - widthOf rows (at .b)) 0
-        across-left w = whole (at .a) (high - widthOf rows (at .b)) 0 left-wide (omega (arith, together)) refl
-
-        pub across-right : low ≡ 0 → sourceOf rows (at .b) ≡ extract (sourceOf rows (at .b)) (widthOf rows (at .b) - 1) low
-        across-right z = whole (at .b) (widthOf rows (at .b) - 1) low right-wide (omega arith) z

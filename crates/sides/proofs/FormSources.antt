@@ -5,26 +5,25 @@ use mathlib.Core.List.{List, [], _∷_, _++_, map, append-assoc, append-nil}
 use Prim.Native.Nat.{ℕ, zero, suc, _+_, _-_, _*_, _%_, _<_, _≤_}
 use native.Mathlib.Omega.{arith}
 use lib.Dec.{ltb}
-use lib.ListN.{length, getD, take, drop, replicate, length-map, length-append}
-use lib.Seq.{take-suc, take-at, take-length}
+use lib.ListN.{length, getD, take, replicate}
+use lib.Seq.{take-suc, take-length}
 use borrow.Author.Tests.{ltb-true}
 use Rattle.terms.specs.declared.Row.{Row}
-use Rattle.terms.specs.Table.{rowsOf, rowAt, noRow, bitsOf, bitOf, sourcesOf, sourceOf}
+use Rattle.terms.specs.Table.{rowsOf, bitsOf, bitOf, sourcesOf, sourceOf}
 use Rattle.laws.specs.Lists.{countUp}
 use Rattle.laws.specs.Buffers.{overwrite}
 use Rattle.terms.specs.Faults.{absent}
 use Rattle.terms.proofs.AcceptedTable.{Table, accepted-table, term-there}
-use Rattle.laws.proofs.Buffers.{overwrite-fits}
 use Rattle.terms.proofs.Faults.{totals-small}
 use Rattle.terms.proofs.Sources.{value-sources}
 use Rattle.laws.proofs.CountUp.{count-up}
 use Rattle.terms.proofs.Values.{Sound}
 use Rattle.forms.specs.declared.Piece.{Piece}
-use Rattle.forms.specs.Form.{formOf, numbersOf}
-use Rattle.normalizer.specs.Append.{Appended}
-use Rattle.forms.proofs.FormNumbers.{numbers-length}
+use Rattle.forms.specs.Form.{fill, formOf, numbersOf}
+use Rattle.pieces.proofs.Buffer.{form-piece}
+use Rattle.appender.specs.Append.{Appended}
 use Rattle.forms.proofs.RowForms.{sources-wide, width-small}
-use Rattle.normalizer.proofs.Appending.{appended-form}
+use Rattle.appender.proofs.Appending.{appended-form}
 use Rattle.forms.proofs.FormCall.{form-few}
 use Rattle.sides.specs.Sides.{Prepared}
 use Rattle.sides.specs.Spread.{stepped, sourcesIn, spelled, Spells}
@@ -43,64 +42,47 @@ stepped-up x (suc n) h =
     let e : (x + 1) % 65536 ≡ suc x = omega arith in
     ap (λ (k : ℕ). x ∷ stepped k 1 n) e ∙ ap (λ (l : List ℕ). x ∷ l) (stepped-up (suc x) n (omega arith))
 
--- a piece as it is read
-abbrev asRow : Piece → Row
-asRow p = record { kind = p .kind; a = p .variable; b = p .high; c = p .low }
-
-rows-numbers : (f : List Piece) (rest : List ℕ) → rowsOf (numbersOf f ++ rest) ≡ map asRow f ++ rowsOf rest
-unfolding rowsOf numbersOf
-rows-numbers [] rest = refl
-rows-numbers (p ∷ f) rest = ap (λ (l : List Row). asRow p ∷ l) (rows-numbers f rest)
-
-rows-form : (f : List Piece) (base : List ℕ) → length f * 4 ≤ length base
-    → rowsOf (overwrite (numbersOf f) base) ≡ map asRow f ++ rowsOf (drop (length (numbersOf f)) base)
-rows-form f base h =
-    ap rowsOf (overwrite-fits (numbersOf f) base (omega (arith, numbers-length f))) ∙ rows-numbers f (drop (length (numbersOf f)) base)
-
 -- the sources of the pieces in turn
-unfoldable inTurn : List ℕ → List Row → List ℕ
+unfoldable inTurn : List ℕ → List Piece → List ℕ
 inTurn lows [] = []
 inTurn lows (p ∷ ps) = sourcesIn lows p ++ inTurn lows ps
 
-turn-snoc : (lows : List ℕ) (ps : List Row) (p : Row) → inTurn lows (ps ++ (p ∷ [])) ≡ inTurn lows ps ++ sourcesIn lows p
+turn-snoc : (lows : List ℕ) (ps : List Piece) (p : Piece) → inTurn lows (ps ++ (p ∷ [])) ≡ inTurn lows ps ++ sourcesIn lows p
 unfolding inTurn
 turn-snoc lows [] p = append-nil (sourcesIn lows p)
 turn-snoc lows (q ∷ ps) p =
     ap (λ (l : List ℕ). sourcesIn lows q ++ l) (turn-snoc lows ps p) ∙ sym (append-assoc (sourcesIn lows q) (inTurn lows ps) (sourcesIn lows p))
 
-spelled-turn : (lows : List ℕ) (ps : List Row) (n : ℕ) → n ≤ length ps → spelled lows ps n ≡ inTurn lows (take n ps)
+spelled-turn : (lows base : List ℕ) (f : List Piece) → length f * 4 ≤ length base
+    → (n : ℕ) → n ≤ length f → spelled lows (overwrite (numbersOf f) base) n ≡ inTurn lows (take n f)
 unfolding spelled inTurn
-spelled-turn lows ps zero h = refl
-spelled-turn lows ps (suc n) h =
-    ap (λ (l : List ℕ). l ++ sourcesIn lows (rowAt ps n)) (spelled-turn lows ps n (omega arith))
-    ∙ sym (turn-snoc lows (take n ps) (rowAt ps n)) ∙ ap (inTurn lows) (sym (take-suc ps n noRow h))
+spelled-turn lows base f room zero h = refl
+spelled-turn lows base f room (suc n) h =
+    let p = getD f n (fill 0 0) in
+    ap₂ (λ (l : List ℕ) (q : Piece). l ++ sourcesIn lows q) (spelled-turn lows base f room n (omega arith)) (form-piece base f n h room)
+    ∙ sym (turn-snoc lows (take n f) p) ∙ ap (inTurn lows) (sym (take-suc f n (fill 0 0) h))
 
 module _ (n : ℕ) (lows : List ℕ) (fit : n < 65535) where
   -- what is read of a piece are its sources
-  piece-read : (p : Piece) → Lies n lows p → sourcesIn lows (asRow p) ≡ named lows p
+  piece-read : (p : Piece) → Lies n lows p → sourcesIn lows p ≡ named lows p
   unfolding sourcesIn named
   piece-read p k = go (ltb (p .kind) 2) refl
     where
-      go : (b : Bool) → ltb (p .kind) 2 ≡ b → sourcesIn lows (asRow p) ≡ named lows p
+      go : (b : Bool) → ltb (p .kind) 2 ≡ b → sourcesIn lows p ≡ named lows p
       go true e = rw (e) (stepped-still (p .kind) (p .high + 1) (omega (arith, ltb-true (p .kind) 2 e)))
       go false e =
           let low = getD lows (p .variable) 0 in
           let x : (low - p .high) % 65536 ≡ low - p .high = omega (arith, k .small e) in
           rw (e, x) (stepped-up (low - p .high) (p .high + 1 - p .low) (omega (arith, k .inside e, k .small e)))
 
-  pieces-read : (f : List Piece) → AllLie n lows f → inTurn lows (map asRow f) ≡ namedAll lows f
+  pieces-read : (f : List Piece) → AllLie n lows f → inTurn lows f ≡ namedAll lows f
   unfolding inTurn namedAll
   pieces-read f none = refl
   pieces-read f (some {p = p} {form = rest} k ks) = ap₂ (λ (a b : List ℕ). a ++ b) (piece-read p k) (pieces-read rest ks)
 
   form-read : (f : List Piece) (base : List ℕ) → AllLie n lows f → length f * 4 ≤ length base
-      → spelled lows (rowsOf (overwrite (numbersOf f) base)) (length f) ≡ namedAll lows f
-  form-read f base k h =
-      let rest = rowsOf (drop (length (numbersOf f)) base) in
-      ap (λ (ps : List Row). spelled lows ps (length f)) (rows-form f base h)
-      ∙ spelled-turn lows (map asRow f ++ rest) (length f) (omega (arith, length-append (map asRow f) rest, length-map f asRow))
-      ∙ ap (inTurn lows) (take-at (map asRow f) rest (length f) (length-map f asRow))
-      ∙ pieces-read f k
+      → spelled lows (overwrite (numbersOf f) base) (length f) ≡ namedAll lows f
+  form-read f base k h = spelled-turn lows base f h (length f) (omega arith) ∙ ap (inTurn lows) (take-length f) ∙ pieces-read f k
 
 -- sources of a row are fixed bits and places
 up-below : (k m i : ℕ) → 0 < k + m → getD (countUp k m) i 0 < k + m
@@ -151,8 +133,8 @@ module _ (table widths variables lows : List ℕ) (ready : Prepared table widths
   unfolding formOf
   side-written form form′ out out′ n put spells room room′ =
       let done = appended-form rows row form n form′ small room put in
-      let all : spelled lows (rowsOf form′) n ≡ sourceOf rows row =
-      ap₂ (λ (f : List ℕ) (k : ℕ). spelled lows (rowsOf f) k) (done .1) (done .0)
+      let all : spelled lows form′ n ≡ sourceOf rows row =
+      ap₂ (spelled lows) (done .1) (done .0)
       ∙ form-read (bitsOf rows + 1) lows (omega (arith, few-bits)) (formOf rows row) form (form-lies rows lows (ready .lows-are) (sourceOf rows row) below)
       (omega (arith, form-few rows row, small))
       ∙ form-named rows lows (ready .lows-are) (sourceOf rows row) below in

@@ -6,10 +6,10 @@ use native.Mathlib.Omega.{arith}
 use native.Mathlib.Numerals.{add-one}
 use lib.ListN.{length, getD, set, length-append, length-set}
 use borrow.Author.Tests.{lt-ltb, le-ltb}
-use Rattle.terms.specs.declared.Row.{Row}
-use Rattle.terms.specs.Table.{rowsOf, rowAt}
 use Rattle.laws.specs.Buffers.{overwrite, Written, Behind}
 use Rattle.laws.proofs.Buffers.{overwrite-length, written-more}
+use Rattle.forms.specs.declared.Piece.{Piece}
+use Rattle.pieces.specs.Pieces.{pieceAt}
 use Rattle.sides.specs.Spread.{stepped, sourcesIn, spelled, Spells}
 
 stepped-count : (x step n : ℕ) → length (stepped x step n) ≡ n
@@ -71,26 +71,26 @@ module _ (out₀ : List ℕ) (from count x step : ℕ) (out : List ℕ) (at left
       ))
 
 -- the sources of a piece
-module _ (lows : List ℕ) (p : Row) (n : ℕ) (out : List ℕ) (m : ℕ) (out′ : List ℕ) where
-  pub behind-fill : p .kind < 2 → (high : ℕ) → high ≡ p .b → Behind (stepped (p .kind) 0 (high + 1)) n out m out′ → Behind (sourcesIn lows p) n out m out′
+module _ (lows : List ℕ) (p : Piece) (n : ℕ) (out : List ℕ) (m : ℕ) (out′ : List ℕ) where
+  pub behind-fill : p .kind < 2 → (high : ℕ) → high ≡ p .high → Behind (stepped (p .kind) 0 (high + 1)) n out m out′ → Behind (sourcesIn lows p) n out m out′
   unfolding sourcesIn
   behind-fill h high e k = rw (lt-ltb (p .kind) 2 h, ← e) k
 
-  pub behind-part : 2 ≤ p .kind → (count x : ℕ) → count ≡ p .b + 1 - p .c → x ≡ (getD lows (p .a) 0 - p .b) % 65536
+  pub behind-part : 2 ≤ p .kind → (count x : ℕ) → count ≡ p .high + 1 - p .low → x ≡ (getD lows (p .variable) 0 - p .high) % 65536
       → Behind (stepped x 1 count) n out m out′ → Behind (sourcesIn lows p) n out m out′
   unfolding sourcesIn
   behind-part h count x e f k = rw (le-ltb (p .kind) 2 h, ← e, ← f) k
 
 -- the pass over the pieces
 pub record Spreading (lows form out₀ : List ℕ) (out : List ℕ) (m i : ℕ) : Type 0 where
-  pub written : length (spelled lows (rowsOf form) i) ≤ length out₀ → Written (spelled lows (rowsOf form) i) out₀ m out
+  pub written : length (spelled lows form i) ≤ length out₀ → Written (spelled lows form i) out₀ m out
   pub same-room : length out ≡ length out₀
 
 pub spreading-first : (lows form out₀ : List ℕ) → Spreading lows form out₀ out₀ 0 0
 unfolding spelled overwrite
 spreading-first lows form out₀ = record { written = λ h. record { counted = refl; numbers = refl }; same-room = refl }
 
-pub spreading-more : (lows form out₀ out : List ℕ) (m i : ℕ) → Spreading lows form out₀ out m i → (p : Row) (m′ : ℕ) (out′ : List ℕ) → p ≡ rowAt (rowsOf form) i
+pub spreading-more : (lows form out₀ out : List ℕ) (m i : ℕ) → Spreading lows form out₀ out m i → (p : Piece) (m′ : ℕ) (out′ : List ℕ) → p ≡ pieceAt form i
     → length out′ ≡ length out → Behind (sourcesIn lows p) m out m′ out′ → Spreading lows form out₀ out′ m′ (i + 1)
 unfolding spelled
 spreading-more lows form out₀ out m i k p m′ out′ ep same put =
@@ -98,9 +98,9 @@ spreading-more lows form out₀ out m i k p m′ out′ ep same put =
     (record {
       written =
           λ h.
-          let n = length-append (spelled lows (rowsOf form) i) (sourcesIn lows (rowAt (rowsOf form) i)) in
-          let new : Behind (sourcesIn lows (rowAt (rowsOf form) i)) m out m′ out′ = rw ep at put in
-          new (spelled lows (rowsOf form) i) out₀ (omega arith) (k .written (omega arith));
+          let n = length-append (spelled lows form i) (sourcesIn lows (pieceAt form i)) in
+          let new : Behind (sourcesIn lows (pieceAt form i)) m out m′ out′ = rw ep at put in
+          new (spelled lows form i) out₀ (omega arith) (k .written (omega arith));
       same-room = same ∙ k .same-room;
     })
 

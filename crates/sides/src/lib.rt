@@ -7,6 +7,7 @@ ghost use Rattle.laws.specs.Buffers.{Behind};
 ghost use Rattle.sides.specs.Sides.{ReadsSides};
 ghost use Rattle.sides.specs.Spread.{stepped, sourcesIn, Spells, ReadsSide};
 ghost use Rattle.sides.specs.Shortened.{shortIn, storedRow, Shortens};
+use forms::Piece;
 use terms::Row;
 
 // Writes count numbers from a place on: x, x + step, x + 2 · step and so on. The place behind them.
@@ -28,17 +29,17 @@ fn run(out: &mut [u16], from: usize, count: usize, x: u16, step: u16) -> usize
     at
 }
 
-// Writes the sources of a piece, read as a row, behind the n that are there. How many there are then.
-fn put_sources(lows: &[u16], p: Row, out: &mut [u16], n: usize) -> usize
+// Writes the sources of a piece behind the n that are there. How many there are then.
+fn put_sources(lows: &[u16], p: Piece, out: &mut [u16], n: usize) -> usize
     ensures { λ m. ⌜ Behind (sourcesIn (now (lows .entry)) p) n (now (out .entry)) m (now (out .exit)) ⌝ }
 {
     let kind = p.kind;
-    let high = numbers::wide(p.b);
+    let high = numbers::wide(p.high);
     if kind < 2 {
         return run(out, n, high + 1, kind, 0);
     }
-    let low = numbers::wide(numbers::load(lows, numbers::wide(p.a)));
-    let count = numbers::minus(high + 1, numbers::wide(p.c));
+    let low = numbers::wide(numbers::load(lows, numbers::wide(p.variable)));
+    let count = numbers::minus(high + 1, numbers::wide(p.low));
     run(out, n, count, numbers::narrow(numbers::minus(low, high)), 1)
 }
 
@@ -49,7 +50,7 @@ fn spread(lows: &[u16], form: &[u16], n: usize, out: &mut [u16])
     let mut m = 0;
     let mut i = 0;
     while i < n {
-        m = put_sources(lows, rows::row_at(form, i), out, m);
+        m = put_sources(lows, pieces::piece_at(form, i), out, m);
         i += 1;
     }
 }
@@ -67,7 +68,7 @@ fn side_bits(
     ensures { λ _. ⌜ ReadsSide (now (table .entry)) (now (widths .entry)) (now (variables .entry)) (now (lows .entry)) row
         (length (now (form .entry))) (now (out .entry)) (now (out .exit)) ⌝ }
 {
-    let pieces = normalizer::put_form(table, widths, variables, row, form, 0);
+    let pieces = appender::put_form(table, widths, variables, row, form, 0);
     spread(lows, form, pieces, out);
 }
 

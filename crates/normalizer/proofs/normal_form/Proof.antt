@@ -1,4 +1,4 @@
--- `normal_form` meets its contract: each way in which it ends has its law in proofs/Stops.antt. Assumes nothing.
+-- `normal_form` meets its contract: each way in which it ends has its law in FormCall.antt of forms. Assumes nothing.
 use mathlib.Core.Path.{_≡_, refl, sym, _∙_, ap, ap₂}
 use mathlib.Core.Bool.{true, false}
 use mathlib.Core.List.{List}
@@ -19,7 +19,7 @@ use Rattle.forms.specs.Form.{formOf, numbersOf}
 use Rattle.forms.specs.Numbered.{Numbered}
 use Rattle.forms.proofs.RowForms.{sources-wide, width-small, width-read}
 use Rattle.forms.proofs.FormCall.{stop-fault, stop-absent, stop-room, written, form-few}
-use Rattle.normalizer.proofs.Appending.{appended-form}
+use Rattle.appender.proofs.Appending.{appended-form}
 use borrow.Author.Needs.{needs}
 use Rattle.normalizer.proofs.normal_form.Statement.{statement}
 use Rattle.normalizer.proofs.normal_form.Tie as tie

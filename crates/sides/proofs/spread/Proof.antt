@@ -14,8 +14,8 @@ abbrev μ-loop : tie.MeasureT-loop
 loop-holds : tie.Need-loop-holds Inv-loop μ-loop
 loop-holds c = (omega arith, spreading-first _ _ _)
 
-row-at-requires : tie.Need-row-at-requires Inv-loop μ-loop
-row-at-requires c κs = tt
+piece-at-requires : tie.Need-piece-at-requires Inv-loop μ-loop
+piece-at-requires c κs = tt
 
 put-sources-requires : tie.Need-put-sources-requires Inv-loop μ-loop
 put-sources-requires c κs = tt
@@ -27,7 +27,7 @@ loop-less : tie.Need-loop-less Inv-loop μ-loop
 loop-less c = omega arith
 
 loop-again : tie.Need-loop-again Inv-loop μ-loop
-loop-again c = (omega arith, spreading-more _ _ _ _ _ _ (c .before .before .before .before .before .before .loop .inv .1) _ _ _ (c .before .before .before .before .row-at .ensures) (c .before .before .put-sources .kept .1 .1 .0) (c .before .before .put-sources .ensures))
+loop-again c = (omega arith, spreading-more _ _ _ _ _ _ (c .before .before .before .before .before .before .loop .inv .1) _ _ _ (c .before .before .before .before .piece-at .ensures) (c .before .before .put-sources .kept .1 .1 .0) (c .before .before .put-sources .ensures))
 
 same-length : tie.Need-same-length Inv-loop μ-loop
 same-length c = c .before .loop .inv .1 .same-room
@@ -42,7 +42,7 @@ spread-spec =
     Inv-loop
     μ-loop
     loop-holds
-    row-at-requires
+    piece-at-requires
     put-sources-requires
     add-i
     loop-less

@@ -1,11 +1,11 @@
 -- `put_piece` meets its contract. Assumes nothing.
-use Rattle.normalizer.specs.Append.{putPiece}
+use Rattle.pieces.specs.Pieces.{putPiece}
 use borrow.Author.Tests.{lt-ltb, le-ltb}
 use lib.ListN.{length-set}
 use native.Mathlib.Omega.{arith}
 use borrow.Author.Needs.{needs}
-use Rattle.normalizer.proofs.put_piece.Statement.{statement}
-use Rattle.normalizer.proofs.put_piece.Tie as tie
+use Rattle.pieces.proofs.put_piece.Statement.{statement}
+use Rattle.pieces.proofs.put_piece.Tie as tie
 
 returns : tie.Need-returns
 unfolding putPiece

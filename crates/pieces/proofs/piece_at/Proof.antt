@@ -1,9 +1,9 @@
 -- `piece_at` meets its contract. Assumes nothing.
-use Rattle.normalizer.specs.Append.{pieceAt}
+use Rattle.pieces.specs.Pieces.{pieceAt}
 use borrow.Author.Tests.{lt-ltb, le-ltb}
 use borrow.Author.Needs.{needs}
-use Rattle.normalizer.proofs.piece_at.Statement.{statement}
-use Rattle.normalizer.proofs.piece_at.Tie as tie
+use Rattle.pieces.proofs.piece_at.Statement.{statement}
+use Rattle.pieces.proofs.piece_at.Tie as tie
 
 returns : tie.Need-returns
 unfolding pieceAt

@@ -2,17 +2,17 @@
 use mathlib.Core.Path.{_≡_, sym, _∙_, ap, ap₂}
 use mathlib.Core.Bool.{true}
 use mathlib.Core.List.{List, [], _∷_, _++_, append-assoc}
-use Prim.Native.Nat.{ℕ, suc, _+_, _-_, _*_, _/_, _≤_}
+use Prim.Native.Nat.{ℕ, suc, _+_, _*_, _/_, _<_, _≤_}
 use native.Mathlib.Omega.{arith}
 use lib.Dec.{ltb}
-use lib.ListN.{length, getD, drop, set, length-append}
-use lib.Seq.{drop-cons, getD-append-add}
+use lib.ListN.{length, getD, take, drop, set, length-append}
+use lib.Seq.{drop-cons, split-at, length-take-le, getD-append-add}
 use borrow.Author.Tests.{lt-ltb}
 use Rattle.laws.specs.Buffers.{overwrite}
 use Rattle.laws.proofs.Buffers.{overwrite-fits}
 use Rattle.forms.specs.declared.Piece.{Piece}
-use Rattle.forms.specs.Form.{numbersOf}
-use Rattle.normalizer.specs.Append.{pieceAt, putPiece}
+use Rattle.forms.specs.Form.{fill, numbersOf}
+use Rattle.pieces.specs.Pieces.{pieceAt, putPiece}
 use Rattle.forms.proofs.FormNumbers.{numbers-append, numbers-length}
 
 set-behind : (p q : List ℕ) (j x : ℕ) → set (p ++ q) (length p + j) x ≡ p ++ set q j x
@@ -65,36 +65,51 @@ drop-four base n h =
     )
 
 module _ (base : List ℕ) where
-  -- the numbers of a form and one more piece, with what follows
-  pub with-last : (f : List Piece) (l : Piece) → (length f + 1) * 4 ≤ length base
-      → overwrite (numbersOf (f ++ (l ∷ []))) base ≡ numbersOf f ++ (l .kind ∷ l .variable ∷ l .high ∷ l .low ∷ drop ((length f + 1) * 4) base)
+  -- the numbers of a form apart at one of its pieces, with what follows the form
+  apart-at : (f : List Piece) (p : Piece) (g : List Piece) → (length f + 1 + length g) * 4 ≤ length base
+      → overwrite (numbersOf (f ++ (p ∷ g))) base
+      ≡ numbersOf f ++ (p .kind ∷ p .variable ∷ p .high ∷ p .low ∷ (numbersOf g ++ drop ((length f + 1 + length g) * 4) base))
   unfolding numbersOf
-  with-last f l h =
-      let n : length (numbersOf (f ++ (l ∷ []))) ≡ (length f + 1) * 4 = omega (arith, numbers-length (f ++ (l ∷ [])), length-append f (l ∷ [])) in
-      overwrite-fits (numbersOf (f ++ (l ∷ []))) base (omega arith)
-      ∙ ap₂ (λ (k : ℕ) (s : List ℕ). s ++ drop k base) n (numbers-append f (l ∷ []))
-      ∙ append-assoc (numbersOf f) (l .kind ∷ l .variable ∷ l .high ∷ l .low ∷ []) (drop ((length f + 1) * 4) base)
+  apart-at f p g h =
+      let n : length (numbersOf (f ++ (p ∷ g))) ≡ (length f + 1 + length g) * 4 = omega (arith, numbers-length (f ++ (p ∷ g)), length-append f (p ∷ g)) in
+      overwrite-fits (numbersOf (f ++ (p ∷ g))) base (omega arith)
+      ∙ ap₂ (λ (k : ℕ) (s : List ℕ). s ++ drop k base) n (numbers-append f (p ∷ g))
+      ∙ append-assoc (numbersOf f) (numbersOf (p ∷ g)) (drop ((length f + 1 + length g) * 4) base)
+
+  pub piece-between : (f : List Piece) (p : Piece) (g : List Piece) → (length f + 1 + length g) * 4 ≤ length base
+      → pieceAt (overwrite (numbersOf (f ++ (p ∷ g))) base) (length f) ≡ p
+  piece-between f p g h =
+      ap (λ (o : List ℕ). pieceAt o (length f)) (apart-at f p g h)
+      ∙ piece-read f (p .kind) (p .variable) (p .high) (p .low) (numbersOf g ++ drop ((length f + 1 + length g) * 4) base)
+
+  -- each piece of a form, and its last
+  pub form-piece : (f : List Piece) (i : ℕ) → i < length f → length f * 4 ≤ length base → pieceAt (overwrite (numbersOf f) base) i ≡ getD f i (fill 0 0)
+  form-piece f i l h =
+      let apart = split-at f i (fill 0 0) l in
+      let n = length-take-le i f (omega arith) in
+      ap₂ (λ (g : List Piece) (k : ℕ). pieceAt (overwrite (numbersOf g) base) k) apart (sym n)
+      ∙ piece-between (take i f) (getD f i (fill 0 0)) (drop (suc i) f) (omega (arith, n, ap length apart, length-append (take i f) (getD f i (fill 0 0) ∷ drop (suc i) f)))
 
   pub last-read : (f : List Piece) (l : Piece) → (length f + 1) * 4 ≤ length base → pieceAt (overwrite (numbersOf (f ++ (l ∷ []))) base) (length f) ≡ l
-  last-read f l h =
-      ap (λ (o : List ℕ). pieceAt o (length f)) (with-last f l h)
-      ∙ piece-read f (l .kind) (l .variable) (l .high) (l .low) (drop ((length f + 1) * 4) base)
+  last-read f l h = piece-between f l [] (omega arith)
 
   -- the last piece written anew
   pub last-put : (f : List Piece) (l q : Piece) → (length f + 1) * 4 ≤ length base
       → putPiece (overwrite (numbersOf (f ++ (l ∷ []))) base) (length f) q ≡ overwrite (numbersOf (f ++ (q ∷ []))) base
+  unfolding numbersOf
   last-put f l q h =
-      ap (λ (o : List ℕ). putPiece o (length f) q) (with-last f l h)
-      ∙ piece-put f (l .kind) (l .variable) (l .high) (l .low) (drop ((length f + 1) * 4) base) q ∙ sym (with-last f q h)
+      ap (λ (o : List ℕ). putPiece o (length f) q) (apart-at f l [] (omega arith))
+      ∙ piece-put f (l .kind) (l .variable) (l .high) (l .low) (drop ((length f + 1 + 0) * 4) base) q ∙ sym (apart-at f q [] (omega arith))
 
   -- a piece appended
   pub next-put : (f : List Piece) (q : Piece) → (length f + 1) * 4 ≤ length base
       → putPiece (overwrite (numbersOf f) base) (length f) q ≡ overwrite (numbersOf (f ++ (q ∷ []))) base
+  unfolding numbersOf
   next-put f q h =
       let n : ℕ = length f * 4 in
-      let e : suc (suc (suc (suc n))) ≡ (length f + 1) * 4 = omega arith in
+      let e : suc (suc (suc (suc n))) ≡ (length f + 1 + 0) * 4 = omega arith in
       let old = overwrite-fits (numbersOf f) base (omega (arith, numbers-length f)) ∙ ap (λ (k : ℕ). numbersOf f ++ drop k base) (numbers-length f) ∙ ap (λ (r : List ℕ). numbersOf f ++ r) (drop-four base n (omega arith)) in
       ap (λ (o : List ℕ). putPiece o (length f) q) old
       ∙ piece-put f (getD base n 0) (getD base (suc n) 0) (getD base (suc (suc n)) 0) (getD base (suc (suc (suc n))) 0) (drop (suc (suc (suc (suc n)))) base) q
       ∙ ap (λ (k : ℕ). numbersOf f ++ (q .kind ∷ q .variable ∷ q .high ∷ q .low ∷ drop k base)) e
-      ∙ sym (with-last f q h)
+      ∙ sym (apart-at f q [] (omega arith))

@@ -1,9 +1,9 @@
 -- `merge` meets its contract. Assumes nothing.
-use Rattle.normalizer.specs.Append.{mergedIn}
+use Rattle.pieces.specs.Pieces.{mergedIn}
 use borrow.Author.Tests.{lt-ltb, le-ltb}
 use borrow.Author.Needs.{needs}
-use Rattle.normalizer.proofs.merge.Statement.{statement}
-use Rattle.normalizer.proofs.merge.Tie as tie
+use Rattle.pieces.proofs.merge.Statement.{statement}
+use Rattle.pieces.proofs.merge.Tie as tie
 
 plus-requires : tie.Need-plus-requires
 plus-requires c κs = search needs

@@ -1,25 +1,11 @@
--- What the inner functions promise: sources are appended to the form that a buffer has.
-use mathlib.Core.Path.{_≡_}
+-- The pieces of a normal form in a buffer: four numbers for each, kind, variable, high and low.
 use mathlib.Core.Bool.{Bool, _&&_, cond}
-use mathlib.Core.List.{List, _++_}
-use Prim.Native.Nat.{ℕ, _+_, _-_, _*_, _/_, _%_, _≤_}
+use mathlib.Core.List.{List}
+use Prim.Native.Nat.{ℕ, _+_, _-_, _*_, _/_, _%_}
 use lib.Dec.{ltb}
 use lib.ListN.{length, getD, set}
-use Rattle.terms.specs.declared.Row.{Row}
-use Rattle.laws.specs.Buffers.{overwrite}
 use Rattle.forms.specs.declared.Piece.{Piece}
-use Rattle.forms.specs.Form.{fill, meets, formFrom, numbersOf}
-
--- A buffer has the normal form of sources, of n pieces, in front of what was there before.
-pub record Has (t : List Row) (sources base : List ℕ) (n : ℕ) (out : List ℕ) : Type 0 where
-  pub pieces : n ≡ length (formFrom t sources)
-  pub numbers : out ≡ overwrite (numbersOf (formFrom t sources)) base
-
--- Sources were appended: a buffer that had the form of some sources has the form of those and these.
-abbrev pub Appended : List Row → List ℕ → ℕ → List ℕ → ℕ → List ℕ → Type 0
-Appended t sources n out m out′ =
-    (earlier base : List ℕ) → length earlier + length sources ≤ 1024 → 4096 ≤ length base
-    → Has t earlier base n out → Has t (earlier ++ sources) base m out′
+use Rattle.forms.specs.Form.{fill, meets}
 
 -- Piece i of a buffer, all 0 past its end.
 unfoldable pub pieceAt : List ℕ → ℕ → Piece

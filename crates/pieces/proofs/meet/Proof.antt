@@ -5,8 +5,8 @@ use native.Mathlib.Omega.{arith}
 use Prim.Native.Nat.{_+_}
 use mathlib.Core.Path.{_≡_}
 use borrow.Author.Needs.{needs}
-use Rattle.normalizer.proofs.meet.Statement.{statement}
-use Rattle.normalizer.proofs.meet.Tie as tie
+use Rattle.pieces.proofs.meet.Statement.{statement}
+use Rattle.pieces.proofs.meet.Tie as tie
 
 returns : tie.Need-returns
 unfolding meets

@@ -1,5 +1,5 @@
 -- `push` meets its contract. Assumes nothing.
-use Rattle.normalizer.specs.Append.{pieceAt, putPiece, mergedIn, meetsLast, pushedCount, pushedNumbers}
+use Rattle.pieces.specs.Pieces.{pieceAt, putPiece, mergedIn, meetsLast, pushedCount, pushedNumbers}
 use Rattle.forms.specs.Form.{meets}
 use Rattle.forms.specs.declared.Piece.{Piece}
 use borrow.Author.Tests.{lt-ltb, le-ltb}
@@ -9,8 +9,8 @@ use Prim.Native.Nat.{_-_}
 use mathlib.Core.Bool.{true, false}
 use mathlib.Core.Path.{_≡_, sym, _∙_, ap}
 use borrow.Author.Needs.{needs}
-use Rattle.normalizer.proofs.push.Statement.{statement}
-use Rattle.normalizer.proofs.push.Tie as tie
+use Rattle.pieces.proofs.push.Statement.{statement}
+use Rattle.pieces.proofs.push.Tie as tie
 
 returns : tie.Need-returns
 unfolding pushedCount pushedNumbers

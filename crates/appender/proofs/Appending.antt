@@ -1,0 +1,72 @@
+-- What was appended to a buffer's form: sources one after the other, and the sources of one piece.
+use mathlib.Core.Path.{_≡_, refl, sym, _∙_, ap}
+use mathlib.Core.List.{List, [], _∷_, _++_, map, append-assoc}
+use Prim.Native.Nat.{ℕ, _+_, _-_, _≤_}
+use native.Mathlib.Omega.{arith}
+use lib.ListN.{length, length-append}
+use Rattle.terms.specs.declared.Row.{Row}
+use Rattle.laws.specs.Buffers.{overwrite}
+use Rattle.laws.proofs.Buffers.{overwrite-length}
+use Rattle.laws.proofs.Lists.{map-append}
+use Rattle.forms.specs.declared.Piece.{Piece}
+use Rattle.forms.specs.Form.{group, pieceOf, formFrom, numbersOf, pieceWidth, formWidth, formOf, addAll}
+use Rattle.appender.specs.Append.{Has, Appended}
+use Rattle.pieces.specs.Pieces.{pushedCount, pushedNumbers}
+use Rattle.forms.proofs.Maximal.{pushed, group-push}
+use Rattle.forms.proofs.PieceWidths.{Proper, AllProper, some}
+use Rattle.pieces.proofs.Pushing.{pushed-form}
+use Rattle.forms.proofs.Units.{form-proper, form-width, form-count}
+use Rattle.terms.specs.Table.{sourceOf}
+
+-- nothing, and one after the other
+pub appended-both : (t : List Row) (xs ys : List ℕ) (n m k : ℕ) (out out₁ out₂ : List ℕ)
+    → Appended t xs n out m out₁ → Appended t ys m out₁ k out₂ → Appended t (xs ++ ys) n out k out₂
+appended-both t xs ys n m k out out₁ out₂ f g earlier base small room has =
+    let l = length-append xs ys in
+    let both = g (earlier ++ xs) base (omega (arith, length-append earlier xs)) room (f earlier base (omega arith) room has) in
+    rw (append-assoc earlier xs ys) at both
+
+pub appended-same : (t : List Row) (xs ys : List ℕ) (n m : ℕ) (out out₁ : List ℕ) → xs ≡ ys → Appended t xs n out m out₁ → Appended t ys n out m out₁
+appended-same t xs ys n m out out₁ e f = rw e at f
+
+pub has-length : (t : List Row) (xs base : List ℕ) (n : ℕ) (out : List ℕ) → Has t xs base n out → length out ≡ length base
+has-length t xs base n out has = ap length (has .numbers) ∙ overwrite-length (numbersOf (formFrom t xs)) base
+
+-- the sources of one piece
+module _ (t : List Row) (xs : List ℕ) (q : Piece) (single : formFrom t xs ≡ q ∷ []) where
+  one-wide : pieceWidth q ≡ length xs
+  unfolding formWidth
+  one-wide = let w : formWidth (q ∷ []) ≡ length xs = rw single at (form-width t xs) in omega arith
+
+  one-proper : Proper q
+  one-proper = go (rw single at (form-proper t xs))
+    where
+      go : AllProper (q ∷ []) → Proper q
+      go (some k ks) = k
+
+  some-source : 1 ≤ length xs
+  some-source = let c : 1 ≤ length xs = omega (arith, ap length single, form-count t xs) in c
+
+  grown : (ys : List ℕ) → formFrom t (ys ++ xs) ≡ pushed (formFrom t ys) q
+  unfolding formFrom
+  grown ys = ap group (map-append (pieceOf t) ys xs) ∙ group-push (map (pieceOf t) ys) (map (pieceOf t) xs) q single
+
+  -- the sources of one piece are appended by pushing it
+  pub appended-piece : (n : ℕ) (out : List ℕ) → Appended t xs n out (pushedCount out n q) (pushedNumbers out n q)
+  appended-piece n out earlier base small room has =
+      let done = pushed-form (formFrom t earlier) q base n out (form-proper t earlier) one-proper
+      (omega (arith, form-width t earlier, one-wide)) (omega (arith, form-count t earlier, some-source)) room (has .pieces) (has .numbers) in
+      record {
+        pieces = done .0 ∙ ap length (sym (grown earlier));
+        numbers = done .1 ∙ ap (λ (g : List Piece). overwrite (numbersOf g) base) (sym (grown earlier));
+      }
+
+  pub appended-push : (n : ℕ) (out : List ℕ) (m : ℕ) (out′ : List ℕ) → m ≡ pushedCount out n q → out′ ≡ pushedNumbers out n q → Appended t xs n out m out′
+  appended-push n out m out′ em eo = rw (em, eo) (appended-piece n out)
+
+-- what was appended to nothing is a row's form
+pub appended-form : (t : List Row) (row : ℕ) (base : List ℕ) (n : ℕ) (out : List ℕ) → length (sourceOf t row) ≤ 1024 → 4096 ≤ length base
+    → Appended t (sourceOf t row) 0 base n out → (n ≡ length (formOf t row)) × (out ≡ overwrite (numbersOf (formOf t row)) base)
+unfolding formOf formFrom group addAll overwrite numbersOf
+appended-form t row base n out small room f =
+    let done = f [] base (omega arith) room (record { pieces = refl; numbers = refl }) in (done .pieces, done .numbers)

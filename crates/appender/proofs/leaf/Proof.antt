@@ -1,0 +1,16 @@
+-- `leaf` meets its contract. Assumes nothing.
+use borrow.Author.Tests.{eq-eqb, ne-eqb}
+use Rattle.appender.specs.Append.{isLeaf}
+use Rattle.appender.proofs.leaf.Statement.{statement}
+use Rattle.appender.proofs.leaf.Tie as tie
+
+returns : tie.Need-returns
+unfolding isLeaf
+returns c = rw (eq-eqb _ _ (c .if1 .taken))
+
+returns-2 : tie.Need-returns-2
+unfolding isLeaf
+returns-2 c = rw (ne-eqb _ _ (c .if1 .left))
+
+pub leaf-spec : {M : Type 1} → statement M
+leaf-spec = tie.close (tie.spec returns returns-2)
