@@ -66,13 +66,25 @@ fn print_record(found: Record, out: &mut [u8]) {
     write_first(out, end);
 }
 
+// Writes a line for each of the first n pieces of a form, from a place on where they fit, and gives the place behind them.
+fn put_pieces(form: &[u16], n: usize, out: &mut [u8], at: usize) -> usize {
+    let mut behind = at;
+    let mut i = 0;
+    while i < n {
+        let p = pieces::piece_at(form, i);
+        let line = lines::four_values(p.kind, p.variable, p.high, p.low);
+        behind = writer::put_line(line, out, behind);
+        i += 1;
+    }
+    behind
+}
+
 // The record and the normal form of a row.
 fn print_form(table: &[u16], row: usize, out: &mut [u8]) {
     let mut form = [0u16; FORM];
     let found = normalizer::normal_form(table, row, &mut form[..]);
     let at = writer::put_line(lines::record_values(found), out, 0);
-    let len = numbers::lesser(found.pieces as usize * 4, FORM);
-    let end = writer::put_rows(&form[..len], out, at);
+    let end = put_pieces(&form[..], found.pieces as usize, out, at);
     write_first(out, end);
 }
 

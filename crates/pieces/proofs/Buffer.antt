@@ -5,21 +5,15 @@ use mathlib.Core.List.{List, [], _∷_, _++_, append-assoc}
 use Prim.Native.Nat.{ℕ, suc, _+_, _*_, _/_, _<_, _≤_}
 use native.Mathlib.Omega.{arith}
 use lib.Dec.{ltb}
-use lib.ListN.{length, getD, take, drop, set, length-append}
+use lib.ListN.{length, getD, take, drop, length-append}
 use lib.Seq.{drop-cons, split-at, length-take-le, getD-append-add}
 use borrow.Author.Tests.{lt-ltb}
-use Rattle.laws.specs.Buffers.{overwrite}
-use Rattle.laws.proofs.Buffers.{overwrite-fits}
+use Rattle.laws.specs.Buffers.{overwrite, setFour}
+use Rattle.laws.proofs.Buffers.{overwrite-fits, set-behind}
 use Rattle.forms.specs.declared.Piece.{Piece}
 use Rattle.forms.specs.Form.{fill, numbersOf}
 use Rattle.pieces.specs.Pieces.{pieceAt, putPiece}
 use Rattle.forms.proofs.FormNumbers.{numbers-append, numbers-length}
-
-set-behind : (p q : List ℕ) (j x : ℕ) → set (p ++ q) (length p + j) x ≡ p ++ set q j x
-set-behind [] q j x = let e : 0 + j ≡ j = omega arith in ap (λ (k : ℕ). set q k x) e
-set-behind (y ∷ p) q j x =
-    let e : suc (length p) + j ≡ suc (length p + j) = omega arith in
-    ap (λ (k : ℕ). set (y ∷ (p ++ q)) k x) e ∙ ap (λ (l : List ℕ). y ∷ l) (set-behind p q j x)
 
 module _ (f : List Piece) (w x y z : ℕ) (rest : List ℕ) where
   abbrev out : List ℕ
@@ -39,7 +33,7 @@ module _ (f : List Piece) (w x y z : ℕ) (rest : List ℕ) where
       rw (there, at-piece 1, at-piece 2, at-piece 3, e₀, g 0, g 1, g 2, g 3)
 
   pub piece-put : (q : Piece) → putPiece out (length f) q ≡ numbersOf f ++ (q .kind ∷ q .variable ∷ q .high ∷ q .low ∷ rest)
-  unfolding putPiece
+  unfolding putPiece setFour
   piece-put q =
       let e₀ : length f * 4 ≡ length (numbersOf f) + 0 = omega (arith, numbers-length f) in
       rw (

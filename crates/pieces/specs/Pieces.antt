@@ -3,7 +3,8 @@ use mathlib.Core.Bool.{Bool, _&&_, cond}
 use mathlib.Core.List.{List}
 use Prim.Native.Nat.{ℕ, _+_, _-_, _*_, _/_, _%_}
 use lib.Dec.{ltb}
-use lib.ListN.{length, getD, set}
+use lib.ListN.{length, getD}
+use Rattle.laws.specs.Buffers.{setFour}
 use Rattle.forms.specs.declared.Piece.{Piece}
 use Rattle.forms.specs.Form.{fill, meets}
 
@@ -18,7 +19,7 @@ pieceAt out i =
 unfoldable pub putPiece : List ℕ → ℕ → Piece → List ℕ
 putPiece out i p =
     cond (ltb i (length out / 4))
-    (set (set (set (set out (i * 4) (p .kind)) (i * 4 + 1) (p .variable)) (i * 4 + 2) (p .high)) (i * 4 + 3) (p .low))
+    (setFour out (i * 4) (p .kind) (p .variable) (p .high) (p .low))
     out
 
 -- Two pieces merged, in 16 bits.

@@ -77,11 +77,7 @@ pub fn put_piece(out: &mut [u16], i: usize, p: Piece)
     if out.len() / LENGTH <= i {
         return;
     }
-    let from = i * LENGTH;
-    out[from] = p.kind;
-    out[from + 1] = p.variable;
-    out[from + 2] = p.high;
-    out[from + 3] = p.low;
+    numbers::store_four(out, i * LENGTH, p.kind, p.variable, p.high, p.low);
 }
 
 // Appends a piece to the n pieces of a buffer; how many there are then.

@@ -18,11 +18,7 @@ use terms::Row;
 fn put_row(table: &mut [u16], k: u16, row: Row)
     ensures { λ _. ⌜ now (table .exit) ≡ putRow (now (table .entry)) k row ⌝ }
 {
-    let at = numbers::wide(k) * 4;
-    numbers::store(table, at, row.kind);
-    numbers::store(table, at + 1, row.a);
-    numbers::store(table, at + 2, row.b);
-    numbers::store(table, at + 3, row.c);
+    numbers::store_four(table, numbers::wide(k) * 4, row.kind, row.a, row.b, row.c);
 }
 
 // The lines of values from a place on. Their rows are written to the beginning of a table.

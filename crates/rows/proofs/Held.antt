@@ -2,13 +2,13 @@
 -- than 512 rows has the same fault however many rows of it are read. Assumes nothing.
 use mathlib.Core.Path.{_≡_, refl, sym, _∙_, ap}
 use mathlib.Core.Bool.{Bool, true, false, cond}
-use mathlib.Core.List.{List, [], _∷_, _++_, append-assoc}
+use mathlib.Core.List.{List, [], _∷_, _++_}
 use mathlib.Core.Logic.{_⊎_, inl, inr}
 use Prim.Native.Nat.{ℕ, _+_, _*_, _/_, _%_, _<_, _≤_}
 use native.Mathlib.Omega.{arith}
 use native.Mathlib.Numerals.{add-one}
 use lib.Dec.{ltb}
-use lib.ListN.{length, getD, take, drop, length-append}
+use lib.ListN.{length, getD, take, drop}
 use lib.Seq.{take-suc, take-at, length-take-le, take-all}
 use borrow.Author.Tests.{lt-ltb, ltb-true, ltb-false}
 use Rattle.terms.specs.declared.Row.{Row}
@@ -17,7 +17,7 @@ use Rattle.terms.specs.Table.{noRow, rowsOf}
 use Rattle.laws.specs.Buffers.{overwrite}
 use Rattle.terms.specs.Faults.{breaks11, firstFault}
 use Rattle.laws.proofs.Numbers.{lt-or-le}
-use Rattle.laws.proofs.Buffers.{overwrite-length, overwrite-more, overwrite-fits}
+use Rattle.laws.proofs.Buffers.{overwrite-length, overwrite-fits, four-more}
 use Rattle.terms.specs.Table.{rowNumbers}
 use Rattle.rows.specs.Held.{putRow}
 use Rattle.terms.proofs.RowNumbers.{row-numbers-append, row-numbers-length}
@@ -64,24 +64,8 @@ pub row-put : (rs : List Row) (base : List ℕ) (r : Row) (k : ℕ) → length r
     → putRow (overwrite (rowNumbers rs) base) k r ≡ overwrite (rowNumbers (rs ++ (r ∷ []))) base
 unfolding putRow rowNumbers
 row-put rs base r k e =
-    let n₀ = rowNumbers rs in
-    let n₁ = n₀ ++ (r .kind ∷ []) in
-    let n₂ = n₁ ++ (r .a ∷ []) in
-    let n₃ = n₂ ++ (r .b ∷ []) in
-    let l₀ : length n₀ ≡ k * 4 = omega (arith, row-numbers-length rs) in
-    let l₁ : length n₁ ≡ k * 4 + 1 = omega (arith, length-append n₀ (r .kind ∷ [])) in
-    let l₂ : length n₂ ≡ k * 4 + 2 = omega (arith, length-append n₁ (r .a ∷ [])) in
-    let l₃ : length n₃ ≡ k * 4 + 3 = omega (arith, length-append n₂ (r .b ∷ [])) in
-    let all : n₃ ++ (r .c ∷ []) ≡ rowNumbers (rs ++ (r ∷ [])) =
-    append-assoc n₂ (r .b ∷ []) (r .c ∷ []) ∙ append-assoc n₁ (r .a ∷ []) (r .b ∷ r .c ∷ []) ∙ append-assoc n₀ (r .kind ∷ []) (r .a ∷ r .b ∷ r .c ∷ [])
-    ∙ sym (row-numbers-append rs (r ∷ [])) in
-    rw (
-      overwrite-more n₀ base (r .kind) (k * 4) l₀,
-      overwrite-more n₁ base (r .a) (k * 4 + 1) l₁,
-      overwrite-more n₂ base (r .b) (k * 4 + 2) l₂,
-      overwrite-more n₃ base (r .c) (k * 4 + 3) l₃,
-    )
-    (ap (λ (l : List ℕ). overwrite l base) all)
+    four-more (rowNumbers rs) base (k * 4) (r .kind) (r .a) (r .b) (r .c) (omega (arith, row-numbers-length rs))
+    ∙ ap (λ (l : List ℕ). overwrite l base) (sym (row-numbers-append rs (r ∷ [])))
 
 pub put-first : (rows : List Row) (base : List ℕ) → base ≡ overwrite (rowNumbers (take 0 rows)) base
 unfolding overwrite rowNumbers

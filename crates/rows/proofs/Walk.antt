@@ -26,7 +26,7 @@ use prog.Wp.{Heap, Env, Calls, Loops, Spot, spotOf, walk}
 use ghost.Atoms.{Atoms, sem}
 use contract.Monad.{Fun, fact, factI, fact-use}
 use contract.Lifetimes.{Lfts, Shares, AllOutlive, toks}
-use types.Kit.{Given, Item, Post, Goal, Soaks, Seq, Step, Sq, step, prop, runs, frees, ‵, raw, some, later, _⊛_, mean, ⋆, _$_, _∵_, !, qed, by, move, drop, use0, use1, use2, fsplit3, split, join, pick, show, frame, await, updating, now as at-once}
+use types.Kit.{Given, Item, Post, Goal, Soaks, Seq, Step, step, prop, runs, frees, ‵, raw, some, later, _⊛_, mean, ⋆, _$_, _∵_, !, qed, by, move, drop, use0, use1, use2, fsplit3, split, join, pick, show, frame, await, updating, now as at-once}
 use types.Part.{agg, whole, sub, look-in}
 use types.Run.{Walks, Finds, look, init, forget, stop, hop, fld, load, addr, and-then, no-more, assigns, free1}
 use types.SemTy.{Body as Behind}

@@ -1,9 +1,10 @@
 -- Row records lent as a run, and the numbers of those that a buffer holds.
 use mathlib.Core.Bool.{cond}
 use mathlib.Core.List.{List}
-use Prim.Native.Nat.{ℕ, _+_, _*_, _/_}
+use Prim.Native.Nat.{ℕ, _*_, _/_}
 use lib.Dec.{ltb}
-use lib.ListN.{length, take, set}
+use lib.ListN.{length, take}
+use Rattle.laws.specs.Buffers.{setFour}
 use Rattle.terms.specs.declared.Row.{Row}
 use Rattle.terms.specs.Table.{rowNumbers}
 
@@ -17,7 +18,7 @@ fitting n room = cond (ltb n (room / 4)) n (room / 4)
 
 -- A table with row k written, as far as it reaches.
 unfoldable pub putRow : List ℕ → ℕ → Row → List ℕ
-putRow table k r = set (set (set (set table (k * 4) (r .kind)) (k * 4 + 1) (r .a)) (k * 4 + 2) (r .b)) (k * 4 + 3) (r .c)
+putRow table k r = setFour table (k * 4) (r .kind) (r .a) (r .b) (r .c)
 
 -- A buffer with row k written, where it holds row k whole.
 unfoldable pub putWhole : List ℕ → ℕ → Row → List ℕ

@@ -45,11 +45,7 @@ fn put_row(table: &mut [u16], k: usize, row: Row)
     ensures { λ _. ⌜ now (table .exit) ≡ putWhole (now (table .entry)) k row ⌝ }
 {
     if k < table.len() / 4 {
-        let at = k * 4;
-        table[at] = row.kind;
-        table[at + 1] = row.a;
-        table[at + 2] = row.b;
-        table[at + 3] = row.c;
+        numbers::store_four(table, k * 4, row.kind, row.a, row.b, row.c);
     }
 }
 

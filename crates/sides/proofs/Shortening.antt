@@ -20,6 +20,7 @@ use Rattle.terms.proofs.Values.{Sound}
 use Rattle.terms.proofs.Rows.{rows-length, row-columns}
 use Rattle.sides.specs.Shortened.{shortRow, shortened, shortIn, storedRow, Shortens}
 use Rattle.sides.proofs.Shortened.{short-more, short-at, oneCut, row-cut, row-same-inner, row-same, CutOf, short-cut}
+use Rattle.laws.specs.Buffers.{setFour}
 
 -- one row, from the row that it names
 pub plain-outer : (r named : Row) → (r .kind ≡ 3 → ⊥) → r ≡ shortIn r named
@@ -36,18 +37,13 @@ unfolding shortIn
 both-cuts r named b c e f eb ec = rw (eq-eqb (r .kind) 3 e, eq-eqb (named .kind) 3 f, eb, ec)
 
 -- a row stored
-pub row-stored : (s s1 s2 s3 s4 : List ℕ) (row : Row) (r at : ℕ) → at ≡ min r 512 → s1 ≡ set s (at * 4) (row .kind)
-    → s2 ≡ set s1 (at * 4 + 1) (row .a) → s3 ≡ set s2 (at * 4 + 2) (row .b) → s4 ≡ set s3 (at * 4 + 3) (row .c) → s4 ≡ storedRow s (min r 512) row
-unfolding storedRow
-row-stored s s1 s2 s3 s4 row r at et e1 e2 e3 e4 = rw (← et, ← e1, ← e2, ← e3) e4
-
 pub stored-length : (s : List ℕ) (n : ℕ) (row : Row) → length (storedRow s n row) ≡ length s
-unfolding storedRow
+unfolding storedRow setFour
 stored-length s n row = simp length-set
 
 stored-take : (s : List ℕ) (n : ℕ) (row : Row) → suc n * 4 ≤ length s
     → take (suc n * 4) (storedRow s n row) ≡ (((take (n * 4) s ++ (row .kind ∷ [])) ++ (row .a ∷ [])) ++ (row .b ∷ [])) ++ (row .c ∷ [])
-unfolding storedRow
+unfolding storedRow setFour
 stored-take s n row h =
     let s1 = set s (n * 4) (row .kind) in
     let s2 = set s1 (n * 4 + 1) (row .a) in

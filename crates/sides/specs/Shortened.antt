@@ -4,7 +4,8 @@ use mathlib.Core.Bool.{_&&_, cond}
 use mathlib.Core.List.{List, []}
 use Prim.Native.Nat.{ℕ, _+_, _*_, _%_, _≤_}
 use lib.Dec.{eqb}
-use lib.ListN.{length, take, set}
+use lib.ListN.{length, take}
+use Rattle.laws.specs.Buffers.{setFour}
 use Rattle.terms.specs.declared.Row.{Row}
 use Rattle.terms.specs.declared.Fault.the-variants.{Accepted}
 use Rattle.terms.specs.Table.{rowsOf, rowAt, byRows}
@@ -30,7 +31,7 @@ shortIn r named =
 
 -- Numbers with row r stored, as far as they reach.
 unfoldable pub storedRow : List ℕ → ℕ → Row → List ℕ
-storedRow s r row = set (set (set (set s (r * 4) (row .kind)) (r * 4 + 1) (row .a)) (r * 4 + 2) (row .b)) (r * 4 + 3) (row .c)
+storedRow s r row = setFour s (r * 4) (row .kind) (row .a) (row .b) (row .c)
 
 -- What the code promises: n numbers, the accepted table's with its cuts made so.
 abbrev pub Shortens : List ℕ → ℕ → List ℕ → ℕ → Type 0

@@ -131,10 +131,7 @@ fn store_row(table: &mut [u16], r: usize, row: Row)
     ensures { λ _. ⌜ now (table .exit) ≡ storedRow (now (table .entry)) (min r 512) row ⌝ }
 {
     let at = numbers::lesser(r, terms::MAX_ROWS) * 4;
-    numbers::store(table, at, row.kind);
-    numbers::store(table, at + 1, row.a);
-    numbers::store(table, at + 2, row.b);
-    numbers::store(table, at + 3, row.c);
+    numbers::store_four(table, at, row.kind, row.a, row.b, row.c);
 }
 
 // Copies the first 512 rows of a table, each cut of a cut made one cut. How many numbers they are.

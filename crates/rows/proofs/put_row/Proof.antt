@@ -1,76 +1,27 @@
 -- `put_row` meets its contract: four stores where there is room, and none elsewhere. Assumes nothing.
-use native.Mathlib.Omega.{arith}
-use lib.ListN.{length-set}
+use mathlib.Core.Path.{sym, _∙_}
 use borrow.Author.Tests.{lt-ltb, le-ltb}
-use Rattle.rows.specs.Held.{putRow}
-use Rattle.rows.specs.Held.{putWhole}
+use Rattle.rows.specs.Held.{putRow, putWhole}
 use borrow.Author.Needs.{needs}
 use Rattle.rows.proofs.put_row.Statement.{statement}
 use Rattle.rows.proofs.put_row.Tie as tie
 
-mul-at : tie.Need-mul-at
-mul-at c = search needs
+mul-store-four : tie.Need-mul-store-four
+mul-store-four c = search needs
 
-mul-table : tie.Need-mul-table
-mul-table c = search needs
-
-slice-write-table : tie.Need-slice-write-table
-slice-write-table c = search needs
-
-add-table : tie.Need-add-table
-add-table c = search needs
-
-mul-table-2 : tie.Need-mul-table-2
-mul-table-2 c = search needs
-
-slice-write-table-2 : tie.Need-slice-write-table-2
-slice-write-table-2 c = simp length-set (omega arith)
-
-add-table-2 : tie.Need-add-table-2
-add-table-2 c = search needs
-
-mul-table-3 : tie.Need-mul-table-3
-mul-table-3 c = search needs
-
-slice-write-table-3 : tie.Need-slice-write-table-3
-slice-write-table-3 c = simp length-set (omega arith)
-
-add-table-3 : tie.Need-add-table-3
-add-table-3 c = search needs
-
-mul-table-4 : tie.Need-mul-table-4
-mul-table-4 c = search needs
-
-slice-write-table-4 : tie.Need-slice-write-table-4
-slice-write-table-4 c = simp length-set (omega arith)
+store-four-requires : tie.Need-store-four-requires
+store-four-requires c κs = search needs
 
 same-length : tie.Need-same-length
 same-length c = search needs
 
 returns : tie.Need-returns
 unfolding putWhole putRow
-returns c = simp (lt-ltb _ _ (c .if1 .taken))
+returns c = rw (lt-ltb _ _ (c .before .before .before .before .if1 .taken)) (c .before .before .store-four .ensures)
 
 returns-2 : tie.Need-returns-2
-unfolding putWhole putRow
-returns-2 c = simp (le-ltb _ _ (c .if1 .left))
+unfolding putWhole
+returns-2 c = rw (le-ltb _ _ (c .if1 .left))
 
 pub put-row-spec : {M : Type 1} → statement M
-put-row-spec =
-    tie.close
-    (tie.spec
-    mul-at
-    mul-table
-    slice-write-table
-    add-table
-    mul-table-2
-    slice-write-table-2
-    add-table-2
-    mul-table-3
-    slice-write-table-3
-    add-table-3
-    mul-table-4
-    slice-write-table-4
-    same-length
-    returns
-    returns-2)
+put-row-spec = tie.close (tie.spec mul-store-four store-four-requires same-length returns returns-2)
