@@ -1,4 +1,5 @@
 -- `lw_solve` says what the call of `solver::solve` says. Assumes nothing.
+use borrow.Author.Needs.{needs}
 use Rattle.linkwords.proofs.lw_solve.Statement.{statement}
 use Rattle.linkwords.proofs.lw_solve.Tie as tie
 
@@ -6,10 +7,10 @@ solve-requires : tie.Need-solve-requires
 solve-requires c κs = tt
 
 same-length : tie.Need-same-length
-same-length c = c .before .before .before .before .solve .kept .1 .0
+same-length c = search needs
 
 same-length-2 : tie.Need-same-length-2
-same-length-2 c = c .before .before .before .before .solve .kept .1 .1 .0
+same-length-2 c = search needs
 
 returns : tie.Need-returns
 returns c = c .before .before .before .before .solve .ensures
