@@ -1,6 +1,6 @@
 -- `linkwords::lw_solve_rows` meets its contract: a walk of its MIR, by hand. The rows are copied to a local array, and the numbers in
--- use are lent to `solver::solve` (`OverFlat.antt` of rows). What the caller lends as `&mut` goes to that call for good. Assumes
--- nothing.
+-- use are lent to `solver::solve` (`OverFlat.antt` of rows). What the caller lends as `&mut` goes to that call for good. What the call
+-- says of the numbers in use it says of all rows (`RowsHeld.antt`). Assumes nothing.
 use mathlib.Core.Path.{refl, _∙_}
 use Prim.Native.Nat.{ℕ}
 use mathlib.Core.List.{List, [], _∷_}
@@ -94,6 +94,7 @@ module _ {M : Type 1} (𝓤 : URA M) (H : Heap 𝓤) (A : Atoms 𝓤) (at-mem : 
           says-at-end 𝓤 H A called.ended (to l ν δ .0 .0) (to l ν δ .0 .3) (Clause 𝓤 called.ended (called.clauses 𝓤 H A at-mem run) (to l ν δ .0 .0) (to l ν δ .0 .3) tt r) (Clause 𝓤 f.ended (f.clauses 𝓤 H A at-mem run) (y .0 .0) (y .0 .3) tt r)
           (λ us. mono∗ 𝓤 (fact-mono 𝓤 _ _ (λ e. e ∙ solve-record-of-all rows (length answer) (length work))) (mono∗ 𝓤 (fact-mono 𝓤 _ _ (λ e. e ∙ answer-after-of-all rows answer (length work))) (fact-mono 𝓤 _ _ (λ e. e ∙ work-after-of-all rows (length answer) work))))
 
+      -- [..] is the context from its front; `_k` is the local k, and `†k` what frees it
       walk : ent 𝓤 (onEntry 𝓤 H A f.signature (y .0 .0) (y .0 .1) (y .0 .3) (y .0 .4)) (WpFn 𝓤 H (𝓣 .C) (𝓣 .Λ) code.function (s₀ ∷ s₁ ∷ s₂ ∷ []) (Own .post y))
       walk =
           qed W ((‵ (flft κ₀ q₀) ⊛ ‵ (flft κ₁ q₁) ⊛ ‵ (flft κ₂ q₂) ⊛ ‵ ftrue) ∷ ‵ (owns (ShrSlice (named 0) κ₀ Rows ∷ MutSlice (named 1) κ₁ u16 ∷ MutSlice (named 2) κ₂ u16 ∷ []) (y .0 .3) (y .0 .4)) ∷ []) ∵ enter ! (𝓣 .C) (𝓣 .Λ) code.function (s₀ ∷ s₁ ∷ s₂ ∷ []) _ $
