@@ -5,7 +5,7 @@ ghost use Prim.Native.Nat.{_+_, _-_, _%_, _≤_};
 ghost use lib.ListN.{getD, length, take};
 ghost use Rattle.terms.specs.Table.{rowsOf, widthIn, widthsOf, bitsIn, bitsOf};
 ghost use Rattle.terms.specs.Faults.{unusedColumn, notTerm, misnamed, wrongWidth, wrongBounds, tooMany, unequalSides, firstRule};
-ghost use Rattle.terms.specs.Places.{NumbersVariables, FindsLows};
+ghost use Rattle.terms.specs.Places.{NumbersVariables, FindsSources};
 ghost use Rattle.checker.specs.Check.{rulesIn, faultIn, rowsPassed};
 ghost use Rattle.laws.specs.Buffers.{overwrite};
 use terms::Fault;
@@ -257,25 +257,28 @@ pub fn check(table: &[u16], widths: &mut [u16]) -> Fault
 }
 
 // How many variable bits the first 512 rows have. `places` has afterwards, for each row of an accepted table, how many variables stand
-// before it, and from number 512 on the source of each variable's low bit, as far as there is room. A row that is no variable stores at
-// the place of the next one, which stores again.
+// before it, and from number 512 on, for each variable, the source before it, as far as there is room.
 pub fn place(table: &[u16], places: &mut [u16]) -> usize
     ensures bits { λ n. ⌜ n ≡ bitsOf (take 512 (rowsOf (now (table .entry)))) ⌝ }
     ensures variables { λ _. ⌜ NumbersVariables (now (table .entry)) (length (now (places .entry))) (now (places .exit)) ⌝ }
-    ensures lows { λ _. ⌜ FindsLows (now (table .entry)) (length (now (places .entry))) (now (places .exit)) ⌝ }
+    ensures sources { λ _. ⌜ FindsSources (now (table .entry)) (length (now (places .entry))) (now (places .exit)) ⌝ }
 {
     let mut bits = 0;
     let mut v = 0;
     let mut r = 0;
+    numbers::store(places, terms::MAX_ROWS, 1);
     while r < terms::MAX_ROWS {
         if table.len() / 4 <= r {
             break;
         }
-        let row = rows::row_at(table, r);
-        bits = bits + (row_bits(row) as usize);
         numbers::store(places, r, numbers::narrow(v));
-        numbers::store(places, terms::MAX_ROWS + v, numbers::narrow(bits + 1));
-        v = v + numbers::one_if(row.kind, terms::VARIABLE);
+        let row = rows::row_at(table, r);
+        let kind = row.kind;
+        if kind == terms::VARIABLE {
+            bits = bits + numbers::wide(row.a);
+            v += 1;
+            numbers::store(places, terms::MAX_ROWS + v, numbers::narrow(bits + 1));
+        }
         r += 1;
     }
     bits

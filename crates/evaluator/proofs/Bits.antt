@@ -7,9 +7,9 @@ use lib.ListN.{length, getD, take, drop, getD-replicate, List·getD-append}
 use lib.Seq.{getD-take, getD-drop, getD-append-add}
 use Rattle.terms.specs.declared.Row.{Row}
 use Rattle.terms.specs.Table.{rowsOf, rowAt, widthOf, bitsOf, countKind, valueOf}
-use Rattle.terms.proofs.Places.{low-row, number-small}
+use Rattle.terms.proofs.Places.{place-row, count-part}
 use Rattle.terms.proofs.AcceptedTable.{Table, accepted-table}
-use Rattle.terms.proofs.Faults.{Term, Kept, kept, kept-names, kept-kind, kept-first, kept-bit, kept-bounds, concat-names, extract-names}
+use Rattle.terms.proofs.Faults.{Term, Kept, kept, kept-names, kept-kind, kept-first, kept-bit, kept-bounds, concat-names, extract-names, totals-small}
 use Rattle.terms.proofs.Values.{value-length, value-variable, value-constant, value-concat, value-extract, width-variable, width-constant, width-concat, width-extract, variable-fits}
 use Rattle.terms.proofs.Words.{extract-bit}
 use Rattle.evaluator.specs.Ready.{Ready, IsTerm}
@@ -46,24 +46,31 @@ module _ (table widths places pattern : List ℕ) (ready : Ready table widths pl
   pub extract-left-over : (at .kind ≡ 0 → ⊥) → (at .kind ≡ 1 → ⊥) → (at .kind ≡ 2 → ⊥) → at .kind ≡ 3
   extract-left-over h₀ h₁ h₂ = omega (arith, kept-kind rows row row-kept, is .no-equation)
 
-  -- where the variable begins
-  start-is : at .kind ≡ 0 → getD places (512 + getD places row 0) 0 - (at .a + 1) ≡ bitsOf (take row rows)
-  start-is e =
-      let v = ready .variables-are row (is .there) in
-      let low = ready .lows-are (countKind 0 (take row rows)) (number-small rows row (is .there) e) in
-      omega (arith, ap (λ (n : ℕ). getD places (512 + n) 0) v, low, low-row rows row (is .there) e)
+  -- the source before the variable
+  few-before : countKind 0 (take row rows) ≤ 64
+  few-before = totals-small rows row (λ x l. sound .sound x (omega (arith, is .there))) .0
 
-  module _ (i : ℕ) (inside : i < widthOf rows row) (start : ℕ) (begins : start ≡ getD places (512 + getD places row 0) 0 - (at .a + 1)) where
-    pub variable-within : at .kind ≡ 0 → start + i < length pattern
-    variable-within e = omega (arith, start-is e, ready .whole, variable-fits rows row (is .there) e, width-variable rows row (is .there) e)
+  pub number-small : getD places row 0 ≤ 64
+  number-small = omega (arith, ready .variables-are row (is .there), few-before)
 
-    pub variable-bit : at .kind ≡ 0 → getD pattern (start + i) 0 ≡ getD (valueOf rows pattern row) i 0
-    variable-bit e =
+  before-is : getD places (512 + getD places row 0) 0 ≡ bitsOf (take row rows) + 1
+  before-is =
+      ap (λ (v : ℕ). getD places (512 + v) 0) (ready .variables-are row (is .there))
+      ∙ ready .sources-are (countKind 0 (take row rows)) (count-part rows row)
+      ∙ ap (λ (b : ℕ). b + 1) (place-row rows row)
+
+  module _ (i : ℕ) (inside : i < widthOf rows row) (before : ℕ) (e : before ≡ getD places (512 + getD places row 0) 0) where
+    pub variable-within : at .kind ≡ 0 → (1 ≤ before + i) × (before + i - 1 < length pattern)
+    variable-within k =
+        (omega (arith, before-is), omega (arith, before-is, ready .whole, variable-fits rows row (is .there) k, width-variable rows row (is .there) k))
+
+    pub variable-bit : at .kind ≡ 0 → getD pattern (before + i - 1) 0 ≡ getD (valueOf rows pattern row) i 0
+    variable-bit k =
+        let n : bitsOf (take row rows) + i ≡ before + i - 1 = omega (arith, before-is) in
         sym
-        (ap (λ (v : List ℕ). getD v i 0) (value-variable rows pattern row (is .there) e)
-        ∙ getD-take (at .a) (drop (bitsOf (take row rows)) pattern) i 0 (omega (arith, width-variable rows row (is .there) e))
-        ∙ getD-drop (bitsOf (take row rows)) pattern i 0
-        ∙ ap (λ (s : ℕ). getD pattern (s + i) 0) (sym (begins ∙ start-is e)))
+        (ap (λ (v : List ℕ). getD v i 0) (value-variable rows pattern row (is .there) k)
+        ∙ getD-take (at .a) (drop (bitsOf (take row rows)) pattern) i 0 (omega (arith, width-variable rows row (is .there) k))
+        ∙ getD-drop (bitsOf (take row rows)) pattern i 0 ∙ ap (λ (j : ℕ). getD pattern j 0) n)
 
   module _ (i : ℕ) (inside : i < widthOf rows row) where
     pub constant-small : at .kind ≡ 1 → at .a ≤ 1

@@ -2,21 +2,38 @@
 // Each bit is found by recursion into earlier rows: a concatenation passes the bit on to one of its sides, an
 // extraction to the row that it is cut from, until a variable or a constant is met.
 ghost use mathlib.Core.Path.{_≡_};
-ghost use Prim.Native.Nat.{_+_, _-_, _<_, _≤_};
+ghost use Prim.Native.Nat.{_+_, _/_, _<_, _≤_};
 ghost use lib.ListN.{getD, length};
-ghost use Rattle.terms.specs.Table.{rowsOf, widthOf, valueOf};
+ghost use Rattle.terms.specs.Table.{rowsOf, rowAt, widthOf, valueOf};
 ghost use Rattle.laws.specs.Buffers.{overwrite};
 ghost use Rattle.terms.specs.Value.{valueRecord, valueAfter};
 ghost use Rattle.evaluator.specs.Ready.{Ready, IsTerm};
 use terms::Record;
+use terms::Row;
 
-// The first place of the variable that a row is, of so many bits: `places` has the source of its low bit.
-fn start(places: &[u16], row: usize, width: u16) -> usize
-    ensures { λ s. ⌜ s ≡ getD (now (places .entry)) (512 + getD (now (places .entry)) row 0) 0 - (width + 1) ⌝ }
+// A row of the table that is there.
+fn row_of(table: &[u16], row: usize) -> Row
+    requires { ⌜ row < length (now table) / 4 ⌝ }
+    ensures { λ r. ⌜ r ≡ rowAt (rowsOf (now (table .entry))) row ⌝ }
 {
-    let v = numbers::wide(numbers::load(places, row));
-    let low = numbers::wide(numbers::load(places, terms::MAX_ROWS + v));
-    numbers::minus(low, numbers::wide(width) + 1)
+    let at = row * 4;
+    Row {
+        kind: table[at],
+        a: table[at + 1],
+        b: table[at + 2],
+        c: table[at + 3],
+    }
+}
+
+// The source before the variable that a row is.
+fn source_before(places: &[u16], row: usize) -> usize
+    requires { ⌜ row < 512 ⌝ }
+    requires { ⌜ getD (now places) row 0 ≤ 64 ⌝ }
+    requires { ⌜ 577 ≤ length (now places) ⌝ }
+    ensures { λ s. ⌜ (s ≡ getD (now (places .entry)) (512 + getD (now (places .entry)) row 0) 0) × (s ≤ 65535) ⌝ }
+{
+    let v = numbers::wide(places[row]);
+    numbers::wide(places[terms::MAX_ROWS + v])
 }
 
 // Bit i of a row's value, counted from its high end.
@@ -26,12 +43,12 @@ fn bit(table: &[u16], widths: &[u16], places: &[u16], pattern: &[u8], row: usize
     requires { ⌜ i < widthOf (rowsOf (now table)) row ⌝ }
     ensures { λ b. ⌜ b ≡ getD (valueOf (rowsOf (now (table .entry))) (now (pattern .entry)) row) i 0 ⌝ }
 {
-    let r = rows::row_at(table, row);
+    let r = row_of(table, row);
     let kind = r.kind;
     let a = numbers::wide(r.a);
     let b = numbers::wide(r.b);
     if kind == terms::VARIABLE {
-        return pattern[start(places, row, r.a) + i];
+        return pattern[source_before(places, row) + i - 1];
     }
     if kind == terms::CONSTANT {
         return a as u8;
@@ -81,7 +98,7 @@ pub fn value(table: &[u16], row: usize, pattern: &[u8], output: &mut [u8]) -> Re
     if checker::not_term(table, table.len() / 4, row) {
         return records::refuse(30, 0);
     }
-    let mut places = [0u16; 576];
+    let mut places = [0u16; 577];
     let bits = checker::place(table, &mut places[..]);
     if bits != pattern.len() {
         return records::refuse(31, 0);

@@ -24,12 +24,12 @@ use Rattle.sides.proofs.ShortTable.{sound-accepted, short-alike, short-widths, 
 pub copy-length : (table buffer : List ℕ) (n room : ℕ) → n ≡ length table → n ≤ room → length buffer ≡ room → length (take n buffer) ≡ length table
 copy-length table buffer n room e l m = length-take-le n buffer (omega arith) ∙ e
 
--- the low sources stand behind 512 numbers
-pub behind-rows : (places : List ℕ) (l v : ℕ) → l ≡ min 512 (length places) → 576 ≤ length places → v < 64
-    → getD (take (length places - l) (drop l places)) v 0 ≡ getD places (512 + v) 0
-behind-rows places l v e room h =
-    let n : l ≡ 512 = omega arith in
-    getD-take (length places - l) (drop l places) v 0 (omega arith) ∙ getD-drop l places v 0 ∙ ap (λ (k : ℕ). getD places (k + v) 0) n
+-- behind 513 numbers stand the low sources
+pub lows-part : (places : List ℕ) (l v : ℕ) → l ≡ min 513 (length places) → 577 ≤ length places → v < 64
+    → getD (take (length places - l) (drop l places)) v 0 ≡ getD places (512 + suc v) 0
+lows-part places l v e room h =
+    let n : l + v ≡ 512 + suc v = omega arith in
+    getD-take (length places - l) (drop l places) v 0 (omega arith) ∙ getD-drop l places v 0 ∙ ap (λ (k : ℕ). getD places k 0) n
 
 module _ (table short : List ℕ) (accepted : firstFault table ≡ Accepted) (size : length short ≡ length table) (rows : rowsOf short ≡ shortened (rowsOf table)) where
   abbrev t : List Row

@@ -11,7 +11,7 @@ use Rattle.terms.specs.declared.Fault.the-variants.{Accepted}
 use Rattle.terms.specs.Table.{rowsOf, bitsOf, widthOf, countKind}
 use Rattle.laws.specs.Lists.{countUp}
 use Rattle.terms.specs.Faults.{firstFault}
-use Rattle.terms.specs.Places.{lowSource}
+use Rattle.terms.specs.Places.{sourceBefore}
 use Rattle.laws.specs.Buffers.{overwrite}
 use Rattle.answers.specs.Answer.{answerNumbers}
 use Rattle.answers.specs.Solve.{solvedRows, answerRecord}
@@ -41,7 +41,7 @@ abbrev pub AnswersTable : List ℕ → List ℕ → List ℕ → ℕ → List �
 AnswersTable table widths places bits links answer answer′ found =
     firstFault table ≡ Accepted → ((r : ℕ) → r < length (rowsOf table) → getD widths r 0 ≡ widthOf (rowsOf table) r)
     → ((r : ℕ) → r < length (rowsOf table) → getD places r 0 ≡ countKind 0 (take r (rowsOf table)))
-    → ((v : ℕ) → v < countKind 0 (rowsOf table) → getD places (512 + v) 0 ≡ lowSource (rowsOf table) v) → 576 ≤ length places
+    → ((v : ℕ) → v ≤ countKind 0 (rowsOf table) → getD places (512 + v) 0 ≡ sourceBefore (rowsOf table) v) → 577 ≤ length places
     → bits ≡ bitsOf (rowsOf table) → length links ≡ suc (suc (bitsOf (rowsOf table))) → 16384 ≤ length answer
     → Answered (rowsOf table) answer answer′ found
 

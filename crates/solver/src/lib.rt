@@ -115,7 +115,7 @@ fn answer_table(
 {
     let mut short = [0u16; 2048];
     let len = sides::shorten(table, &mut short[..]);
-    let lows = numbers::lesser(terms::MAX_ROWS, places.len());
+    let lows = numbers::lesser(terms::MAX_ROWS + 1, places.len());
     let mut form = [0u16; 4096];
     let mut left = [0u16; 1024];
     let mut right = [0u16; 1024];
@@ -137,7 +137,7 @@ fn answer_table(
 fn solve_accepted(table: &[u16], widths: &[u16], answer: &mut [u16], work: &mut [u16]) -> Record
     ensures { λ r. ⌜ SolvesAccepted (now (table .entry)) (now (widths .entry)) (now (answer .entry)) (now (answer .exit)) (length (now (work .entry))) r ⌝ }
 {
-    let mut places = [0u16; 576];
+    let mut places = [0u16; 577];
     let bits = checker::place(table, &mut places[..]);
     let sources = numbers::lesser(numbers::lesser(bits, terms::MAX_BITS) + 2, work.len());
     answer_table(

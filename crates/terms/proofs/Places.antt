@@ -2,16 +2,15 @@
 use mathlib.Core.Path.{_≡_, refl, sym, _∙_, ap}
 use mathlib.Core.Bool.{Bool, true, false}
 use mathlib.Core.List.{List, [], _∷_}
-use Prim.Native.Nat.{ℕ, zero, suc, _+_, _<_, _≤_}
+use Prim.Native.Nat.{ℕ, zero, suc, _+_, _≤_}
 use native.Mathlib.Omega.{arith}
 use lib.Dec.{eqb}
-use lib.ListN.{length, take}
+use lib.ListN.{take}
 use borrow.Author.Tests.{eqb-true, eqb-false, eq-eqb, ne-eqb}
 use Rattle.terms.specs.declared.Row.{Row}
-use Rattle.terms.specs.Table.{rowAt, bitsIn, bitsOf, countKind}
-use Rattle.terms.specs.Places.{firstPlace, lowSource}
+use Rattle.terms.specs.Table.{bitsIn, bitsOf, countKind}
+use Rattle.terms.specs.Places.{firstPlace}
 use Rattle.terms.proofs.RowKinds.{of-variable, of-other, bits-variable, bits-other}
-use Rattle.terms.proofs.Widths.{bits-more, count-more}
 
 -- what a row adds in front
 pub count-variable : (r : Row) (t : List Row) → r .kind ≡ 0 → countKind 0 (r ∷ t) ≡ suc (countKind 0 t)
@@ -22,7 +21,7 @@ pub count-other : (r : Row) (t : List Row) → (r .kind ≡ 0 → ⊥) → count
 unfolding countKind
 count-other r t h = rw (ne-eqb (r .kind) 0 h) (omega arith)
 
-place-first : (t : List Row) → firstPlace t 0 ≡ 0
+pub place-first : (t : List Row) → firstPlace t 0 ≡ 0
 unfolding firstPlace
 place-first [] = refl
 place-first (r ∷ t) = refl
@@ -58,22 +57,10 @@ place-row (x ∷ t) (suc r) = go (eqb (x .kind) 0) refl (place-row t r)
         let k : x .kind ≡ 0 → ⊥ = eqb-false (x .kind) 0 e in
         ap (firstPlace (x ∷ t)) (count-other x (take r t) k) ∙ place-other x t c k ∙ omega (arith, bits-other x k)
 
--- a variable counts
-count-one : (t : List Row) (r : ℕ) → r < length t → rowAt t r .kind ≡ 0 → suc (countKind 0 (take r t)) ≡ countKind 0 (take (suc r) t)
-count-one t r h e = sym (count-more 0 t r h ∙ rw (eq-eqb (rowAt t r .kind) 0 e) (omega arith))
-
--- the low source of the variable that a row is
-pub low-row : (t : List Row) (r : ℕ) → r < length t → rowAt t r .kind ≡ 0 → lowSource t (countKind 0 (take r t)) ≡ bitsOf (take r t) + rowAt t r .a + 1
-low-row t r h e =
-    omega (arith, ap (firstPlace t) (count-one t r h e), place-row t (suc r), bits-more t r h, bits-variable (rowAt t r) e)
-
--- and its number is one of the variables'
-count-part : (t : List Row) (r : ℕ) → countKind 0 (take r t) ≤ countKind 0 t
+-- and its number is at most that of the variables
+pub count-part : (t : List Row) (r : ℕ) → countKind 0 (take r t) ≤ countKind 0 t
 unfolding countKind
 count-part [] zero = omega arith
 count-part [] (suc r) = omega arith
 count-part (x ∷ t) zero = omega arith
 count-part (x ∷ t) (suc r) = omega (arith, count-part t r)
-
-pub number-small : (t : List Row) (r : ℕ) → r < length t → rowAt t r .kind ≡ 0 → countKind 0 (take r t) < countKind 0 t
-number-small t r h e = omega (arith, count-one t r h e, count-part t (suc r))

@@ -14,16 +14,20 @@ firstPlace [] v = 0
 firstPlace (r ∷ rs) zero = 0
 firstPlace (r ∷ rs) (suc v) = ifVariable r (r .a + firstPlace rs v) (firstPlace rs (suc v))
 
--- The source of a variable's low bit, which is the last before the next variable's first place.
+-- The source before that of its first place. So the source of a variable's low bit is the one before the next variable.
+abbrev pub sourceBefore : List Row → ℕ → ℕ
+sourceBefore t v = firstPlace t v + 1
+
 abbrev pub lowSource : List Row → ℕ → ℕ
-lowSource t v = firstPlace t (suc v) + 1
+lowSource t v = sourceBefore t (suc v)
 
 -- For an accepted table and room for 512 numbers: at each row's number, how many variables stand before the row.
 abbrev pub NumbersVariables : List ℕ → ℕ → List ℕ → Type 0
 NumbersVariables table room places =
     firstFault table ≡ Accepted → 512 ≤ room → (r : ℕ) → r < length (rowsOf table) → getD places r 0 ≡ countKind 0 (take r (rowsOf table))
 
--- For an accepted table and room for 64 numbers more: behind those, at each variable's number, the source of its low bit.
-abbrev pub FindsLows : List ℕ → ℕ → List ℕ → Type 0
-FindsLows table room places =
-    firstFault table ≡ Accepted → 576 ≤ room → (v : ℕ) → v < countKind 0 (rowsOf table) → getD places (512 + v) 0 ≡ lowSource (rowsOf table) v
+-- For an accepted table and room for 65 numbers more: behind those, at each variable's number, the source before it, and last the low
+-- source of the last variable.
+abbrev pub FindsSources : List ℕ → ℕ → List ℕ → Type 0
+FindsSources table room places =
+    firstFault table ≡ Accepted → 577 ≤ room → (v : ℕ) → v ≤ countKind 0 (rowsOf table) → getD places (512 + v) 0 ≡ sourceBefore (rowsOf table) v

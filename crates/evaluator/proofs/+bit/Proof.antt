@@ -6,17 +6,18 @@ use lib.ListN.{length, getD}
 use denote.Ref.{now}
 use Rattle.terms.specs.declared.Row.{Row}
 use Rattle.terms.specs.Table.{rowsOf, rowAt, widthOf, valueOf}
+use Rattle.terms.proofs.Rows.{rows-length}
 use Rattle.evaluator.specs.Ready.{Ready, IsTerm}
-use Rattle.evaluator.proofs.Bits.{first-lower, extract-left-over, variable-within, variable-bit, constant-small, constant-bit, left-term, right-term, left-lower, right-lower, left-bit, right-within, right-bit, cut-term, cut-lower, cut-within, cut-bit}
-use Prim.Native.Nat.{ℕ, _<_, _+_, _-_}
+use Rattle.evaluator.proofs.Bits.{row-small, number-small, first-lower, extract-left-over, variable-within, variable-bit, constant-small, constant-bit, left-term, right-term, left-lower, right-lower, left-bit, right-within, right-bit, cut-term, cut-lower, cut-within, cut-bit}
+use Prim.Native.Nat.{ℕ, _<_, _≤_, _+_, _-_}
 use borrow.Fn.Kinds.{In}
 use borrow.Fn.PlainCycle.{Measures, is, falls, and}
 use Rattle.evaluator.proofs.bit.Reads as bit
 use Rattle.evaluator.proofs.bit.Kinds as bit-kinds
 use Rattle.evaluator.proofs.+bit.Lts-bit as bit-lts
-use Rattle.rows.proofs.row_at.Reads as row-at-reads
+use Rattle.evaluator.proofs.row_of.Reads as row-of-reads
 use Rattle.numbers.proofs.wide.Reads as wide-reads
-use Rattle.evaluator.proofs.start.Reads as start-reads
+use Rattle.evaluator.proofs.source_before.Reads as source-reads
 use Rattle.evaluator.proofs.+bit.{statement}
 use Rattle.evaluator.proofs.+bit.Tie.{close}
 
@@ -30,99 +31,100 @@ abbrev bit-below : ℕ → In 4 bit-kinds.ps
 bit-below t = and 4 bit-kinds.ps (falls 4 bit-kinds.ps _<_ μ-bit t) bit.Pre
 
 -- the row that was read, and what its columns name
-kind-is : (t : ℕ) (d : bit-lts.After-wide2 (row-at-reads.Asked, row-at-reads.Learnt, wide-reads.Asked, wide-reads.Learnt, start-reads.Asked, start-reads.Learnt, bit-below t, bit.Post) (bit-at t) bit.Post) → d .before .before .row-at .result .kind ≡ rowAt (rowsOf (now (d .before .before .before .before .before .before .before .args .table))) (d .before .before .before .before .before .before .before .args .row) .kind
-kind-is t d = ap (λ (r : Row). r .kind) (d .before .before .row-at .ensures)
+kind-is : (t : ℕ) (d : bit-lts.After-wide2 (row-of-reads.Asked, row-of-reads.Learnt, wide-reads.Asked, wide-reads.Learnt, source-reads.Asked, source-reads.Learnt, bit-below t, bit.Post) (bit-at t) bit.Post) → d .before .before .row-of .result .kind ≡ rowAt (rowsOf (now (d .before .before .before .before .before .before .before .args .table))) (d .before .before .before .before .before .before .before .args .row) .kind
+kind-is t d = ap (λ (r : Row). r .kind) (d .before .before .row-of .ensures)
 
-a-is : (t : ℕ) (d : bit-lts.After-wide2 (row-at-reads.Asked, row-at-reads.Learnt, wide-reads.Asked, wide-reads.Learnt, start-reads.Asked, start-reads.Learnt, bit-below t, bit.Post) (bit-at t) bit.Post) → d .before .wide .result ≡ rowAt (rowsOf (now (d .before .before .before .before .before .before .before .args .table))) (d .before .before .before .before .before .before .before .args .row) .a
-a-is t d = d .before .wide .ensures .0 ∙ ap (λ (r : Row). r .a) (d .before .before .row-at .ensures)
+a-is : (t : ℕ) (d : bit-lts.After-wide2 (row-of-reads.Asked, row-of-reads.Learnt, wide-reads.Asked, wide-reads.Learnt, source-reads.Asked, source-reads.Learnt, bit-below t, bit.Post) (bit-at t) bit.Post) → d .before .wide .result ≡ rowAt (rowsOf (now (d .before .before .before .before .before .before .before .args .table))) (d .before .before .before .before .before .before .before .args .row) .a
+a-is t d = d .before .wide .ensures .0 ∙ ap (λ (r : Row). r .a) (d .before .before .row-of .ensures)
 
-b-is : (t : ℕ) (d : bit-lts.After-wide2 (row-at-reads.Asked, row-at-reads.Learnt, wide-reads.Asked, wide-reads.Learnt, start-reads.Asked, start-reads.Learnt, bit-below t, bit.Post) (bit-at t) bit.Post) → d .wide2 .result ≡ rowAt (rowsOf (now (d .before .before .before .before .before .before .before .args .table))) (d .before .before .before .before .before .before .before .args .row) .b
-b-is t d = d .wide2 .ensures .0 ∙ ap (λ (r : Row). r .b) (d .before .before .row-at .ensures)
+b-is : (t : ℕ) (d : bit-lts.After-wide2 (row-of-reads.Asked, row-of-reads.Learnt, wide-reads.Asked, wide-reads.Learnt, source-reads.Asked, source-reads.Learnt, bit-below t, bit.Post) (bit-at t) bit.Post) → d .wide2 .result ≡ rowAt (rowsOf (now (d .before .before .before .before .before .before .before .args .table))) (d .before .before .before .before .before .before .before .args .row) .b
+b-is t d = d .wide2 .ensures .0 ∙ ap (λ (r : Row). r .b) (d .before .before .row-of .ensures)
 
 -- what the function is asked for
-is-ready : (t : ℕ) (d : bit-lts.After-wide2 (row-at-reads.Asked, row-at-reads.Learnt, wide-reads.Asked, wide-reads.Learnt, start-reads.Asked, start-reads.Learnt, bit-below t, bit.Post) (bit-at t) bit.Post) → Ready (now (d .before .before .before .before .before .before .before .args .table)) (now (d .before .before .before .before .before .before .before .args .widths)) (now (d .before .before .before .before .before .before .before .args .places)) (now (d .before .before .before .before .before .before .before .args .pattern))
+is-ready : (t : ℕ) (d : bit-lts.After-wide2 (row-of-reads.Asked, row-of-reads.Learnt, wide-reads.Asked, wide-reads.Learnt, source-reads.Asked, source-reads.Learnt, bit-below t, bit.Post) (bit-at t) bit.Post) → Ready (now (d .before .before .before .before .before .before .before .args .table)) (now (d .before .before .before .before .before .before .before .args .widths)) (now (d .before .before .before .before .before .before .before .args .places)) (now (d .before .before .before .before .before .before .before .args .pattern))
 is-ready t d = d .before .before .before .before .before .before .before .pre .1 .0
 
-is-term : (t : ℕ) (d : bit-lts.After-wide2 (row-at-reads.Asked, row-at-reads.Learnt, wide-reads.Asked, wide-reads.Learnt, start-reads.Asked, start-reads.Learnt, bit-below t, bit.Post) (bit-at t) bit.Post) → IsTerm (now (d .before .before .before .before .before .before .before .args .table)) (d .before .before .before .before .before .before .before .args .row)
+is-term : (t : ℕ) (d : bit-lts.After-wide2 (row-of-reads.Asked, row-of-reads.Learnt, wide-reads.Asked, wide-reads.Learnt, source-reads.Asked, source-reads.Learnt, bit-below t, bit.Post) (bit-at t) bit.Post) → IsTerm (now (d .before .before .before .before .before .before .before .args .table)) (d .before .before .before .before .before .before .before .args .row)
 is-term t d = d .before .before .before .before .before .before .before .pre .1 .1 .0
 
-is-inside : (t : ℕ) (d : bit-lts.After-wide2 (row-at-reads.Asked, row-at-reads.Learnt, wide-reads.Asked, wide-reads.Learnt, start-reads.Asked, start-reads.Learnt, bit-below t, bit.Post) (bit-at t) bit.Post) → d .before .before .before .before .before .before .before .args .i < widthOf (rowsOf (now (d .before .before .before .before .before .before .before .args .table))) (d .before .before .before .before .before .before .before .args .row)
+is-inside : (t : ℕ) (d : bit-lts.After-wide2 (row-of-reads.Asked, row-of-reads.Learnt, wide-reads.Asked, wide-reads.Learnt, source-reads.Asked, source-reads.Learnt, bit-below t, bit.Post) (bit-at t) bit.Post) → d .before .before .before .before .before .before .before .args .i < widthOf (rowsOf (now (d .before .before .before .before .before .before .before .args .table))) (d .before .before .before .before .before .before .before .args .row)
 is-inside t d = d .before .before .before .before .before .before .before .pre .1 .1 .1
 
 -- the width that was read is that of the row named first
-width-is : (t : ℕ) (d : bit-lts.After-wide3 (row-at-reads.Asked, row-at-reads.Learnt, wide-reads.Asked, wide-reads.Learnt, start-reads.Asked, start-reads.Learnt, bit-below t, bit.Post) (bit-at t) bit.Post) → rowAt (rowsOf (now (d .before .before .before .before .before .before .before .before .before .before .before .args .table))) (d .before .before .before .before .before .before .before .before .before .before .before .args .row) .a < length (rowsOf (now (d .before .before .before .before .before .before .before .before .before .before .before .args .table)))
+width-is : (t : ℕ) (d : bit-lts.After-wide3 (row-of-reads.Asked, row-of-reads.Learnt, wide-reads.Asked, wide-reads.Learnt, source-reads.Asked, source-reads.Learnt, bit-below t, bit.Post) (bit-at t) bit.Post) → rowAt (rowsOf (now (d .before .before .before .before .before .before .before .before .before .before .before .args .table))) (d .before .before .before .before .before .before .before .before .before .before .before .args .row) .a < length (rowsOf (now (d .before .before .before .before .before .before .before .before .before .before .before .args .table)))
     → d .wide3 .result ≡ widthOf (rowsOf (now (d .before .before .before .before .before .before .before .before .before .before .before .args .table))) (rowAt (rowsOf (now (d .before .before .before .before .before .before .before .before .before .before .before .args .table))) (d .before .before .before .before .before .before .before .before .before .before .before .args .row) .a)
 width-is t d h =
     d .wide3 .ensures .0 ∙ ap (λ (n : ℕ). getD (now (d .before .before .before .before .before .before .before .before .before .before .before .args .widths)) n 0) (a-is t (d .before .before .before .before)) ∙ is-ready t (d .before .before .before .before) .widths-are _ h
 
--- where the variable begins
-start-is : (t : ℕ) (c : bit-lts.After-start (row-at-reads.Asked, row-at-reads.Learnt, wide-reads.Asked, wide-reads.Learnt, start-reads.Asked, start-reads.Learnt, bit-below t, bit.Post) (bit-at t) bit.Post) → c .start .result ≡ getD (now (c .before .before .before .before .before .before .before .before .before .args .places)) (512 + getD (now (c .before .before .before .before .before .before .before .before .before .args .places)) (c .before .before .before .before .before .before .before .before .before .args .row) 0) 0 - (rowAt (rowsOf (now (c .before .before .before .before .before .before .before .before .before .args .table))) (c .before .before .before .before .before .before .before .before .before .args .row) .a + 1)
-start-is t c = c .start .ensures ∙ ap (λ (r : Row). getD (now (c .before .before .before .before .before .before .before .before .before .args .places)) (512 + getD (now (c .before .before .before .before .before .before .before .before .before .args .places)) (c .before .before .before .before .before .before .before .before .before .args .row) 0) 0 - (r .a + 1)) (c .before .before .before .before .row-at .ensures)
-
 -- a variable's bit lies within the pattern
-start-within : (t : ℕ) (c : bit-lts.After-start (row-at-reads.Asked, row-at-reads.Learnt, wide-reads.Asked, wide-reads.Learnt, start-reads.Asked, start-reads.Learnt, bit-below t, bit.Post) (bit-at t) bit.Post) → c .start .result + c .before .before .before .before .before .before .before .before .before .args .i < length (now (c .before .before .before .before .before .before .before .before .before .args .pattern))
-start-within t c =
+bit-within : (t : ℕ) (c : bit-lts.After-source-before (row-of-reads.Asked, row-of-reads.Learnt, wide-reads.Asked, wide-reads.Learnt, source-reads.Asked, source-reads.Learnt, bit-below t, bit.Post) (bit-at t) bit.Post) → (1 ≤ c .source-before .result + c .before .before .before .before .before .before .before .before .before .args .i) × (c .source-before .result + c .before .before .before .before .before .before .before .before .before .args .i - 1 < length (now (c .before .before .before .before .before .before .before .before .before .args .pattern)))
+bit-within t c =
     let d = c .before .before in
-    variable-within _ _ _ _ (is-ready t d) _ (is-term t d) _ (is-inside t d) _ (start-is t c) (sym (kind-is t d) ∙ c .before .if1 .taken)
+    variable-within _ _ _ _ (is-ready t d) _ (is-term t d) _ (is-inside t d) _ (c .source-before .ensures .0) (sym (kind-is t d) ∙ c .before .if1 .taken)
 
 -- where neither a variable nor a constant was met, an earlier row is named first
-first-named : (t : ℕ) (d : bit-lts.Else2 (row-at-reads.Asked, row-at-reads.Learnt, wide-reads.Asked, wide-reads.Learnt, start-reads.Asked, start-reads.Learnt, bit-below t, bit.Post) (bit-at t) bit.Post) → rowAt (rowsOf (now (d .before .before .before .before .before .before .before .before .before .args .table))) (d .before .before .before .before .before .before .before .before .before .args .row) .a < d .before .before .before .before .before .before .before .before .before .args .row
+first-named : (t : ℕ) (d : bit-lts.Else2 (row-of-reads.Asked, row-of-reads.Learnt, wide-reads.Asked, wide-reads.Learnt, source-reads.Asked, source-reads.Learnt, bit-below t, bit.Post) (bit-at t) bit.Post) → rowAt (rowsOf (now (d .before .before .before .before .before .before .before .before .before .args .table))) (d .before .before .before .before .before .before .before .before .before .args .row) .a < d .before .before .before .before .before .before .before .before .before .args .row
 first-named t c =
     let d = c .before .before in
     first-lower _ _ _ _ (is-ready t d) _ (is-term t d) (λ h. c .before .if1 .left (kind-is t d ∙ h)) (λ h. c .if2 .left (kind-is t d ∙ h))
 
 -- what is left is an extraction
-cut-kind : (t : ℕ) (d : bit-lts.Else3 (row-at-reads.Asked, row-at-reads.Learnt, wide-reads.Asked, wide-reads.Learnt, start-reads.Asked, start-reads.Learnt, bit-below t, bit.Post) (bit-at t) bit.Post) → rowAt (rowsOf (now (d .before .before .before .before .before .before .before .before .before .before .before .before .args .table))) (d .before .before .before .before .before .before .before .before .before .before .before .before .args .row) .kind ≡ 3
+cut-kind : (t : ℕ) (d : bit-lts.Else3 (row-of-reads.Asked, row-of-reads.Learnt, wide-reads.Asked, wide-reads.Learnt, source-reads.Asked, source-reads.Learnt, bit-below t, bit.Post) (bit-at t) bit.Post) → rowAt (rowsOf (now (d .before .before .before .before .before .before .before .before .before .before .before .before .args .table))) (d .before .before .before .before .before .before .before .before .before .before .before .before .args .row) .kind ≡ 3
 cut-kind t c =
     let d = c .before .before .before .before .before in
     extract-left-over _ _ _ _ (is-ready t d) _ (is-term t d) (λ h. c .before .before .before .before .if1 .left (kind-is t d ∙ h)) (λ h. c .before .before .before .if2 .left (kind-is t d ∙ h))
     (λ h. c .if3 .left (kind-is t d ∙ h))
 
-bit-row-at-requires : (t : ℕ) → bit-lts.Need-row-at-requires (row-at-reads.Asked, row-at-reads.Learnt, wide-reads.Asked, wide-reads.Learnt, start-reads.Asked, start-reads.Learnt, bit-below t, bit.Post) (bit-at t) bit.Post
-bit-row-at-requires t c κs = tt
+bit-row-of-requires : (t : ℕ) → bit-lts.Need-row-of-requires (row-of-reads.Asked, row-of-reads.Learnt, wide-reads.Asked, wide-reads.Learnt, source-reads.Asked, source-reads.Learnt, bit-below t, bit.Post) (bit-at t) bit.Post
+bit-row-of-requires t c κs = omega (arith, c .before .before .before .before .pre .1 .1 .0 .there, rows-length (now (c .before .before .before .before .args .table)))
 
-bit-wide-requires : (t : ℕ) → bit-lts.Need-wide-requires (row-at-reads.Asked, row-at-reads.Learnt, wide-reads.Asked, wide-reads.Learnt, start-reads.Asked, start-reads.Learnt, bit-below t, bit.Post) (bit-at t) bit.Post
+bit-wide-requires : (t : ℕ) → bit-lts.Need-wide-requires (row-of-reads.Asked, row-of-reads.Learnt, wide-reads.Asked, wide-reads.Learnt, source-reads.Asked, source-reads.Learnt, bit-below t, bit.Post) (bit-at t) bit.Post
 bit-wide-requires t c κs = tt
 
-bit-wide-requires-2 : (t : ℕ) → bit-lts.Need-wide-requires-2 (row-at-reads.Asked, row-at-reads.Learnt, wide-reads.Asked, wide-reads.Learnt, start-reads.Asked, start-reads.Learnt, bit-below t, bit.Post) (bit-at t) bit.Post
+bit-wide-requires-2 : (t : ℕ) → bit-lts.Need-wide-requires-2 (row-of-reads.Asked, row-of-reads.Learnt, wide-reads.Asked, wide-reads.Learnt, source-reads.Asked, source-reads.Learnt, bit-below t, bit.Post) (bit-at t) bit.Post
 bit-wide-requires-2 t c κs = tt
 
-bit-start-requires : (t : ℕ) → bit-lts.Need-start-requires (row-at-reads.Asked, row-at-reads.Learnt, wide-reads.Asked, wide-reads.Learnt, start-reads.Asked, start-reads.Learnt, bit-below t, bit.Post) (bit-at t) bit.Post
-bit-start-requires t c κs = tt
+bit-source-before-requires : (t : ℕ) → bit-lts.Need-source-before-requires (row-of-reads.Asked, row-of-reads.Learnt, wide-reads.Asked, wide-reads.Learnt, source-reads.Asked, source-reads.Learnt, bit-below t, bit.Post) (bit-at t) bit.Post
+bit-source-before-requires t c κs =
+    let d = c .before in
+    (row-small _ _ _ _ (is-ready t d) _ (is-term t d), (number-small _ _ _ _ (is-ready t d) _ (is-term t d), is-ready t d .places-room))
 
-bit-add-result : (t : ℕ) → bit-lts.Need-add-result (row-at-reads.Asked, row-at-reads.Learnt, wide-reads.Asked, wide-reads.Learnt, start-reads.Asked, start-reads.Learnt, bit-below t, bit.Post) (bit-at t) bit.Post
-bit-add-result t c = omega (arith, start-within t c)
+bit-add-result : (t : ℕ) → bit-lts.Need-add-result (row-of-reads.Asked, row-of-reads.Learnt, wide-reads.Asked, wide-reads.Learnt, source-reads.Asked, source-reads.Learnt, bit-below t, bit.Post) (bit-at t) bit.Post
+bit-add-result t c = omega (arith, bit-within t c .1)
 
-bit-shared-slice-read-result : (t : ℕ) → bit-lts.Need-shared-slice-read-result (row-at-reads.Asked, row-at-reads.Learnt, wide-reads.Asked, wide-reads.Learnt, start-reads.Asked, start-reads.Learnt, bit-below t, bit.Post) (bit-at t) bit.Post
-bit-shared-slice-read-result t c = start-within t (c .before)
+bit-sub-result : (t : ℕ) → bit-lts.Need-sub-result (row-of-reads.Asked, row-of-reads.Learnt, wide-reads.Asked, wide-reads.Learnt, source-reads.Asked, source-reads.Learnt, bit-below t, bit.Post) (bit-at t) bit.Post
+bit-sub-result t c = bit-within t c .0
 
-bit-returns : (t : ℕ) → bit-lts.Need-returns (row-at-reads.Asked, row-at-reads.Learnt, wide-reads.Asked, wide-reads.Learnt, start-reads.Asked, start-reads.Learnt, bit-below t, bit.Post) (bit-at t) bit.Post
+bit-shared-slice-read-result : (t : ℕ) → bit-lts.Need-shared-slice-read-result (row-of-reads.Asked, row-of-reads.Learnt, wide-reads.Asked, wide-reads.Learnt, source-reads.Asked, source-reads.Learnt, bit-below t, bit.Post) (bit-at t) bit.Post
+bit-shared-slice-read-result t c = bit-within t (c .before) .1
+
+bit-returns : (t : ℕ) → bit-lts.Need-returns (row-of-reads.Asked, row-of-reads.Learnt, wide-reads.Asked, wide-reads.Learnt, source-reads.Asked, source-reads.Learnt, bit-below t, bit.Post) (bit-at t) bit.Post
 bit-returns t c =
     let d = c .before .before .before in
-    variable-bit _ _ _ _ (is-ready t d) _ (is-term t d) _ (is-inside t d) _ (start-is t (c .before)) (sym (kind-is t d) ∙ c .before .before .if1 .taken)
+    variable-bit _ _ _ _ (is-ready t d) _ (is-term t d) _ (is-inside t d) _ (c .before .source-before .ensures .0) (sym (kind-is t d) ∙ c .before .before .if1 .taken)
 
-bit-cast-result : (t : ℕ) → bit-lts.Need-cast-result (row-at-reads.Asked, row-at-reads.Learnt, wide-reads.Asked, wide-reads.Learnt, start-reads.Asked, start-reads.Learnt, bit-below t, bit.Post) (bit-at t) bit.Post
+bit-cast-result : (t : ℕ) → bit-lts.Need-cast-result (row-of-reads.Asked, row-of-reads.Learnt, wide-reads.Asked, wide-reads.Learnt, source-reads.Asked, source-reads.Learnt, bit-below t, bit.Post) (bit-at t) bit.Post
 bit-cast-result t c =
     let d = c .before .before in
     omega (arith, a-is t d, constant-small _ _ _ _ (is-ready t d) _ (is-term t d) _ (is-inside t d) (sym (kind-is t d) ∙ c .if2 .taken))
 
-bit-returns-2 : (t : ℕ) → bit-lts.Need-returns-2 (row-at-reads.Asked, row-at-reads.Learnt, wide-reads.Asked, wide-reads.Learnt, start-reads.Asked, start-reads.Learnt, bit-below t, bit.Post) (bit-at t) bit.Post
+bit-returns-2 : (t : ℕ) → bit-lts.Need-returns-2 (row-of-reads.Asked, row-of-reads.Learnt, wide-reads.Asked, wide-reads.Learnt, source-reads.Asked, source-reads.Learnt, bit-below t, bit.Post) (bit-at t) bit.Post
 bit-returns-2 t c =
     let d = c .before .before in
     a-is t d ∙ constant-bit _ _ _ _ (is-ready t d) _ (is-term t d) _ (is-inside t d) (sym (kind-is t d) ∙ c .if2 .taken)
 
-bit-mul-wide : (t : ℕ) → bit-lts.Need-mul-wide (row-at-reads.Asked, row-at-reads.Learnt, wide-reads.Asked, wide-reads.Learnt, start-reads.Asked, start-reads.Learnt, bit-below t, bit.Post) (bit-at t) bit.Post
+bit-mul-wide : (t : ℕ) → bit-lts.Need-mul-wide (row-of-reads.Asked, row-of-reads.Learnt, wide-reads.Asked, wide-reads.Learnt, source-reads.Asked, source-reads.Learnt, bit-below t, bit.Post) (bit-at t) bit.Post
 bit-mul-wide t c = omega arith
 
-bit-shared-slice-read-wide : (t : ℕ) → bit-lts.Need-shared-slice-read-wide (row-at-reads.Asked, row-at-reads.Learnt, wide-reads.Asked, wide-reads.Learnt, start-reads.Asked, start-reads.Learnt, bit-below t, bit.Post) (bit-at t) bit.Post
+bit-shared-slice-read-wide : (t : ℕ) → bit-lts.Need-shared-slice-read-wide (row-of-reads.Asked, row-of-reads.Learnt, wide-reads.Asked, wide-reads.Learnt, source-reads.Asked, source-reads.Learnt, bit-below t, bit.Post) (bit-at t) bit.Post
 bit-shared-slice-read-wide t c =
     let d = c .before .before .before in
     omega (arith, a-is t d, first-named t (c .before), is-ready t d .widths-room, is-term t d .there)
 
-bit-wide-requires-3 : (t : ℕ) → bit-lts.Need-wide-requires-3 (row-at-reads.Asked, row-at-reads.Learnt, wide-reads.Asked, wide-reads.Learnt, start-reads.Asked, start-reads.Learnt, bit-below t, bit.Post) (bit-at t) bit.Post
+bit-wide-requires-3 : (t : ℕ) → bit-lts.Need-wide-requires-3 (row-of-reads.Asked, row-of-reads.Learnt, wide-reads.Asked, wide-reads.Learnt, source-reads.Asked, source-reads.Learnt, bit-below t, bit.Post) (bit-at t) bit.Post
 bit-wide-requires-3 t c κs = tt
 
-bit-bit-requires : (t : ℕ) → bit-lts.Need-bit-requires (row-at-reads.Asked, row-at-reads.Learnt, wide-reads.Asked, wide-reads.Learnt, start-reads.Asked, start-reads.Learnt, bit-below t, bit.Post) (bit-at t) bit.Post
+bit-bit-requires : (t : ℕ) → bit-lts.Need-bit-requires (row-of-reads.Asked, row-of-reads.Learnt, wide-reads.Asked, wide-reads.Learnt, source-reads.Asked, source-reads.Learnt, bit-below t, bit.Post) (bit-at t) bit.Post
 bit-bit-requires t c κs =
     let d = c .before .before .before .before .before .before in
     let e = sym (kind-is t d) ∙ c .before .if3 .taken in
@@ -132,7 +134,7 @@ bit-bit-requires t c κs =
       (is-ready t d, (rw (a-is t d) named, rw (a-is t d) (omega (arith, c .if4 .taken, width-is t (c .before .before) (named .there))))),
     )
 
-bit-returns-3 : (t : ℕ) → bit-lts.Need-returns-3 (row-at-reads.Asked, row-at-reads.Learnt, wide-reads.Asked, wide-reads.Learnt, start-reads.Asked, start-reads.Learnt, bit-below t, bit.Post) (bit-at t) bit.Post
+bit-returns-3 : (t : ℕ) → bit-lts.Need-returns-3 (row-of-reads.Asked, row-of-reads.Learnt, wide-reads.Asked, wide-reads.Learnt, source-reads.Asked, source-reads.Learnt, bit-below t, bit.Post) (bit-at t) bit.Post
 bit-returns-3 t c =
     let d = c .before .before .before .before .before .before .before in
     let e = sym (kind-is t d) ∙ c .before .before .if3 .taken in
@@ -141,7 +143,7 @@ bit-returns-3 t c =
     ∙ ap (λ (n : ℕ). getD (valueOf (rowsOf (now (c .before .before .before .before .before .before .before .before .before .before .before .before .before .before .args .table))) (now (c .before .before .before .before .before .before .before .before .before .before .before .before .before .before .args .pattern)) n) (c .before .before .before .before .before .before .before .before .before .before .before .before .before .before .args .i) 0) (a-is t d)
     ∙ left-bit _ _ _ _ (is-ready t d) _ (is-term t d) _ (is-inside t d) e (omega (arith, c .before .if4 .taken, width-is t (c .before .before .before) (named .there)))
 
-bit-bit-requires-2 : (t : ℕ) → bit-lts.Need-bit-requires-2 (row-at-reads.Asked, row-at-reads.Learnt, wide-reads.Asked, wide-reads.Learnt, start-reads.Asked, start-reads.Learnt, bit-below t, bit.Post) (bit-at t) bit.Post
+bit-bit-requires-2 : (t : ℕ) → bit-lts.Need-bit-requires-2 (row-of-reads.Asked, row-of-reads.Learnt, wide-reads.Asked, wide-reads.Learnt, source-reads.Asked, source-reads.Learnt, bit-below t, bit.Post) (bit-at t) bit.Post
 bit-bit-requires-2 t c κs =
     let d = c .before .before .before .before .before .before in
     let e = sym (kind-is t d) ∙ c .before .if3 .taken in
@@ -154,7 +156,7 @@ bit-bit-requires-2 t c κs =
       (is-ready t d, (rw (b-is t d) named, rw (b-is t d, w) in-right)),
     )
 
-bit-returns-4 : (t : ℕ) → bit-lts.Need-returns-4 (row-at-reads.Asked, row-at-reads.Learnt, wide-reads.Asked, wide-reads.Learnt, start-reads.Asked, start-reads.Learnt, bit-below t, bit.Post) (bit-at t) bit.Post
+bit-returns-4 : (t : ℕ) → bit-lts.Need-returns-4 (row-of-reads.Asked, row-of-reads.Learnt, wide-reads.Asked, wide-reads.Learnt, source-reads.Asked, source-reads.Learnt, bit-below t, bit.Post) (bit-at t) bit.Post
 bit-returns-4 t c =
     let d = c .before .before .before .before .before .before .before in
     let e = sym (kind-is t d) ∙ c .before .before .if3 .taken in
@@ -164,24 +166,24 @@ bit-returns-4 t c =
     ∙ ap₂ (λ (n k : ℕ). getD (valueOf (rowsOf (now (c .before .before .before .before .before .before .before .before .before .before .before .before .before .before .args .table))) (now (c .before .before .before .before .before .before .before .before .before .before .before .before .before .before .args .pattern)) n) (c .before .before .before .before .before .before .before .before .before .before .before .before .before .before .args .i - k) 0) (b-is t d) w
     ∙ right-bit _ _ _ _ (is-ready t d) _ (is-term t d) _ (is-inside t d) e (omega (arith, c .before .if4 .left, w))
 
-bit-add-bit : (t : ℕ) → bit-lts.Need-add-bit (row-at-reads.Asked, row-at-reads.Learnt, wide-reads.Asked, wide-reads.Learnt, start-reads.Asked, start-reads.Learnt, bit-below t, bit.Post) (bit-at t) bit.Post
+bit-add-bit : (t : ℕ) → bit-lts.Need-add-bit (row-of-reads.Asked, row-of-reads.Learnt, wide-reads.Asked, wide-reads.Learnt, source-reads.Asked, source-reads.Learnt, bit-below t, bit.Post) (bit-at t) bit.Post
 bit-add-bit t c = omega arith
 
-bit-sub-bit : (t : ℕ) → bit-lts.Need-sub-bit (row-at-reads.Asked, row-at-reads.Learnt, wide-reads.Asked, wide-reads.Learnt, start-reads.Asked, start-reads.Learnt, bit-below t, bit.Post) (bit-at t) bit.Post
+bit-sub-bit : (t : ℕ) → bit-lts.Need-sub-bit (row-of-reads.Asked, row-of-reads.Learnt, wide-reads.Asked, wide-reads.Learnt, source-reads.Asked, source-reads.Learnt, bit-below t, bit.Post) (bit-at t) bit.Post
 bit-sub-bit t c =
     let k = cut-kind t c in
     let d = c .before .before .before .before .before in
     let named = cut-term _ _ _ _ (is-ready t d) _ (is-term t d) _ (is-inside t d) k in
     omega (arith, b-is t d, width-is t (c .before) (named .there), cut-within _ _ _ _ (is-ready t d) _ (is-term t d) _ (is-inside t d) k .0)
 
-bit-add-bit-2 : (t : ℕ) → bit-lts.Need-add-bit-2 (row-at-reads.Asked, row-at-reads.Learnt, wide-reads.Asked, wide-reads.Learnt, start-reads.Asked, start-reads.Learnt, bit-below t, bit.Post) (bit-at t) bit.Post
+bit-add-bit-2 : (t : ℕ) → bit-lts.Need-add-bit-2 (row-of-reads.Asked, row-of-reads.Learnt, wide-reads.Asked, wide-reads.Learnt, source-reads.Asked, source-reads.Learnt, bit-below t, bit.Post) (bit-at t) bit.Post
 bit-add-bit-2 t c =
     let k = cut-kind t c in
     let d = c .before .before .before .before .before in
     let named = cut-term _ _ _ _ (is-ready t d) _ (is-term t d) _ (is-inside t d) k in
     omega (arith, c .before .wide3 .ensures .1, b-is t d, width-is t (c .before) (named .there), cut-within _ _ _ _ (is-ready t d) _ (is-term t d) _ (is-inside t d) k .1)
 
-bit-bit-requires-3 : (t : ℕ) → bit-lts.Need-bit-requires-3 (row-at-reads.Asked, row-at-reads.Learnt, wide-reads.Asked, wide-reads.Learnt, start-reads.Asked, start-reads.Learnt, bit-below t, bit.Post) (bit-at t) bit.Post
+bit-bit-requires-3 : (t : ℕ) → bit-lts.Need-bit-requires-3 (row-of-reads.Asked, row-of-reads.Learnt, wide-reads.Asked, wide-reads.Learnt, source-reads.Asked, source-reads.Learnt, bit-below t, bit.Post) (bit-at t) bit.Post
 bit-bit-requires-3 t c κs =
     let k = cut-kind t c in
     let d = c .before .before .before .before .before in
@@ -197,7 +199,7 @@ bit-bit-requires-3 t c κs =
       ),
     )
 
-bit-returns-5 : (t : ℕ) → bit-lts.Need-returns-5 (row-at-reads.Asked, row-at-reads.Learnt, wide-reads.Asked, wide-reads.Learnt, start-reads.Asked, start-reads.Learnt, bit-below t, bit.Post) (bit-at t) bit.Post
+bit-returns-5 : (t : ℕ) → bit-lts.Need-returns-5 (row-of-reads.Asked, row-of-reads.Learnt, wide-reads.Asked, wide-reads.Learnt, source-reads.Asked, source-reads.Learnt, bit-below t, bit.Post) (bit-at t) bit.Post
 bit-returns-5 t c =
     let k = cut-kind t (c .before) in
     let d = c .before .before .before .before .before .before in
@@ -210,22 +212,23 @@ bit-returns-5 t c =
 
 pub +bit-spec : {M : Type 1} → statement M
 +bit-spec = close μ-bit λ t. bit-lts.spec (
-  row-at-reads.Asked,
-  row-at-reads.Learnt,
+  row-of-reads.Asked,
+  row-of-reads.Learnt,
   wide-reads.Asked,
   wide-reads.Learnt,
-  start-reads.Asked,
-  start-reads.Learnt,
+  source-reads.Asked,
+  source-reads.Learnt,
   bit-below t,
   bit.Post,
 )
     (bit-at t)
     bit.Post
-    (bit-row-at-requires t)
+    (bit-row-of-requires t)
     (bit-wide-requires t)
     (bit-wide-requires-2 t)
-    (bit-start-requires t)
+    (bit-source-before-requires t)
     (bit-add-result t)
+    (bit-sub-result t)
     (bit-shared-slice-read-result t)
     (bit-returns t)
     (bit-cast-result t)

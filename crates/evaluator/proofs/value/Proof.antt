@@ -73,7 +73,8 @@ is-ready d =
       accepted = f;
       widths-are = λ r h. ap (λ (l : List ℕ). getD l r 0) (d .before .before .before .before .before .before .before .before .before .before .before .check .ensures .1) ∙ widths-left _ (replicate 512 0) refl f r h;
       variables-are = d .before .before .before .before .place .ensures .1 .0 f (omega arith);
-      lows-are = d .before .before .before .before .place .ensures .1 .1 f (omega arith);
+      sources-are = d .before .before .before .before .place .ensures .1 .1 f (omega arith);
+      places-room = omega (arith, d .before .before .before .before .place .kept .1 .0);
       widths-room = omega (arith, t .few, d .before .before .before .before .before .before .before .before .before .before .before .check .kept .1 .0);
       whole = sym (d .before .before .if3 .left) ∙ bits-are (d .before .before .before .before);
     }

@@ -12,7 +12,7 @@ use Rattle.terms.proofs.AcceptedTable.{accepted-table}
 use Rattle.terms.proofs.Faults.{totals-small}
 use Rattle.sides.specs.Sides.{Prepared}
 use Rattle.solver.specs.Equations.{unlinked}
-use Rattle.solver.proofs.ShortCopy.{behind-rows, copy-length, copy-bits, copy-prepared, copy-taken}
+use Rattle.solver.proofs.ShortCopy.{lows-part, copy-length, copy-bits, copy-prepared, copy-taken}
 use borrow.Author.Needs.{needs}
 use Rattle.solver.proofs.answer_table.Statement.{statement}
 use Rattle.solver.proofs.answer_table.Tie as tie
@@ -22,6 +22,9 @@ slice-aggregate-shorten c = search needs
 
 shorten-requires : tie.Need-shorten-requires
 shorten-requires c κs = search needs
+
+add-lesser : tie.Need-add-lesser
+add-lesser c = search needs
 
 lesser-requires : tie.Need-lesser-requires
 lesser-requires c κs = search needs
@@ -70,7 +73,7 @@ same-length-2 c = search needs
 
 returns : tie.Need-returns
 returns c =
-    λ accepted widths variables lows long bits len room.
+    λ accepted widths variables sources long bits len room.
     let table = now (c .before .before .before .before .before .before .before .before .before .before .before .before .before .before .before .before .before .before .before .before .before .before .before .before .before .before .before .before .before .before .before .before .args .table) in
     let totals = rw (take-length (rowsOf table)) at (totals-small (rowsOf table) (length (rowsOf table)) (accepted-table table accepted .sound)) in
     let made = c .before .before .before .before .before .before .before .before .before .before .before .before .before .before .before .before .before .before .before .before .before .before .before .before .before .shorten .ensures .1 accepted (omega arith) in
@@ -79,7 +82,7 @@ returns c =
     let places = now (c .before .before .before .before .before .before .before .before .before .before .before .before .before .before .before .before .before .before .before .before .before .before .before .before .before .before .before .before .before .before .before .before .args .places) in
     let ready : Prepared short (now (c .before .before .before .before .before .before .before .before .before .before .before .before .before .before .before .before .before .before .before .before .before .before .before .before .before .before .before .before .before .before .before .before .args .widths)) places (take (length places - c .before .before .before .before .before .before .before .before .before .before .before .before .before .before .before .before .before .before .before .before .before .before .before .lesser .result) (drop (c .before .before .before .before .before .before .before .before .before .before .before .before .before .before .before .before .before .before .before .before .before .before .before .lesser .result) places)) =
     copy-prepared table short accepted size (made .1) _ _ _ widths variables
-    (λ v h. behind-rows places (c .before .before .before .before .before .before .before .before .before .before .before .before .before .before .before .before .before .before .before .before .before .before .before .lesser .result) v (c .before .before .before .before .before .before .before .before .before .before .before .before .before .before .before .before .before .before .before .before .before .before .before .lesser .ensures .0) long (omega (arith, totals .0)) ∙ lows v h) in
+    (λ v h. lows-part places (c .before .before .before .before .before .before .before .before .before .before .before .before .before .before .before .before .before .before .before .before .before .before .before .lesser .result) v (c .before .before .before .before .before .before .before .before .before .before .before .before .before .before .before .before .before .before .before .before .before .before .before .lesser .ensures .0) long (omega (arith, totals .0)) ∙ sources (suc v) h) in
     let alone : c .before .before .before .before .before .before .before .before .before .before .before .before .before .before .before .before .before .before .before .before .before .unlink .last .0 ≡ unlinked (rowsOf short) =
     c .before .before .before .before .before .before .before .before .before .before .before .before .before .before .before .before .before .before .before .before .before .unlink .ensures (omega (arith, len, totals .1)) ∙ ap (countUp 0) len ∙ ap (λ (n : ℕ). countUp 0 (suc (suc n))) (sym (copy-bits table short accepted size (made .1))) in
     let taken = c .before .before .before .before .before .before .before .before .before .before .before .before .take-equations .ensures ready (omega arith) (omega arith) (omega arith) alone in
@@ -91,6 +94,7 @@ answer-table-spec =
     (tie.spec
     slice-aggregate-shorten
     shorten-requires
+    add-lesser
     lesser-requires
     unlink-requires
     array-share-prefix-short
