@@ -1,6 +1,6 @@
 -- What was appended to a buffer's form: sources one after the other, and the sources of one piece.
 use mathlib.Core.Path.{_≡_, refl, sym, _∙_, ap}
-use mathlib.Core.List.{List, [], _∷_, _++_, map, append-assoc}
+use mathlib.Core.List.{List, [], _∷_, _++_, map, append-assoc, append-nil}
 use Prim.Native.Nat.{ℕ, _+_, _-_, _≤_}
 use native.Mathlib.Omega.{arith}
 use lib.ListN.{length, length-append}
@@ -19,6 +19,9 @@ use Rattle.forms.proofs.Units.{form-proper, form-width, form-count}
 use Rattle.terms.specs.Table.{sourceOf}
 
 -- nothing, and one after the other
+pub appended-none : (t : List Row) (n : ℕ) (out : List ℕ) → Appended t [] n out n out
+appended-none t n out earlier base small room has = rw append-nil has
+
 pub appended-both : (t : List Row) (xs ys : List ℕ) (n m k : ℕ) (out out₁ out₂ : List ℕ)
     → Appended t xs n out m out₁ → Appended t ys m out₁ k out₂ → Appended t (xs ++ ys) n out k out₂
 appended-both t xs ys n m k out out₁ out₂ f g earlier base small room has =

@@ -1,23 +1,27 @@
 -- What the form functions append, case by case, from what the calls in them append (document 001, figure 3).
 use mathlib.Core.Path.{_≡_, refl, sym, _∙_, ap}
 use mathlib.Core.Bool.{Bool, true, false}
-use mathlib.Core.List.{List}
+use mathlib.Core.List.{List, [], _∷_, _++_, append-nil}
+use mathlib.Core.Logic.{_⊎_, inl, inr}
 use Prim.Native.Nat.{ℕ, _+_, _-_, _%_, _<_, _≤_}
 use native.Mathlib.Omega.{arith}
-use lib.Dec.{eqb}
+use lib.Dec.{eqb, ltb}
 use lib.ListN.{getD}
-use borrow.Author.Tests.{eqb-true, eqb-false}
+use borrow.Author.Tests.{eqb-true, eqb-false, eq-eqb, ne-eqb, lt-ltb, le-ltb}
 use Rattle.laws.proofs.Bools.{or-first, or-second}
+use Rattle.laws.proofs.Numbers.{lt-or-le}
 use Rattle.terms.specs.declared.Row.{Row}
-use Rattle.terms.specs.Table.{rowsOf, rowAt, widthOf}
+use Rattle.terms.specs.Table.{rowsOf, rowAt, widthOf, sourceOf, extract}
 use Rattle.terms.specs.Faults.{absent}
-use Rattle.forms.specs.Form.{part, fill}
+use Rattle.forms.specs.declared.Piece.{Piece}
+use Rattle.forms.specs.Form.{part, formFrom}
 use Rattle.forms.specs.Numbered.{Numbered}
 use Rattle.forms.proofs.RowForms.{width-some, width-read, whole-cut, first-earlier, concat-left, variable-cut, constant-cut, cut-there, cut-bounds, cut-sources, shifted-within, shifted-small, cut-cut, left-there, right-there, right-earlier, both-sources, right-cut, left-cut, left-within, across}
 use Rattle.pieces.specs.Pieces.{pushedCount, pushedNumbers}
 use Rattle.appender.specs.declared.Cut.{Cut}
-use Rattle.appender.specs.Append.{AppendsForm, AppendsCut, isLeaf}
-use Rattle.appender.proofs.Appending.{appended-push, appended-same, appended-both}
+use Rattle.appender.specs.declared.Part.{Part}
+use Rattle.appender.specs.Cuts.{isLeaf, leafPiece, AppendsForm, AppendsCut, leftBits, rightBits, partSources, Within, AppendsPart, AppendsParts}
+use Rattle.appender.proofs.Appending.{appended-none, appended-push, appended-same, appended-both}
 
 -- a row that is no leaf is neither a variable nor a constant
 no-variable : (kind : ℕ) → isLeaf kind ≡ false → kind ≡ 0 → ⊥
@@ -28,19 +32,17 @@ no-constant : (kind : ℕ) → isLeaf kind ≡ false → kind ≡ 1 → ⊥
 unfolding isLeaf
 no-constant kind h = eqb-false kind 1 (or-second (eqb kind 0) (eqb kind 1) h)
 
-leaf-kind : (kind : ℕ) → isLeaf kind ≡ true → kind ≤ 1
+leaf-kind : (kind : ℕ) → isLeaf kind ≡ true → (kind ≡ 0) ⊎ (kind ≡ 1)
 unfolding isLeaf
 leaf-kind kind h = go (eqb kind 0) refl
   where
-    go : (b : Bool) → eqb kind 0 ≡ b → kind ≤ 1
-    go true e = omega (arith, eqb-true kind 0 e)
-    go false e = omega (arith, eqb-true kind 1 (rw e at h))
+    go : (b : Bool) → eqb kind 0 ≡ b → (kind ≡ 0) ⊎ (kind ≡ 1)
+    go true e = inl (eqb-true kind 0 e)
+    go false e = inr (eqb-true kind 1 (rw e at h))
 
-pub leaf-is : (table : List ℕ) (row : ℕ) (r : Row) → r ≡ rowAt (rowsOf table) row → isLeaf (r .kind) ≡ true → isLeaf (rowAt (rowsOf table) row .kind) ≡ true
-leaf-is table row r read e = sym (ap (λ (x : Row). isLeaf (x .kind)) read) ∙ e
-
--- a function at a row, which it read as r
-module _ (table widths variables : List ℕ) (row : ℕ) (r : Row) (read : r ≡ rowAt (rowsOf table) row) where
+-- a row of an accepted table, which was read as r
+module _ (table widths variables : List ℕ) (num : Numbered table widths variables) (row : ℕ) (there : absent (rowsOf table) row ≡ false)
+    (r : Row) (read : r ≡ rowAt (rowsOf table) row) where
   abbrev rows : List Row
   rows = rowsOf table
 
@@ -50,155 +52,235 @@ module _ (table widths variables : List ℕ) (row : ℕ) (r : Row) (read : r ≡
   kind-is : r .kind ≡ at .kind
   kind-is = ap (λ (x : Row). x .kind) read
 
-  a-is : r .a ≡ at .a
-  a-is = ap (λ (x : Row). x .a) read
+  -- bits of a leaf are one piece
+  leaf-cut : isLeaf (r .kind) ≡ true → (high low : ℕ) → low ≤ high → high < widthOf rows row
+      → formFrom rows (extract (sourceOf rows row) high low) ≡ leafPiece r (getD variables row 0) high low ∷ []
+  unfolding leafPiece
+  leaf-cut e high low l h = go (leaf-kind (r .kind) e)
+    where
+      go : (r .kind ≡ 0) ⊎ (r .kind ≡ 1) → formFrom rows (extract (sourceOf rows row) high low) ≡ leafPiece r (getD variables row 0) high low ∷ []
+      go (inl k) = rw (eq-eqb (r .kind) 0 k) (variable-cut table widths variables num row there (sym kind-is ∙ k) high low l h)
+      go (inr k) = rw (k, ap (λ (x : Row). x .a) read) (constant-cut table widths variables num row there (sym kind-is ∙ k) high low l h)
 
-  b-is : r .b ≡ at .b
-  b-is = ap (λ (x : Row). x .b) read
+  leaf-wide : isLeaf (r .kind) ≡ true → 1 ≤ widthOf rows row
+  leaf-wide e = go (leaf-kind (r .kind) e)
+    where
+      go : (r .kind ≡ 0) ⊎ (r .kind ≡ 1) → 1 ≤ widthOf rows row
+      go (inl k) = width-some table widths variables num row there (omega (arith, kind-is))
+      go (inr k) = width-some table widths variables num row there (omega (arith, kind-is))
 
-  c-is : r .c ≡ at .c
-  c-is = ap (λ (x : Row). x .c) read
+  -- what is named is earlier
+  named-first : isLeaf (r .kind) ≡ false → r .a < row
+  named-first inner =
+      omega (
+        arith,
+        ap (λ (x : Row). x .a) read,
+        first-earlier table widths variables num row there (λ h. no-variable (r .kind) inner (kind-is ∙ h)) (λ h. no-constant (r .kind) inner (kind-is ∙ h)),
+      )
 
-  -- an accepted table names earlier rows only
-  module _ (num : Numbered table widths variables) (there : absent rows row ≡ false) where
-    pub join-left-over : isLeaf (r .kind) ≡ false → (r .kind ≡ 3 → ⊥) → at .kind ≡ 2
-    join-left-over inner other =
-        concat-left table widths variables num row there (λ h. no-variable (r .kind) inner (kind-is ∙ h)) (λ h. no-constant (r .kind) inner (kind-is ∙ h)) (λ h. other (kind-is ∙ h))
+  is-join : isLeaf (r .kind) ≡ false → (r .kind ≡ 3 → ⊥) → at .kind ≡ 2
+  is-join inner other =
+      concat-left table widths variables num row there (λ h. no-variable (r .kind) inner (kind-is ∙ h)) (λ h. no-constant (r .kind) inner (kind-is ∙ h)) (λ h. other (kind-is ∙ h))
 
-    pub first-not-later : isLeaf (r .kind) ≡ false → (a : ℕ) → a ≡ r .a → row ≤ a → ⊥
-    first-not-later inner a e l =
-        omega (arith, a-is, first-earlier table widths variables num row there (λ h. no-variable (r .kind) inner (kind-is ∙ h)) (λ h. no-constant (r .kind) inner (kind-is ∙ h)))
+  named-second : isLeaf (r .kind) ≡ false → (r .kind ≡ 3 → ⊥) → r .b < row
+  named-second inner other = omega (arith, ap (λ (x : Row). x .b) read, right-earlier table widths variables num row there (is-join inner other))
 
-    pub join-first-not-later : at .kind ≡ 2 → (a : ℕ) → a ≡ r .a → row ≤ a → ⊥
-    unfolding isLeaf
-    join-first-not-later e a = first-not-later (ap isLeaf (kind-is ∙ e)) a
+-- `put_form` at a row, which it read as r
+module _ (table widths variables : List ℕ) (row : ℕ) (r : Row) (read : r ≡ rowAt (rowsOf table) row) (n : ℕ) (out : List ℕ) (m : ℕ) (out′ : List ℕ) where
+  pub form-leaf : isLeaf (r .kind) ≡ true → (v high : ℕ) → v ≡ getD variables row 0 → high ≡ getD widths row 0 - 1 → (q : Piece) → q ≡ leafPiece r v high 0
+      → m ≡ pushedCount out n q → out′ ≡ pushedNumbers out n q → AppendsForm table widths variables row n out m out′
+  form-leaf e v high ev eh q eq em eo num there =
+      let w = width-read table widths variables num row there row there in
+      let some = leaf-wide table widths variables num row there r read e in
+      let whole = whole-cut table widths variables num row there high 0 (omega arith) refl in
+      appended-push _ _ q
+      (ap (formFrom (rowsOf table)) (sym whole) ∙ leaf-cut table widths variables num row there r read e high 0 (omega arith) (omega arith) ∙ rw (eq, ev))
+      n out m out′ em eo
 
-    pub join-second-not-later : at .kind ≡ 2 → (b : ℕ) → b ≡ r .b → row ≤ b → ⊥
-    join-second-not-later e b eb l = omega (arith, b-is, right-earlier table widths variables num row there e)
+  pub form-first-later : isLeaf (r .kind) ≡ false → (a : ℕ) → a ≡ r .a → row ≤ a → AppendsForm table widths variables row n out m out′
+  form-first-later inner a ea l num there = absurd (omega (arith, named-first table widths variables num row there r read inner))
 
-  -- the form of a row
-  module _ (n : ℕ) (out : List ℕ) (m : ℕ) (out′ : List ℕ) where
-    pub form-of-leaf : isLeaf (r .kind) ≡ true → (w : ℕ) → w ≡ getD widths row 0 - 1 → (k : Cut) → k ≡ record { row = row; high = w; low = 0 }
-        → (isLeaf (rowAt rows (k .row) .kind) ≡ true → AppendsCut table widths variables k n out m out′) → AppendsForm table widths variables row n out m out′
-    form-of-leaf e w ew k ek f num there =
-        let some = width-some table widths variables num row there (omega (arith, leaf-kind (r .kind) e, kind-is)) in
-        let read-width = width-read table widths variables num row there row there in
-        let g : isLeaf (at .kind) ≡ true → AppendsCut table widths variables (record { row = row; high = w; low = 0 }) n out m out′ = rw ek at f in
-        appended-same _ _ _ _ _ _ _ (whole-cut table widths variables num row there w 0 (omega arith) refl) (g (leaf-is table row r read e) num there (omega arith) (omega arith))
+  pub form-second-later : isLeaf (r .kind) ≡ false → (r .kind ≡ 3 → ⊥) → (b : ℕ) → b ≡ r .b → row ≤ b → AppendsForm table widths variables row n out m out′
+  form-second-later inner other b eb l num there = absurd (omega (arith, named-second table widths variables num row there r read inner other))
 
-    pub form-of-cut : r .kind ≡ 3 → (a : ℕ) → a ≡ r .a → (k : Cut) → k ≡ record { row = a; high = r .b; low = r .c }
-        → AppendsCut table widths variables k n out m out′ → AppendsForm table widths variables row n out m out′
-    form-of-cut e a ea k ek f num there =
-        let e′ = sym kind-is ∙ e in
-        let named : k ≡ record { row = at .a; high = at .b; low = at .c } = ek ∙ rw (ea, read) in
-        let g : AppendsCut table widths variables (record { row = at .a; high = at .b; low = at .c }) n out m out′ = rw named at f in
-        let bounds = cut-bounds table widths variables num row there e′ in
-        appended-same _ _ _ _ _ _ _ (cut-sources table widths variables num row there e′) (g num (cut-there table widths variables num row there e′) (bounds .1) (bounds .0))
+  pub form-cut : r .kind ≡ 3 → (k : Cut) → k ≡ record { row = r .a; high = r .b; low = r .c }
+      → AppendsCut table widths variables k n out m out′ → AppendsForm table widths variables row n out m out′
+  form-cut e k ek f num there =
+      let at = rowAt (rowsOf table) row in
+      let e′ = sym (ap (λ (x : Row). x .kind) read) ∙ e in
+      let f′ : AppendsCut table widths variables (record { row = at .a; high = at .b; low = at .c }) n out m out′ = rw (ek, read) at f in
+      let bounds = cut-bounds table widths variables num row there e′ in
+      appended-same _ _ _ _ _ _ _ (cut-sources table widths variables num row there e′) (f′ num (cut-there table widths variables num row there e′) (bounds .1) (bounds .0))
 
-  pub form-of-join : isLeaf (r .kind) ≡ false → (r .kind ≡ 3 → ⊥) → (a b : ℕ) → a ≡ r .a → b ≡ r .b → (n : ℕ) (out : List ℕ) (k : ℕ) (middle : List ℕ) (m : ℕ) (out′ : List ℕ)
+  pub form-join : isLeaf (r .kind) ≡ false → (r .kind ≡ 3 → ⊥) → (a b : ℕ) → a ≡ r .a → b ≡ r .b → (k : ℕ) (middle : List ℕ)
       → AppendsForm table widths variables a n out k middle → AppendsForm table widths variables b k middle m out′ → AppendsForm table widths variables row n out m out′
-  form-of-join inner other a b ea eb n out k middle m out′ f g num there =
-      let e = join-left-over num there inner other in
-      let f′ : AppendsForm table widths variables (at .a) n out k middle = rw (ea ∙ a-is) at f in
-      let g′ : AppendsForm table widths variables (at .b) k middle m out′ = rw (eb ∙ b-is) at g in
+  form-join inner other a b ea eb k middle f g num there =
+      let at = rowAt (rowsOf table) row in
+      let e = is-join table widths variables num row there r read inner other in
+      let f′ : AppendsForm table widths variables (at .a) n out k middle = rw (ea ∙ ap (λ (x : Row). x .a) read) at f in
+      let g′ : AppendsForm table widths variables (at .b) k middle m out′ = rw (eb ∙ ap (λ (x : Row). x .b) read) at g in
       appended-same _ _ _ _ _ _ _ (both-sources table widths variables num row there e)
       (appended-both _ _ _ _ _ _ _ _ _ (f′ num (left-there table widths variables num row there e)) (g′ num (right-there table widths variables num row there e)))
 
--- the form of a cut, whose row was read as r
-module _ (table widths variables : List ℕ) (cut : Cut) (r : Row) (read : r ≡ rowAt (rowsOf table) (cut .row)) (n : ℕ) (out : List ℕ) (m : ℕ) (out′ : List ℕ) where
-  abbrev here : Row
-  here = rowAt (rowsOf table) (cut .row)
+-- what a cut of a join has of its parts are bits of the rows that it names
+pub left-row : (row left right : ℕ) (cut : Cut) → leftBits row left right cut .row ≡ row
+unfolding leftBits
+left-row row left right cut = go (ltb (cut .high) right) refl
+  where
+    go : (b : Bool) → ltb (cut .high) right ≡ b → leftBits row left right cut .row ≡ row
+    go true e = rw e
+    go false e = rw e
 
-  pub cut-of-join : isLeaf (r .kind) ≡ false → (r .kind ≡ 3 → ⊥) → (here .kind ≡ 2 → AppendsCut table widths variables cut n out m out′)
-      → AppendsCut table widths variables cut n out m out′
-  cut-of-join inner other f num there = f (join-left-over table widths variables (cut .row) r read num there inner other) num there
+pub right-row : (row right : ℕ) (cut : Cut) → rightBits row right cut .row ≡ row
+unfolding rightBits
+right-row row right cut = go (ltb (cut .low) right) refl
+  where
+    go : (b : Bool) → ltb (cut .low) right ≡ b → rightBits row right cut .row ≡ row
+    go true e = rw e
+    go false e = rw e
 
-  pub cut-of-cut : r .kind ≡ 3 → (a high low : ℕ) → a ≡ r .a → high ≡ (cut .high + r .c) % 65536 → low ≡ (cut .low + r .c) % 65536
-      → (k : Cut) → k ≡ record { row = a; high = high; low = low } → AppendsCut table widths variables k n out m out′ → AppendsCut table widths variables cut n out m out′
-  cut-of-cut e a high low ea eh el k ek f num there l h =
-      let e′ = sym (ap (λ (x : Row). x .kind) read) ∙ e in
-      let small = shifted-small table widths variables num (cut .row) there e′ (cut .high) (cut .low) l h in
-      let named : k ≡ record { row = here .a; high = cut .high + here .c; low = cut .low + here .c } =
-      ek ∙ rw (ea, eh, el, read, small (cut .high) (omega arith), small (cut .low) l) in
-      let g : AppendsCut table widths variables (record { row = here .a; high = cut .high + here .c; low = cut .low + here .c }) n out m out′ = rw named at f in
-      appended-same _ _ _ _ _ _ _ (cut-cut table widths variables num (cut .row) there e′ (cut .high) (cut .low) l h)
-      (g num (cut-there table widths variables num (cut .row) there e′) (omega arith) (shifted-within table widths variables num (cut .row) there e′ (cut .high) (cut .low) l h))
+-- a cut of a join, and what it has of both parts
+record Divided (t : List Row) (row high low : ℕ) (left right : Part) : Type 0 where
+  sources : partSources t left ++ partSources t right ≡ extract (sourceOf t row) high low
+  left-within : 0 < left .width → Within t left
+  right-within : 0 < right .width → Within t right
 
--- a cut of a leaf is one piece
-module _ (table widths variables : List ℕ) (cut : Cut) (r : Row) (read : r ≡ rowAt (rowsOf table) (cut .row)) (n : ℕ) (out : List ℕ) (m : ℕ) (out′ : List ℕ) where
-  pub cut-of-variable : r .kind ≡ 0 → (v : ℕ) → v ≡ getD variables (cut .row) 0 → m ≡ pushedCount out n (part v (cut .high) (cut .low))
-      → out′ ≡ pushedNumbers out n (part v (cut .high) (cut .low)) → AppendsCut table widths variables cut n out m out′
-  cut-of-variable e v ev em eo num there l h =
-      appended-push _ _ (part v (cut .high) (cut .low))
-      (variable-cut table widths variables num (cut .row) there (sym (ap (λ (x : Row). x .kind) read) ∙ e) (cut .high) (cut .low) l h ∙ rw ev)
-      n out m out′ em eo
-
-  pub cut-of-constant : isLeaf (rowAt (rowsOf table) (cut .row) .kind) ≡ true → (r .kind ≡ 0 → ⊥) → (w : ℕ) → w ≡ cut .high - cut .low
-      → m ≡ pushedCount out n (fill (r .a) w) → out′ ≡ pushedNumbers out n (fill (r .a) w) → AppendsCut table widths variables cut n out m out′
-  cut-of-constant e other w ew em eo num there l h =
-      let variable : rowAt (rowsOf table) (cut .row) .kind ≡ 0 → ⊥ = λ z. other (ap (λ (x : Row). x .kind) read ∙ z) in
-      let constant : rowAt (rowsOf table) (cut .row) .kind ≡ 1 = omega (arith, leaf-kind (rowAt (rowsOf table) (cut .row) .kind) e) in
-      appended-push _ _ (fill (r .a) w)
-      (constant-cut table widths variables num (cut .row) there constant (cut .high) (cut .low) l h ∙ rw (ew, read)) n out m out′ em eo
-
--- a cut of a join's part: the whole row, if the cut has all its bits
-pub part-whole : (table widths variables : List ℕ) (cut : Cut) (n : ℕ) (out : List ℕ) (m : ℕ) (out′ : List ℕ) → cut .high - cut .low ≡ getD widths (cut .row) 0 - 1
-    → AppendsForm table widths variables (cut .row) n out m out′ → AppendsCut table widths variables cut n out m out′
-part-whole table widths variables cut n out m out′ e f num there l h =
-    let w = width-read table widths variables num (cut .row) there (cut .row) there in
-    appended-same _ _ _ _ _ _ _ (sym (whole-cut table widths variables num (cut .row) there (cut .high) (cut .low) (omega arith) (omega arith))) (f num there)
-
--- a cut of the join of a and b, where b is `right` wide
-module _ (table widths variables : List ℕ) (cut : Cut) (a right : ℕ) where
-  -- the left part is passed: what was appended of it, and the highest bit that the cut can have of the right part
-  pub data LeftPassed (top n : ℕ) (out : List ℕ) (k : ℕ) (middle : List ℕ) : Type 0 where
-    some-left : right ≤ cut .high → top ≡ right - 1
-        → AppendsCut table widths variables (record { row = a; high = cut .high - right; low = cut .low - right }) n out k middle → LeftPassed top n out k middle
-    none-left : cut .high < right → top ≡ cut .high → k ≡ n → middle ≡ out → LeftPassed top n out k middle
-
-module _ (table widths variables : List ℕ) (cut : Cut) (r : Row) (read : r ≡ rowAt (rowsOf table) (cut .row)) (e : rowAt (rowsOf table) (cut .row) .kind ≡ 2)
-    (a b right : ℕ) (ea : a ≡ r .a) (eb : b ≡ r .b) (ew : right ≡ getD widths b 0) (top n : ℕ) (out : List ℕ) (k : ℕ) (middle : List ℕ) where
+module _ (table widths variables : List ℕ) (num : Numbered table widths variables) (cut : Cut) (there : absent (rowsOf table) (cut .row) ≡ false)
+    (e : rowAt (rowsOf table) (cut .row) .kind ≡ 2) (l : cut .low ≤ cut .high) (h : cut .high < widthOf (rowsOf table) (cut .row)) where
   abbrev joined : Row
   joined = rowAt (rowsOf table) (cut .row)
 
-  abbrev wide : ℕ
-  wide = widthOf (rowsOf table) (rowAt (rowsOf table) (cut .row) .b)
+  abbrev left : ℕ
+  left = widthOf (rowsOf table) (rowAt (rowsOf table) (cut .row) .a)
 
-  a-named : a ≡ joined .a
-  a-named = ea ∙ ap (λ (x : Row). x .a) read
+  abbrev right : ℕ
+  right = widthOf (rowsOf table) (rowAt (rowsOf table) (cut .row) .b)
 
-  b-named : b ≡ joined .b
-  b-named = eb ∙ ap (λ (x : Row). x .b) read
+  abbrev Divides : Type 0
+  Divides = Divided (rowsOf table) (cut .row) (cut .high) (cut .low) (leftBits (joined .a) left right cut) (rightBits (joined .b) right cut)
 
-  right-wide : Numbered table widths variables → absent (rowsOf table) (cut .row) ≡ false → right ≡ wide
-  right-wide num there =
-      ew ∙ ap (λ (x : ℕ). getD widths x 0) b-named
-      ∙ width-read table widths variables num (cut .row) there (joined .b) (right-there table widths variables num (cut .row) there e)
+  -- within the right part, within the left part, or across both
+  only-right : cut .high < right → Divides
+  unfolding leftBits rightBits partSources
+  only-right s =
+      let none = lt-ltb (cut .high) right s in
+      let some = lt-ltb (cut .low) right (omega arith) in
+      let wide = ne-eqb right 0 (omega arith) in
+      rw (none, some)
+      (record {
+        sources = rw wide (right-cut table widths variables num (cut .row) there e (cut .high) (cut .low) l h s);
+        left-within = λ z. absurd (omega arith);
+        right-within = λ z. record { there = right-there table widths variables num (cut .row) there e; wide = refl; in-order = l; inside = s };
+      })
 
-  pub join-of-left : LeftPassed table widths variables cut a right top n out k middle → right ≤ cut .low → AppendsCut table widths variables cut n out k middle
-  join-of-left (none-left s et en eo) low num there l h = absurd (omega arith)
-  join-of-left (some-left s et f) low num there l h =
-      let w = right-wide num there in
-      let f′ : AppendsCut table widths variables (record { row = joined .a; high = cut .high - wide; low = cut .low - wide }) n out k middle = rw (a-named, w) at f in
-      appended-same _ _ _ _ _ _ _ (left-cut table widths variables num (cut .row) there e (cut .high) (cut .low) l h (omega arith))
-      (f′ num (left-there table widths variables num (cut .row) there e) (omega arith) (left-within table widths variables num (cut .row) there e (cut .high) (cut .low) l h (omega arith)))
+  only-left : right ≤ cut .low → Divides
+  unfolding leftBits rightBits partSources
+  only-left s =
+      let inside = left-within table widths variables num (cut .row) there e (cut .high) (cut .low) l h (omega arith) in
+      let some = le-ltb (cut .high) right (omega arith) in
+      let none = le-ltb (cut .low) right s in
+      let wide = ne-eqb left 0 (omega arith) in
+      rw (some, none)
+      (record {
+        sources = rw wide (append-nil _ ∙ left-cut table widths variables num (cut .row) there e (cut .high) (cut .low) l h s);
+        left-within = λ z. record { there = left-there table widths variables num (cut .row) there e; wide = refl; in-order = omega arith; inside = inside };
+        right-within = λ z. absurd (omega arith);
+      })
 
-  pub join-of-both : LeftPassed table widths variables cut a right top n out k middle → cut .low < right → (m : ℕ) (out′ : List ℕ)
-      → (rest : Cut) → rest ≡ record { row = b; high = top; low = cut .low } → AppendsCut table widths variables rest k middle m out′
+  both : right ≤ cut .high → cut .low < right → Divides
+  unfolding leftBits rightBits partSources
+  both s u =
+      let inside = left-within table widths variables num (cut .row) there e (cut .high) (cut .low) l h s in
+      let some = le-ltb (cut .high) right s in
+      let more = lt-ltb (cut .low) right u in
+      let wide = ne-eqb left 0 (omega arith) in
+      let wide′ = ne-eqb right 0 (omega arith) in
+      let low : cut .low - right ≡ 0 = omega arith in
+      rw (some, more, low)
+      (record {
+        sources = rw (wide, wide′) (across table widths variables num (cut .row) there e (cut .high) (cut .low) l h u s);
+        left-within = λ z. record { there = left-there table widths variables num (cut .row) there e; wide = refl; in-order = omega arith; inside = inside };
+        right-within = λ z. record { there = right-there table widths variables num (cut .row) there e; wide = refl; in-order = omega arith; inside = omega arith };
+      })
+
+  divided : Divides
+  divided = go (lt-or-le (cut .high) right) (lt-or-le (cut .low) right)
+    where
+      go : (cut .high < right) ⊎ (right ≤ cut .high) → (cut .low < right) ⊎ (right ≤ cut .low) → Divides
+      go (inl s) u = only-right s
+      go (inr s) (inl u) = both s u
+      go (inr s) (inr u) = only-left u
+
+-- `put_cut`, whose row was read as r
+module _ (table widths variables : List ℕ) (cut : Cut) (row : ℕ) (er : row ≡ cut .row) (r : Row) (read : r ≡ rowAt (rowsOf table) row)
+    (n : ℕ) (out : List ℕ) (m : ℕ) (out′ : List ℕ) where
+  read-at : r ≡ rowAt (rowsOf table) (cut .row)
+  read-at = read ∙ ap (rowAt (rowsOf table)) er
+
+  abbrev here : Row
+  here = rowAt (rowsOf table) (cut .row)
+
+  pub cut-leaf : isLeaf (r .kind) ≡ true → (v : ℕ) → v ≡ getD variables row 0 → (q : Piece) → q ≡ leafPiece r v (cut .high) (cut .low)
+      → m ≡ pushedCount out n q → out′ ≡ pushedNumbers out n q → AppendsCut table widths variables cut n out m out′
+  cut-leaf e v ev q eq em eo num there l h =
+      appended-push _ _ q (leaf-cut table widths variables num (cut .row) there r read-at e (cut .high) (cut .low) l h ∙ rw (eq, ev, er)) n out m out′ em eo
+
+  pub cut-first-later : isLeaf (r .kind) ≡ false → (a : ℕ) → a ≡ r .a → row ≤ a → AppendsCut table widths variables cut n out m out′
+  cut-first-later inner a ea s num there l h = absurd (omega (arith, er, named-first table widths variables num (cut .row) there r read-at inner))
+
+  pub cut-second-later : isLeaf (r .kind) ≡ false → (r .kind ≡ 3 → ⊥) → (b : ℕ) → b ≡ r .b → row ≤ b → AppendsCut table widths variables cut n out m out′
+  cut-second-later inner other b eb s num there l h = absurd (omega (arith, er, named-second table widths variables num (cut .row) there r read-at inner other))
+
+  pub cut-of-cut : r .kind ≡ 3 → (high low : ℕ) → high ≡ (cut .high + r .c) % 65536 → low ≡ (cut .low + r .c) % 65536
+      → (k : Cut) → k ≡ record { row = r .a; high = high; low = low } → AppendsCut table widths variables k n out m out′ → AppendsCut table widths variables cut n out m out′
+  cut-of-cut e high low eh el k ek f num there l h =
+      let e′ = sym (ap (λ (x : Row). x .kind) read-at) ∙ e in
+      let small = shifted-small table widths variables num (cut .row) there e′ (cut .high) (cut .low) l h in
+      let named : k ≡ record { row = here .a; high = cut .high + here .c; low = cut .low + here .c } =
+      ek ∙ rw (eh, el, read-at, small (cut .high) (omega arith), small (cut .low) l) in
+      let f′ : AppendsCut table widths variables (record { row = here .a; high = cut .high + here .c; low = cut .low + here .c }) n out m out′ = rw named at f in
+      appended-same _ _ _ _ _ _ _ (cut-cut table widths variables num (cut .row) there e′ (cut .high) (cut .low) l h)
+      (f′ num (cut-there table widths variables num (cut .row) there e′) (omega arith) (shifted-within table widths variables num (cut .row) there e′ (cut .high) (cut .low) l h))
+
+  pub cut-of-join : isLeaf (r .kind) ≡ false → (r .kind ≡ 3 → ⊥) → (a b left right : ℕ) → a ≡ r .a → b ≡ r .b → left ≡ getD widths a 0 → right ≡ getD widths b 0
+      → (p q : Part) → p ≡ leftBits (r .a) left right cut → q ≡ rightBits (r .b) right cut → AppendsParts table widths variables p q n out m out′
       → AppendsCut table widths variables cut n out m out′
-  join-of-both (none-left s et en eo) low m out′ rest er g num there l h =
-      let w = right-wide num there in
-      let named : rest ≡ record { row = joined .b; high = cut .high; low = cut .low } = er ∙ rw (b-named, et) in
-      let g′ : AppendsCut table widths variables (record { row = joined .b; high = cut .high; low = cut .low }) n out m out′ = rw (named, en, eo) at g in
-      appended-same _ _ _ _ _ _ _ (right-cut table widths variables num (cut .row) there e (cut .high) (cut .low) l h (omega arith))
-      (g′ num (right-there table widths variables num (cut .row) there e) l (omega arith))
-  join-of-both (some-left s et f) low m out′ rest er g num there l h =
-      let w = right-wide num there in
-      let none : cut .low - right ≡ 0 = omega arith in
-      let f′ : AppendsCut table widths variables (record { row = joined .a; high = cut .high - wide; low = 0 }) n out k middle = rw (none, a-named, w) at f in
-      let named : rest ≡ record { row = joined .b; high = wide - 1; low = cut .low } = er ∙ rw (b-named, et, w) in
-      let g′ : AppendsCut table widths variables (record { row = joined .b; high = wide - 1; low = cut .low }) k middle m out′ = rw named at g in
-      appended-same _ _ _ _ _ _ _ (across table widths variables num (cut .row) there e (cut .high) (cut .low) l h (omega arith) (omega arith))
-      (appended-both _ _ _ _ _ _ _ _ _
-      (f′ num (left-there table widths variables num (cut .row) there e) (omega arith) (left-within table widths variables num (cut .row) there e (cut .high) (cut .low) l h (omega arith)))
-      (g′ num (right-there table widths variables num (cut .row) there e) (omega arith) (omega arith)))
+  cut-of-join inner other a b left right ea eb el ew p q ep eq f num there l h =
+      let e = is-join table widths variables num (cut .row) there r read-at inner other in
+      let left-is : left ≡ widthOf (rowsOf table) (here .a) =
+      rw (el, ea, read-at) (width-read table widths variables num (cut .row) there (here .a) (left-there table widths variables num (cut .row) there e)) in
+      let right-is : right ≡ widthOf (rowsOf table) (here .b) =
+      rw (ew, eb, read-at) (width-read table widths variables num (cut .row) there (here .b) (right-there table widths variables num (cut .row) there e)) in
+      let d : Divided (rowsOf table) (cut .row) (cut .high) (cut .low) p q = rw (ep, eq, left-is, right-is, read-at) (divided table widths variables num cut there e l h) in
+      appended-same _ _ _ _ _ _ _ (d .sources) (f num (d .left-within) (d .right-within))
+
+-- `put_join`
+pub both-parts : (table widths variables : List ℕ) (left right : Part) (n : ℕ) (out : List ℕ) (k : ℕ) (middle : List ℕ) (m : ℕ) (out′ : List ℕ)
+    → AppendsPart table widths variables left n out k middle → AppendsPart table widths variables right k middle m out′
+    → AppendsParts table widths variables left right n out m out′
+both-parts table widths variables left right n out k middle m out′ f g num kl kr = appended-both _ _ _ _ _ _ _ _ _ (f num kl) (g num kr)
+
+-- `put_part`: no bits, the whole row, or a cut of it
+pub part-none : (table widths variables : List ℕ) (part : Part) (n : ℕ) (out : List ℕ) → part .width ≡ 0 → AppendsPart table widths variables part n out n out
+unfolding partSources
+part-none table widths variables part n out e num k = rw (eq-eqb (part .width) 0 e) (appended-none (rowsOf table) n out)
+
+module _ (table widths variables : List ℕ) (part : Part) (n : ℕ) (out : List ℕ) (m : ℕ) (out′ : List ℕ) where
+  pub part-whole : (part .width ≡ 0 → ⊥) → part .high - part .low ≡ part .width - 1 → (row : ℕ) → row ≡ part .row
+      → AppendsForm table widths variables row n out m out′ → AppendsPart table widths variables part n out m out′
+  unfolding partSources
+  part-whole some e row er f num k =
+      let w = k (omega arith) in
+      let f′ : AppendsForm table widths variables (part .row) n out m out′ = rw er at f in
+      rw (ne-eqb (part .width) 0 some)
+      (appended-same _ _ _ _ _ _ _
+      (sym (whole-cut table widths variables num (part .row) (w .there) (part .high) (part .low) (omega (arith, w .wide, w .in-order, w .inside)) (omega (arith, w .wide, w .in-order, w .inside))))
+      (f′ num (w .there)))
+
+  pub part-cut : (part .width ≡ 0 → ⊥) → (k : Cut) → k ≡ record { row = part .row; high = part .high; low = part .low }
+      → AppendsCut table widths variables k n out m out′ → AppendsPart table widths variables part n out m out′
+  unfolding partSources
+  part-cut some k ek f num within =
+      let w = within (omega arith) in
+      let f′ : AppendsCut table widths variables (record { row = part .row; high = part .high; low = part .low }) n out m out′ = rw ek at f in
+      rw (ne-eqb (part .width) 0 some) (f′ num (w .there) (w .in-order) (w .inside))

@@ -4,21 +4,26 @@
 // with the last piece where they meet. So the two phases of figure 3 are one pass, and what stands in the buffer is always the normal form of
 // the bits that were met.
 ghost use mathlib.Core.Path.{_≡_};
-ghost use mathlib.Core.Bool.{true};
-ghost use mathlib.Core.List.{List};
-ghost use Prim.Native.Nat.{ℕ};
-ghost use Rattle.terms.specs.Table.{rowsOf, rowAt};
-ghost use Rattle.appender.specs.Append.{isLeaf, AppendsForm, AppendsCut};
+ghost use Rattle.appender.specs.Cuts.{isLeaf, leafPiece, AppendsForm, AppendsCut, leftBits, rightBits, AppendsPart, AppendsParts};
 use forms::Piece;
+use terms::Row;
 
 // Bits high to low of a row.
 struct Cut {
-    row: usize,
+    row: u16,
     high: u16,
     low: u16,
 }
 
-fn cut_of(row: usize, high: u16, low: u16) -> Cut
+// What a cut of a join has of one part: bits high to low of a row of this width. No bits, if the width is 0.
+struct Part {
+    row: u16,
+    width: u16,
+    high: u16,
+    low: u16,
+}
+
+fn cut_of(row: u16, high: u16, low: u16) -> Cut
     ensures { λ cut. ⌜ cut ≡ record { row = row; high = high; low = low } ⌝ }
 {
     Cut {
@@ -26,6 +31,45 @@ fn cut_of(row: usize, high: u16, low: u16) -> Cut
         high: high,
         low: low,
     }
+}
+
+fn part_of(row: u16, width: u16, high: u16, low: u16) -> Part
+    ensures { λ part. ⌜ part ≡ record { row = row; width = width; high = high; low = low } ⌝ }
+{
+    Part {
+        row: row,
+        width: width,
+        high: high,
+        low: low,
+    }
+}
+
+// What a cut of a join has of the left part, which is this row, where the parts are so wide.
+fn left_bits(row: u16, left: u16, right: u16, cut: Cut) -> Part
+    ensures { λ part. ⌜ part ≡ leftBits row left right cut ⌝ }
+{
+    if cut.high < right {
+        return part_of(row, 0, 0, 0);
+    }
+    part_of(
+        row,
+        left,
+        cut.high - right,
+        numbers::difference(cut.low, right),
+    )
+}
+
+// The same of the right part.
+fn right_bits(row: u16, right: u16, cut: Cut) -> Part
+    ensures { λ part. ⌜ part ≡ rightBits row right cut ⌝ }
+{
+    if right <= cut.low {
+        return part_of(row, 0, 0, 0);
+    }
+    if cut.high < right {
+        return part_of(row, right, cut.high, cut.low);
+    }
+    part_of(row, right, numbers::difference(right, 1), cut.low)
 }
 
 // Whether a row of this kind names no other row: a variable or a constant.
@@ -38,30 +82,25 @@ fn leaf(kind: u16) -> bool
     kind == terms::CONSTANT
 }
 
-// Appends the normal form of a cut of a leaf.
-fn put_leaf(table: &[u16], variables: &[u16], cut: Cut, out: &mut [u16], n: usize) -> usize
-    ensures { λ m. ⌜ ((widths : List ℕ) → isLeaf (rowAt (rowsOf (now (table .entry))) (cut .row) .kind) ≡ true →
-        AppendsCut (now (table .entry)) widths (now (variables .entry)) cut n (now (out .entry)) m (now (out .exit))) ⌝ }
+// The piece that bits high to low of a leaf are, where v is a variable's number.
+fn leaf_piece(r: Row, v: u16, high: u16, low: u16) -> Piece
+    ensures { λ p. ⌜ p ≡ leafPiece r v high low ⌝ }
 {
-    let row = cut.row;
-    let r = rows::row_at(table, row);
     let kind = r.kind;
     if kind == terms::VARIABLE {
-        let part = Piece {
+        return Piece {
             kind: 2,
-            variable: numbers::load(variables, row),
-            high: cut.high,
-            low: cut.low,
+            variable: v,
+            high: high,
+            low: low,
         };
-        return pieces::push(out, n, part);
     }
-    let fill = Piece {
+    Piece {
         kind: r.a,
         variable: 0,
-        high: numbers::difference(cut.high, cut.low),
+        high: numbers::difference(high, low),
         low: 0,
-    };
-    pieces::push(out, n, fill)
+    }
 }
 
 // Appends the normal form of a row.
@@ -78,16 +117,17 @@ pub fn put_form(
     let r = rows::row_at(table, row);
     let kind = r.kind;
     if leaf(kind) {
-        let width = numbers::load(widths, row);
-        let whole = cut_of(row, numbers::difference(width, 1), 0);
-        return put_leaf(table, variables, whole, out, n);
+        let v = numbers::load(variables, row);
+        let high = numbers::difference(numbers::load(widths, row), 1);
+        return pieces::push(out, n, leaf_piece(r, v, high, 0));
     }
     let a = numbers::wide(r.a);
     if row <= a {
         return n;
     }
     if kind == terms::EXTRACT {
-        return put_cut(table, widths, variables, cut_of(a, r.b, r.c), out, n);
+        let cut = cut_of(r.a, r.b, r.c);
+        return put_cut(table, widths, variables, cut, out, n);
     }
     let b = numbers::wide(r.b);
     if row <= b {
@@ -97,7 +137,7 @@ pub fn put_form(
     put_form(table, widths, variables, b, out, m)
 }
 
-// Appends the normal form of a cut: a cut of a cut is a cut of the row that is named there.
+// Appends the normal form of a cut: a cut of a cut is one cut of the row that is named there.
 fn put_cut(
     table: &[u16],
     widths: &[u16],
@@ -108,75 +148,67 @@ fn put_cut(
 ) -> usize
     ensures { λ m. ⌜ AppendsCut (now (table .entry)) (now (widths .entry)) (now (variables .entry)) cut n (now (out .entry)) m (now (out .exit)) ⌝ }
 {
-    let row = cut.row;
+    let row = numbers::wide(cut.row);
     let r = rows::row_at(table, row);
     let kind = r.kind;
     if leaf(kind) {
-        return put_leaf(table, variables, cut, out, n);
-    }
-    if kind != terms::EXTRACT {
-        return put_join(table, widths, variables, cut, out, n);
+        let v = numbers::load(variables, row);
+        return pieces::push(out, n, leaf_piece(r, v, cut.high, cut.low));
     }
     let a = numbers::wide(r.a);
     if row <= a {
         return n;
     }
-    let high = numbers::plus(cut.high, r.c);
-    let low = numbers::plus(cut.low, r.c);
-    put_cut(table, widths, variables, cut_of(a, high, low), out, n)
-}
-
-// Appends the normal form of a cut of a join: of the bits that it has of the left part, and then of those that it has of the right part.
-fn put_join(
-    table: &[u16],
-    widths: &[u16],
-    variables: &[u16],
-    cut: Cut,
-    out: &mut [u16],
-    n: usize,
-) -> usize
-    ensures { λ m. ⌜ (rowAt (rowsOf (now (table .entry))) (cut .row) .kind ≡ 2 →
-        AppendsCut (now (table .entry)) (now (widths .entry)) (now (variables .entry)) cut n (now (out .entry)) m (now (out .exit))) ⌝ }
-{
-    let row = cut.row;
-    let r = rows::row_at(table, row);
-    let a = numbers::wide(r.a);
-    if row <= a {
-        return n;
+    if kind == terms::EXTRACT {
+        let high = numbers::plus(cut.high, r.c);
+        let named = cut_of(r.a, high, numbers::plus(cut.low, r.c));
+        return put_cut(table, widths, variables, named, out, n);
     }
     let b = numbers::wide(r.b);
     if row <= b {
         return n;
     }
-    let right = numbers::load(widths, b);
-    let mut m = n;
-    let mut top = cut.high;
-    if right <= top {
-        let left = cut_of(a, top - right, numbers::difference(cut.low, right));
-        m = put_part(table, widths, variables, left, out, n);
-        top = numbers::difference(right, 1);
-    }
-    if right <= cut.low {
-        return m;
-    }
-    put_part(table, widths, variables, cut_of(b, top, cut.low), out, m)
+    let width = numbers::load(widths, b);
+    let left = left_bits(r.a, numbers::load(widths, a), width, cut);
+    let right = right_bits(r.b, width, cut);
+    put_join(table, widths, variables, left, right, out, n)
 }
 
-// Appends the normal form of a cut of a join's part: of the whole row, if the cut has all its bits, else of a cut of it.
+// Appends the normal form of what a cut of a join has of its parts.
+fn put_join(
+    table: &[u16],
+    widths: &[u16],
+    variables: &[u16],
+    left: Part,
+    right: Part,
+    out: &mut [u16],
+    n: usize,
+) -> usize
+    ensures { λ m. ⌜ AppendsParts (now (table .entry)) (now (widths .entry)) (now (variables .entry)) left right n (now (out .entry)) m (now (out .exit)) ⌝ }
+{
+    let m = put_part(table, widths, variables, left, out, n);
+    put_part(table, widths, variables, right, out, m)
+}
+
+// Appends the normal form of what a cut has of one part: of the whole row, if that is all its bits, else of a cut of it.
 fn put_part(
     table: &[u16],
     widths: &[u16],
     variables: &[u16],
-    cut: Cut,
+    part: Part,
     out: &mut [u16],
     n: usize,
 ) -> usize
-    ensures { λ m. ⌜ AppendsCut (now (table .entry)) (now (widths .entry)) (now (variables .entry)) cut n (now (out .entry)) m (now (out .exit)) ⌝ }
+    ensures { λ m. ⌜ AppendsPart (now (table .entry)) (now (widths .entry)) (now (variables .entry)) part n (now (out .entry)) m (now (out .exit)) ⌝ }
 {
-    let row = cut.row;
-    let width = numbers::load(widths, row);
-    if numbers::difference(cut.high, cut.low) == numbers::difference(width, 1) {
+    let width = part.width;
+    if width == 0 {
+        return n;
+    }
+    if numbers::difference(part.high, part.low) == width - 1 {
+        let row = numbers::wide(part.row);
         return put_form(table, widths, variables, row, out, n);
     }
+    let cut = cut_of(part.row, part.high, part.low);
     put_cut(table, widths, variables, cut, out, n)
 }
