@@ -1,7 +1,7 @@
 -- Numbers written behind those that a buffer has: the pass of `run`, and that of `spread`.
 use mathlib.Core.Path.{_≡_, refl, sym, _∙_, ap}
 use mathlib.Core.List.{List, [], _∷_, _++_, append-assoc, append-nil}
-use Prim.Native.Nat.{ℕ, zero, suc, _+_, _-_, _%_, _<_, _≤_}
+use Prim.Native.Nat.{ℕ, zero, suc, _+_, _-_, _%_, _<_, _≤_, min}
 use native.Mathlib.Omega.{arith}
 use native.Mathlib.Numerals.{add-one}
 use lib.ListN.{length, getD, set, length-append, length-set}
@@ -28,10 +28,11 @@ pub record Running (out₀ : List ℕ) (from count x step : ℕ) (out : List ℕ
   pub all : stepped x step count ≡ done ++ stepped y step left
   pub written : (earlier base : List ℕ) → Written earlier base from out₀ → Written (earlier ++ done) base at out
   pub same-room : length out ≡ length out₀
+  pub fits : 0 < left → at + left ≤ length out
 
-pub running-first : (out₀ : List ℕ) (from count x step : ℕ) → Running out₀ from count x step out₀ from count x
-running-first out₀ from count x step =
-    record { done = []; all = refl; written = λ earlier base k. rw append-nil k; same-room = refl }
+pub running-first : (out₀ : List ℕ) (from count x step : ℕ) → (0 < count → from + count ≤ length out₀) → Running out₀ from count x step out₀ from count x
+running-first out₀ from count x step h =
+    record { done = []; all = refl; written = λ earlier base k. rw append-nil k; same-room = refl; fits = h }
 
 module _ (out₀ : List ℕ) (from count x step : ℕ) (out : List ℕ) (at left y : ℕ) (k : Running out₀ from count x step out at left y) where
   pub running-more : 0 < left → (z : ℕ) (out′ : List ℕ) → out′ ≡ set out at y → z ≡ (y + step) % 65536
@@ -45,6 +46,7 @@ module _ (out₀ : List ℕ) (from count x step : ℕ) (out : List ℕ) (at left
             ∙ sym (append-assoc (k .done) (y ∷ []) (stepped z step (left - 1)));
         written = λ earlier base w. rw (eo, ← append-assoc earlier (k .done) (y ∷ [])) (written-more (earlier ++ k .done) base at out y (k .written earlier base w));
         same-room = ap length eo ∙ length-set out at y ∙ k .same-room;
+        fits = λ z. omega (arith, k .fits l, ap length eo, length-set out at y);
       }
 
   pub running-done : left ≤ 0 → Behind (stepped x step count) from out₀ at out
@@ -54,21 +56,13 @@ module _ (out₀ : List ℕ) (from count x step : ℕ) (out : List ℕ) (at left
       let e : stepped x step count ≡ k .done = k .all ∙ ap (λ (n : ℕ). k .done ++ stepped y step n) z ∙ append-nil (k .done) in
       rw e (k .written earlier base w)
 
-  -- a run that has room is not cut short
-  pub running-full : 0 < left → length out ≤ at → Behind (stepped x step count) from out₀ at out
-  running-full l full earlier base room w =
-      let here = k .written earlier base w in
-      absurd
-      (omega (
-        arith,
-        here .counted,
-        length-append earlier (k .done),
-        ap length (k .all),
-        length-append (k .done) (stepped y step left),
-        stepped-count y step left,
-        ap length (here .numbers),
-        overwrite-length (earlier ++ k .done) base,
-      ))
+-- a run that has room is not cut short
+pub running-whole : (out₀ : List ℕ) (from count fit x step m : ℕ) (out : List ℕ) → fit ≡ min count (length out₀ - from)
+    → Behind (stepped x step fit) from out₀ m out → Behind (stepped x step count) from out₀ m out
+running-whole out₀ from count fit x step m out e f earlier base room w =
+    let same : fit ≡ count = omega (arith, stepped-count x step count, w .counted, ap length (w .numbers), overwrite-length earlier base) in
+    let f′ : Behind (stepped x step count) from out₀ m out = rw same at f in
+    f′ earlier base room w
 
 -- the sources of a piece
 module _ (lows : List ℕ) (p : Piece) (n : ℕ) (out : List ℕ) (m : ℕ) (out′ : List ℕ) where

@@ -10,18 +10,15 @@ ghost use Rattle.sides.specs.Shortened.{shortIn, storedRow, Shortens};
 use forms::Piece;
 use terms::Row;
 
-// Writes count numbers from a place on: x, x + step, x + 2 · step and so on. The place behind them.
+// Writes count numbers from a place on, as far as there is room: x, x + step, x + 2 · step and so on. The place behind them.
 fn run(out: &mut [u16], from: usize, count: usize, x: u16, step: u16) -> usize
     ensures { λ m. ⌜ Behind (stepped x step count) from (now (out .entry)) m (now (out .exit)) ⌝ }
 {
     let mut at = from;
-    let mut left = count;
+    let mut left = numbers::lesser(count, numbers::minus(out.len(), from));
     let mut y = x;
     while 0 < left {
-        if out.len() <= at {
-            return at;
-        }
-        numbers::store(out, at, y);
+        out[at] = y;
         y = numbers::plus(y, step);
         at += 1;
         left -= 1;
