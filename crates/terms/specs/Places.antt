@@ -14,10 +14,11 @@ firstPlace [] v = 0
 firstPlace (r ∷ rs) zero = 0
 firstPlace (r ∷ rs) (suc v) = ifVariable r (r .a + firstPlace rs v) (firstPlace rs (suc v))
 
--- The source before that of its first place. So the source of a variable's low bit is the one before the next variable.
+-- The source before that of its first place.
 abbrev pub sourceBefore : List Row → ℕ → ℕ
 sourceBefore t v = firstPlace t v + 1
 
+-- The source of variable v's low bit: the one before the next variable.
 abbrev pub lowSource : List Row → ℕ → ℕ
 lowSource t v = sourceBefore t (suc v)
 
