@@ -37,6 +37,6 @@ pub fn put_print(text: &[u8], out: &mut [u8]) -> usize
     if found.outcome != 2 {
         return behind;
     }
-    let len = found.pieces as usize * 4;
+    let len = found.pieces as usize * answers::ROW;
     writer::put_answer(&answer[..len], out, behind)
 }

@@ -5,8 +5,8 @@ use Prim.Native.Nat.{_-_, _≤_}
 use lib.ListN.{length}
 use lib.Seq.{length-take-le}
 use borrow.Author.Needs.{needs}
-use Rattle.cases.proofs.print_values.Statement.{statement}
-use Rattle.cases.proofs.print_values.Tie as tie
+use Rattle.details.proofs.print_values.Statement.{statement}
+use Rattle.details.proofs.print_values.Tie as tie
 
 abbrev Inv-loop : tie.InvT-loop
 Inv-loop table bits out₀ pattern len row₀ out row = (length out ≡ length out₀) × (length pattern ≡ 4096) × (len ≤ 4096)

@@ -4,8 +4,8 @@ use mathlib.Core.Path.{sym}
 use Prim.Native.Nat.{_-_}
 use lib.Seq.{length-take-le}
 use borrow.Author.Needs.{needs}
-use Rattle.cases.proofs.print_pattern.Statement.{statement}
-use Rattle.cases.proofs.print_pattern.Tie as tie
+use Rattle.details.proofs.print_pattern.Statement.{statement}
+use Rattle.details.proofs.print_pattern.Tie as tie
 
 slice-aggregate-mark-every : tie.Need-slice-aggregate-mark-every
 slice-aggregate-mark-every c = search needs

@@ -4,8 +4,8 @@ use mathlib.Core.Path.{sym}
 use Prim.Native.Nat.{_-_}
 use lib.Seq.{length-take-le}
 use borrow.Author.Needs.{needs}
-use Rattle.cases.proofs.write_first.Statement.{statement}
-use Rattle.cases.proofs.write_first.Tie as tie
+use Rattle.details.proofs.write_first.Statement.{statement}
+use Rattle.details.proofs.write_first.Tie as tie
 
 lesser-requires : tie.Need-lesser-requires
 lesser-requires c κs = search needs

@@ -4,8 +4,8 @@ use mathlib.Core.Path.{_≡_, refl}
 use Prim.Native.Nat.{_-_}
 use lib.ListN.{length}
 use borrow.Author.Needs.{needs}
-use Rattle.cases.proofs.print_forms.Statement.{statement}
-use Rattle.cases.proofs.print_forms.Tie as tie
+use Rattle.details.proofs.print_forms.Statement.{statement}
+use Rattle.details.proofs.print_forms.Tie as tie
 
 abbrev Inv-loop : tie.InvT-loop
 Inv-loop table out₀ row₀ out row = length out ≡ length out₀

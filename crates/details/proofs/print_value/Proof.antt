@@ -4,8 +4,8 @@ use mathlib.Core.Path.{sym}
 use Prim.Native.Nat.{_-_}
 use lib.Seq.{length-take-le}
 use borrow.Author.Needs.{needs}
-use Rattle.cases.proofs.print_value.Statement.{statement}
-use Rattle.cases.proofs.print_value.Tie as tie
+use Rattle.details.proofs.print_value.Statement.{statement}
+use Rattle.details.proofs.print_value.Tie as tie
 
 slice-aggregate-value : tie.Need-slice-aggregate-value
 slice-aggregate-value c = search needs

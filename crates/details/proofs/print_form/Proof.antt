@@ -1,7 +1,7 @@
 -- `print_form` stays within its buffers and ends. Assumes nothing.
 use borrow.Author.Needs.{needs}
-use Rattle.cases.proofs.print_form.Statement.{statement}
-use Rattle.cases.proofs.print_form.Tie as tie
+use Rattle.details.proofs.print_form.Statement.{statement}
+use Rattle.details.proofs.print_form.Tie as tie
 
 slice-aggregate-normal-form : tie.Need-slice-aggregate-normal-form
 slice-aggregate-normal-form c = search needs

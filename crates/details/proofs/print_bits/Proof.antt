@@ -5,8 +5,8 @@ use Prim.Native.Nat.{_-_, _≤_}
 use lib.ListN.{length}
 use lib.Seq.{length-take-le}
 use borrow.Author.Needs.{needs}
-use Rattle.cases.proofs.print_bits.Statement.{statement}
-use Rattle.cases.proofs.print_bits.Tie as tie
+use Rattle.details.proofs.print_bits.Statement.{statement}
+use Rattle.details.proofs.print_bits.Tie as tie
 
 abbrev Inv-loop : tie.InvT-loop
 Inv-loop found bits out line₀ len i₀ line i = (length line ≡ 4097) × (i ≤ len)
