@@ -6,17 +6,9 @@ use Prim.Native.Nat.{_+_, _-_}
 use native.Mathlib.Omega.{arith}
 use lib.Dec.{eqb, ltb}
 use borrow.Author.Tests.{eqb-true}
-use Rattle.laws.proofs.Bools.{not-both}
 use Rattle.forms.specs.declared.Piece.{Piece}
+use Rattle.laws.proofs.Bools.{and-first, and-second}
 use Rattle.forms.specs.Form.{meets, merged, add, addAll, group}
-
-and-first : (a b : Bool) → a && b ≡ true → a ≡ true
-and-first true b h = refl
-and-first false b h = h
-
-and-second : (a b : Bool) → a && b ≡ true → b ≡ true
-and-second true b h = h
-and-second false b h = absurd (not-both h refl)
 
 -- what it is to meet: one kind, and beside each other where it is a variable's
 pub record Meeting (p q : Piece) : Type 0 where
