@@ -1,6 +1,10 @@
 // What the program cases prints of a table behind its answer: the record and the normal form of each row, the record and the value of each row
 // under a pattern, and the patterns of fresh bits.
 use terms::Record;
+ghost use mathlib.Core.Path.{_≡_};
+ghost use mathlib.Core.Bool.{cond};
+ghost use Prim.Native.Nat.{_%_};
+ghost use lib.Dec.{eqb};
 
 // The numbers of a normal form.
 const FORM: usize = 4096;
@@ -12,7 +16,9 @@ pub fn write_first(out: &[u8], n: usize) {
 }
 
 // 1 for each step-th number from the first on, 0 for the others.
-fn mark(i: usize, first: usize, step: usize) -> u8 {
+fn mark(i: usize, first: usize, step: usize) -> u8
+    ensures { λ r. ⌜ r ≡ cond (eqb step 0) 0 (cond (eqb (i % step) first) 1 0) ⌝ }
+{
     if step == 0 {
         return 0;
     }
@@ -30,7 +36,10 @@ fn mark_every(bits: &mut [u8], first: usize, step: usize) {
     }
 }
 
-fn digit(bit: u8) -> u8 {
+// A bit as a byte of text.
+fn digit(bit: u8) -> u8
+    ensures { λ r. ⌜ r ≡ cond (eqb bit 1) 49 48 ⌝ }
+{
     if bit == 1 {
         return b'1';
     }
