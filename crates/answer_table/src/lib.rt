@@ -3,7 +3,7 @@ ghost use mathlib.Core.Path.{_≡_};
 ghost use lib.ListN.{drop};
 ghost use Rattle.answers.specs.RightSide.{rowVariables, rowsBefore, rowsOn, rightSideStart, rightSideLength, rightSide};
 ghost use Rattle.answers.specs.Answer.{answerRowsOf, answerRowAt};
-ghost use Rattle.answer_table.specs.Rows.{answerRowPut};
+ghost use Rattle.answer_table.specs.inner.Rows.{answerRowPut};
 use answers::AnswerRow;
 use answers::Part;
 

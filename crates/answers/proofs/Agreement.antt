@@ -13,7 +13,7 @@ use Rattle.terms.specs.Table.{bitOf}
 use Rattle.laws.specs.Lists.{countUp}
 use Rattle.terms.proofs.Assignments.{assignment-length}
 use Rattle.answers.specs.Pairs.{Pair, satisfiesPairs}
-use Rattle.answers.specs.Classes.{classesOf, merge, relabel, rep, run}
+use Rattle.answers.specs.inner.Classes.{classesOf, merge, relabel, rep, run, Represents}
 use Rattle.laws.proofs.Bools.{and-first, and-second, and-move}
 use Rattle.answers.proofs.Relabelling.{relabel-hit, relabel-miss, hi, lo, next, next-low, next-root, next-just, next-pair, next-old}
 use Rattle.laws.proofs.Numbers.{dec-eq, lt-or-le}
@@ -31,13 +31,6 @@ rest-holds p q qs t = and-second (eqb (bitOf p (q .left)) (bitOf p (q .right))) 
 pub both-hold : (p : List ℕ) (q : Pair) (qs : List Pair) → bitOf p (q .left) ≡ bitOf p (q .right) → satisfiesPairs p qs ≡ true → satisfiesPairs p (q ∷ qs) ≡ true
 unfolding satisfiesPairs
 both-hold p q qs e t = rw (eq-eqb _ _ e) t
-
-pub record Represents (n : ℕ) (c : List ℕ) (seen : List Pair) : Type 0 where
-  pub len : length c ≡ suc (suc n)
-  pub low : (i : ℕ) → rep c i ≤ i
-  pub root : (i : ℕ) → rep c (rep c i) ≡ rep c i
-  pub just : (p : List ℕ) → Assignment n p → satisfiesPairs p seen ≡ true → (i : ℕ) → bitOf p i ≡ bitOf p (rep c i)
-  pub full : (p : List ℕ) → Assignment n p → ((i : ℕ) → bitOf p i ≡ bitOf p (rep c i)) → satisfiesPairs p seen ≡ true
 
 pub relabel-zero : (x y : ℕ) → relabel (max x y) (min x y) 0 ≡ 0
 relabel-zero x y = go (dec-eq 0 (max x y))

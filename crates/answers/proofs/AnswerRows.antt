@@ -9,12 +9,11 @@ use lib.Dec.{eqb, ltb}
 use lib.ListN.{replicate}
 use borrow.Author.Tests.{eqb-true, eq-eqb, ne-eqb, le-leb, not-true}
 use Rattle.answers.specs.Pairs.{Pair}
-use Rattle.answers.specs.Classes.{rep, inClass}
+use Rattle.answers.specs.inner.Classes.{rep, inClass, Represents}
 use Rattle.laws.specs.Lists.{tally, member}
 use Rattle.answers.specs.Answer.{begins, unfixed, goesOn, lowest, appears, placeRow, widened, placed, rowsTo, isFresh, freshNumbers}
 use Rattle.answers.specs.declared.AnswerRow.{AnswerRow}
 use Rattle.laws.proofs.Bools.{and-second}
-use Rattle.answers.proofs.Agreement.{Represents}
 use Rattle.laws.proofs.Numbers.{lt-or-le}
 use Rattle.laws.proofs.Tallies.{tally-mono}
 use Rattle.answers.proofs.Slots.{Slot, fill, part, glued}

@@ -3,17 +3,18 @@ use mathlib.Core.Path.{_≡_, refl, sym, _∙_}
 use mathlib.Core.Logic.{_⊎_, inl, inr, _≢_}
 use mathlib.Core.Bool.{Bool, true, false, not, cond}
 use mathlib.Core.List.{List, [], _∷_, reverseAux}
-use Prim.Native.Nat.{ℕ, _+_}
+use Prim.Native.Nat.{ℕ, suc, _+_}
 use native.Mathlib.Omega.{arith}
 use lib.Dec.{eqb}
 use borrow.Author.Tests.{eq-eqb, ne-eqb, not-true}
 use Rattle.terms.specs.Assignments.{Assignment, every}
 use Rattle.terms.specs.Table.{bitOf}
 use Rattle.terms.proofs.Assignments.{every-at, every-of}
-use Rattle.answers.specs.Pairs.{Pair, noneSatisfies, satisfiesPairs, ties, tiesBefore, unsatAt}
-use Rattle.answers.specs.Classes.{conflictAt, links, linksBefore, rep, run}
+use Rattle.answers.specs.Pairs.{Pair, satisfiesPairs, ties}
+use Rattle.answers.specs.Representatives.{noneSatisfies}
+use Rattle.answers.specs.inner.Classes.{conflictAt, links, linksBefore, rep, run, Represents}
 use Rattle.laws.proofs.Numbers.{dec-eq}
-use Rattle.answers.proofs.Agreement.{Represents, run-represents}
+use Rattle.answers.proofs.Agreement.{run-represents}
 use Rattle.answers.proofs.Exact.{witness, witness-bits, witness-satisfies, ties-are}
 
 pub none-satisfies-is : (n : ℕ) (c : List ℕ) (seen : List Pair) → Represents n c seen → noneSatisfies n seen ≡ eqb (rep c 1) 0
@@ -37,6 +38,16 @@ none-satisfies-is n c seen inv = go (dec-eq (rep c 1) 0)
             let a = not-true (satisfiesPairs (witness n c seen inv one 1) seen) (every-at n (λ p. not (satisfiesPairs p seen)) h (witness n c seen inv one 1) (witness-bits n c seen inv one 1 (omega arith))) in
             let b = witness-satisfies n c seen inv one 1 (omega arith) in
             cc
+
+-- the same as a walk over the equations: the first at which no assignment is left, or their number if one always is; and the ties of those
+-- before it. `unsatRow` and `tiesTo` come to these (Tables.antt).
+unfoldable pub unsatAt : ℕ → List Pair → List (List Pair) → ℕ
+unsatAt n seen [] = 0
+unsatAt n seen (e ∷ es) = cond (noneSatisfies n (reverseAux e seen)) 0 (suc (unsatAt n (reverseAux e seen) es))
+
+unfoldable pub tiesBefore : ℕ → List Pair → List (List Pair) → ℕ
+tiesBefore n seen [] = 0
+tiesBefore n seen (e ∷ es) = cond (noneSatisfies n (reverseAux e seen)) 0 (ties n seen e + tiesBefore n (reverseAux e seen) es)
 
 pub unsat-is : (n : ℕ) (c : List ℕ) (seen : List Pair) (es : List (List Pair)) → Represents n c seen → unsatAt n seen es ≡ conflictAt c es
 unfolding unsatAt conflictAt

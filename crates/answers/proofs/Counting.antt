@@ -15,10 +15,10 @@ use Rattle.terms.specs.Assignments.{Assignment, count}
 use Rattle.terms.specs.Table.{bitOf}
 use Rattle.terms.proofs.Assignments.{assignment-length, count-ext, count-none-of}
 use Rattle.answers.specs.Pairs.{Pair, satisfiesPairs}
-use Rattle.answers.specs.Classes.{classesOf, rep, roots}
+use Rattle.answers.specs.inner.Classes.{classesOf, rep, roots, Represents}
 use Rattle.laws.proofs.Bools.{and-first, and-second, and-both, same-test}
 use Rattle.laws.proofs.Numbers.{dec-eq, two}
-use Rattle.answers.proofs.Agreement.{Represents, bit-past, classes-represent, satisfies-reverse}
+use Rattle.answers.proofs.Agreement.{bit-past, classes-represent, satisfies-reverse}
 use Rattle.laws.proofs.Numbers.{lt-or-le}
 use Rattle.laws.proofs.Lists.{snoc-length, tail-length, tail-at}
 

@@ -1,7 +1,6 @@
 -- Demands 2 and 3, for every accepted table. They speak of the definitions in specs/ alone; the solver's contract is an equation with
 -- the same definitions. Assumes nothing.
 use mathlib.Core.Path.{_≡_, refl, sym, _∙_, ap, ap₂, subst}
-use mathlib.Core.Logic.{_≢_}
 use mathlib.Core.Bool.{Bool, true, false, not, cond}
 use mathlib.Core.List.{List, reverse}
 use Prim.Native.Nat.{ℕ, suc, _+_, _^_, _≤_}
@@ -15,14 +14,14 @@ use Rattle.terms.specs.Assignments.{Assignment, every, count}
 use Rattle.terms.specs.Faults.{firstFault}
 use Rattle.terms.specs.Table.{rowsOf, bitsOf, satisfies}
 use Rattle.terms.proofs.Assignments.{every-at, every-of, count-none-of, count-none-at, count-all-of, count-all-at}
-use Rattle.answers.specs.Pairs.{Pair, equationPairs, satisfiesPairs}
-use Rattle.answers.specs.Classes.{rep, inClass, roots}
+use Rattle.answers.specs.Pairs.{Pair, equationPairs, satisfiesPairs, equalUnder}
+use Rattle.answers.specs.inner.Classes.{rep, inClass, roots, Represents}
 use Rattle.answers.specs.declared.AnswerRow.{AnswerRow}
-use Rattle.answers.specs.Answer.{equalUnder, variableWidths, begins, appears, answerRows, freshPieces, freeBits, instantiate}
+use Rattle.answers.specs.Answer.{variableWidths, begins, appears, answerRows, freshPieces, freeBits, instantiate}
 use Rattle.laws.specs.Lists.{tally}
 use Rattle.answers.specs.Systems.{Part, SolvedSystem, freshCount, systemBits, Gives}
 use Rattle.answers.specs.Solve.{valid, unsatisfiable, unsatRow, pairsTogether, tiesTo, solvedRows, alwaysRecord, neverRecord, solvedRecord, answerRecord}
-use Rattle.answers.proofs.Agreement.{Represents, satisfies-reverse}
+use Rattle.answers.proofs.Agreement.{satisfies-reverse}
 use Rattle.answers.proofs.Slots.{fresh}
 use Rattle.answers.proofs.OurPieces.{mark}
 use Rattle.answers.proofs.FreeBits.{free-widths}
@@ -31,39 +30,7 @@ use Rattle.answers.proofs.GeneralSystems.{widthSum, minimal-system}
 use Rattle.answers.proofs.Instantiating.{fresh-pieces, free-bits, filling-satisfies, fillingOf, filling-bits, filling-gives, filling-unique}
 use Rattle.answers.proofs.Variables.{widths-sum, begins-first, begins-behind, system-bits}
 use Rattle.answers.proofs.Tables.{tableClasses, represent, satisfies-is, apart-one, rows-by-classes, table-count, roots-ties, every-same, equal-same, not-valid}
-
--- The one filling of the rows that gives an assignment.
-pub record TheFilling (rows : List AnswerRow) (p : List ℕ) : Type 0 where
-  pub filling : List ℕ
-  pub bits : Assignment (freeBits rows) filling
-  pub gives : instantiate rows filling ≡ p
-  pub only : (g : List ℕ) → Assignment (freeBits rows) g → instantiate rows g ≡ p → g ≡ filling
-
--- Rows that give the assignments that satisfy a table: every filling gives one, and each comes from exactly one filling.
-pub record Filled (t : List Row) (rows : List AnswerRow) : Type 0 where
-  pub every-filling : (f : List ℕ) → Assignment (freeBits rows) f → Assignment (bitsOf t) (instantiate rows f) × (satisfies t (instantiate rows f) ≡ true)
-  pub one-filling : (p : List ℕ) → Assignment (bitsOf t) p → satisfies t p ≡ true → TheFilling rows p
-
--- Demand 2: every filling of the fresh pieces gives an assignment that satisfies the table, and each that does comes from exactly one.
-abbrev pub Demand2 : List Row → Type 0
-Demand2 t = Filled t (solvedRows t)
-
--- Demand 3: the number of assignments that satisfy the table is zero exactly when the answer is never, all of them exactly when it is
--- always, and otherwise two to the power of free, the fresh pieces' summed widths, each piece once. Then fresh is the number of fresh
--- pieces in the answer's rows, and no solved system with the same patterns has fewer.
-pub record Demand3 (t : List Row) : Type 0 where
-  pub one-of-three : answerRecord t .outcome ≤ 2
-  pub never-of : count (bitsOf t) (satisfies t) ≡ 0 → answerRecord t .outcome ≡ 1
-  pub never-to : answerRecord t .outcome ≡ 1 → count (bitsOf t) (satisfies t) ≡ 0
-  pub always-of : count (bitsOf t) (satisfies t) ≡ 2 ^ bitsOf t → answerRecord t .outcome ≡ 0
-  pub always-to : answerRecord t .outcome ≡ 0 → count (bitsOf t) (satisfies t) ≡ 2 ^ bitsOf t
-  pub solved-count : answerRecord t .outcome ≡ 2 → count (bitsOf t) (satisfies t) ≡ 2 ^ answerRecord t .free
-  pub solved-pieces : answerRecord t .outcome ≡ 2 → answerRecord t .pieces ≡ length (solvedRows t)
-  pub solved-fresh : answerRecord t .outcome ≡ 2 → answerRecord t .fresh ≡ freshPieces (solvedRows t)
-  pub solved-free : answerRecord t .outcome ≡ 2 → answerRecord t .free ≡ freeBits (solvedRows t)
-  pub fewest : answerRecord t .outcome ≡ 2 → (sides : List (List Part)) → SolvedSystem (variableWidths t) sides → Gives (bitsOf t) (satisfies t) sides
-      → answerRecord t .fresh ≤ freshCount sides
-  pub free-and-ties : answerRecord t .outcome ≢ 1 → answerRecord t .free + answerRecord t .ties ≡ bitsOf t
+use Rattle.answers.specs.Demands.{Demand2, Demand3, Filled, SameAnswer, TheFilling}
 
 module _ (table : List ℕ) (accepted : firstFault table ≡ Accepted) where
   abbrev t : List Row
@@ -245,15 +212,6 @@ module _ (table : List ℕ) (accepted : firstFault table ≡ Accepted) (some : u
   pub solved-sum : freeBits (solvedRows (rowsOf table)) + tiesTo (rowsOf table) (length (rowsOf table)) ≡ bitsOf (rowsOf table)
   unfolding solvedRows
   solved-sum = summed table accepted some
-
--- The answer depends on the assignments that satisfy the table alone: two tables with the same variables and the same satisfying
--- assignments have equal outcomes, answer rows, pieces, fresh and free.
-pub record SameAnswer (t u : List Row) : Type 0 where
-  pub same-outcome : answerRecord t .outcome ≡ answerRecord u .outcome
-  pub same-rows : solvedRows t ≡ solvedRows u
-  pub same-pieces : answerRecord t .pieces ≡ answerRecord u .pieces
-  pub same-fresh : answerRecord t .fresh ≡ answerRecord u .fresh
-  pub same-free : answerRecord t .free ≡ answerRecord u .free
 
 -- a field of one of three records
 field-of : (f : Record → ℕ) (a b : Bool) (x y z : Record) → f (cond a x (cond b y z)) ≡ cond a (f x) (cond b (f y) (f z))

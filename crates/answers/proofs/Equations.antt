@@ -13,7 +13,8 @@ use Rattle.terms.proofs.RowKinds.{Equation, equation-or-not, of-equation, of-te
 use Rattle.terms.proofs.Faults.{kept, kept-names, kept-sides, equation-names}
 use Rattle.terms.proofs.Values.{Sound}
 use Rattle.terms.proofs.Sources.{value-sources, source-length}
-use Rattle.answers.specs.Pairs.{Pair, paired, pairsOf, pairsIn, equationPairs, satisfiesPairs, satisfiesAll, allPairs}
+use Rattle.answers.specs.Pairs.{Pair, paired, pairsOf, pairsIn, equationPairs, satisfiesPairs}
+use Rattle.answers.specs.Representatives.{satisfiesAll, allPairs}
 use Rattle.answers.proofs.Agreement.{satisfies-turned}
 use Rattle.laws.proofs.Bools.{and-move}
 

@@ -13,12 +13,13 @@ use Rattle.terms.specs.Assignments.{Assignment}
 use Rattle.terms.specs.Table.{bitOf}
 use Rattle.laws.specs.Lists.{countUp}
 use Rattle.terms.proofs.Assignments.{assignment-of, every-at, every-of}
-use Rattle.answers.specs.Pairs.{Pair, equals, representative, satisfiesPairs, ties}
-use Rattle.answers.specs.Classes.{classesOf, links, merge, relabel, rep, roots, run}
+use Rattle.answers.specs.Pairs.{Pair, equals, equalUnder, satisfiesPairs, ties}
+use Rattle.answers.specs.Representatives.{representative}
+use Rattle.answers.specs.inner.Classes.{classesOf, links, merge, relabel, rep, roots, run, Represents}
 use Rattle.answers.proofs.Relabelling.{relabel-hit, relabel-miss, hi, lo, hi-root}
 use Rattle.laws.proofs.Numbers.{dec-eq}
 use Rattle.laws.proofs.Lists.{map-read, map-same}
-use Rattle.answers.proofs.Agreement.{Represents, relabel-zero, step, base, run-represents}
+use Rattle.answers.proofs.Agreement.{relabel-zero, step, base, run-represents}
 use Rattle.laws.proofs.Numbers.{lt-or-le}
 use Rattle.laws.proofs.Lists.{tail-length, tail-at}
 use Rattle.laws.proofs.Least.{least-is}
@@ -103,14 +104,14 @@ module _ (n : ℕ) (c : List ℕ) (seen : List Pair) (inv : Represents n c seen)
   implies false b h = refl
 
   pub equals-to : (s t : ℕ) → equals n seen s t ≡ true → rep c s ≡ rep c t
-  unfolding equals
+  unfolding equalUnder
   equals-to s t h = apart (rep c s) (rep c t) (λ r z. sym (witness-at r z s) ∙ same r z ∙ witness-at r z t)
     where
       same : (r : ℕ) → r ≢ 0 → bitOf (witness r) s ≡ bitOf (witness r) t
       same r z = eqb-true (bitOf (witness r) s) (bitOf (witness r) t) (implied (satisfiesPairs (witness r) seen) (eqb (bitOf (witness r) s) (bitOf (witness r) t)) (every-at n (λ p. not (satisfiesPairs p seen) || eqb (bitOf p s) (bitOf p t)) h (witness r) (witness-bits r z)) (witness-satisfies r z))
 
   pub equals-of : (s t : ℕ) → rep c s ≡ rep c t → equals n seen s t ≡ true
-  unfolding equals
+  unfolding equalUnder
   equals-of s t e =
       every-of n (λ p. not (satisfiesPairs p seen) || eqb (bitOf p s) (bitOf p t))
       (λ p h. implies (satisfiesPairs p seen) (eqb (bitOf p s) (bitOf p t)) (λ m. eq-eqb (bitOf p s) (bitOf p t) (cc (inv .just p h m s, inv .just p h m t))))

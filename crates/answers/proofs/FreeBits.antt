@@ -8,10 +8,9 @@ use lib.Dec.{eqb}
 use lib.ListN.{length, getD, drop}
 use borrow.Author.Tests.{eqb-true, eq-eqb, le-leb}
 use Rattle.answers.specs.Pairs.{Pair}
-use Rattle.answers.specs.Classes.{rep, roots}
+use Rattle.answers.specs.inner.Classes.{rep, roots, Represents}
 use Rattle.laws.specs.Lists.{tally}
 use Rattle.laws.proofs.Bools.{same-test}
-use Rattle.answers.proofs.Agreement.{Represents}
 use Rattle.laws.proofs.Lists.{tail-length, tail-at}
 use Rattle.laws.proofs.Numbers.{two}
 use Rattle.laws.proofs.Tallies.{select-rank, tally-front}

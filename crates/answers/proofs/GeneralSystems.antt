@@ -9,10 +9,9 @@ use lib.Dec.{eqb, ltb}
 use lib.ListN.{length, getD, replicate, length-append, length-map, List·getD-map, List·getD-eq-default}
 use borrow.Author.Tests.{ne-eqb, ltb-true, ltb-false}
 use Rattle.answers.specs.Pairs.{Pair, satisfiesPairs}
-use Rattle.answers.specs.Classes.{rep}
+use Rattle.answers.specs.inner.Classes.{rep, Represents}
 use Rattle.answers.specs.Answer.{begins}
 use Rattle.answers.specs.Systems.{Part, fill as fillPart, fresh as freshPart, partWidth, sideWidth, FinePart, FineSide, FineSides, SolvedSystem, allLabels, freshCount, pieceBits, partBits, sideBits, systemBits, Gives}
-use Rattle.answers.proofs.Agreement.{Represents}
 use Rattle.laws.proofs.Lists.{tab, tab-at}
 use Rattle.answers.proofs.Slots.{fill, value, System, fresh}
 use Rattle.answers.proofs.Minimal.{minimal}

@@ -13,12 +13,11 @@ use borrow.Author.Tests.{eqb-true, eq-eqb, ne-eqb}
 use Rattle.terms.specs.Assignments.{Assignment}
 use Rattle.terms.proofs.Assignments.{assignment-length, assignment-bit, assignment-of}
 use Rattle.answers.specs.Pairs.{Pair, satisfiesPairs}
-use Rattle.answers.specs.Classes.{rep, inClass}
+use Rattle.answers.specs.inner.Classes.{rep, inClass, Represents}
 use Rattle.laws.specs.Lists.{tally, member}
 use Rattle.answers.specs.Answer.{begins, rowsTo, answerRows, isFresh, freshNumbers, freshPieces, freshWidth, freshStart, freeBits, rowBits, bitsOfRows, instantiate}
 use Rattle.answers.specs.declared.AnswerRow.{AnswerRow}
 use Rattle.laws.proofs.Numbers.{dec-eq}
-use Rattle.answers.proofs.Agreement.{Represents}
 use Rattle.laws.proofs.Numbers.{lt-or-le}
 use Rattle.laws.proofs.Tallies.{select, member-more, distinct-is}
 use Rattle.answers.proofs.Slots.{tab-assignment, Slot, fill, part, value, glued}

@@ -15,7 +15,8 @@ use Rattle.terms.proofs.AcceptedTable.{accepted-table}
 use Rattle.laws.proofs.Buffers.{overwrite-fits}
 use Rattle.terms.proofs.Faults.{totals-small}
 use Rattle.answers.specs.declared.AnswerRow.{AnswerRow}
-use Rattle.answers.specs.Answer.{equalUnder, variableWidths, answerNumbers}
+use Rattle.answers.specs.Answer.{variableWidths, answerNumbers}
+use Rattle.answers.specs.Pairs.{equalUnder}
 use Rattle.answers.specs.Solve.{solvedRows, answerRecord, solveRecord, answerAfter, workAfter}
 use Rattle.answers.proofs.Tables.{rows-few}
 use Rattle.answers.proofs.Demands.{demand-3}

@@ -11,10 +11,9 @@ use borrow.Author.Tests.{eqb-true, eq-eqb, leb-true, le-leb, not-true}
 use Rattle.terms.specs.Assignments.{Assignment}
 use Rattle.terms.specs.Table.{bitOf}
 use Rattle.answers.specs.Pairs.{Pair, satisfiesPairs}
-use Rattle.answers.specs.Classes.{rep}
+use Rattle.answers.specs.inner.Classes.{rep, Represents}
 use Rattle.laws.specs.Lists.{below, member, distinct}
 use Rattle.laws.proofs.Bools.{and-first, and-second, and-both}
-use Rattle.answers.proofs.Agreement.{Represents}
 use Rattle.laws.proofs.Numbers.{lt-or-le}
 use Rattle.answers.proofs.Exact.{equals-to}
 use Rattle.laws.proofs.Tallies.{below-of, pigeon}

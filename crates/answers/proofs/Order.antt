@@ -6,7 +6,8 @@ use Prim.Native.Nat.{ℕ, zero, suc, _+_}
 use lib.Dec.{eqb}
 use Rattle.terms.specs.Assignments.{every}
 use Rattle.terms.specs.Table.{bitOf}
-use Rattle.answers.specs.Pairs.{Pair, satisfiesPairs, equals, representative, turned}
+use Rattle.answers.specs.Pairs.{Pair, satisfiesPairs, equals, equalUnder}
+use Rattle.answers.specs.Representatives.{representative, turned, Reordered, SaySame, again, behind, exchanged, unchanged}
 use Rattle.laws.proofs.Least.{least-ext}
 use Rattle.laws.proofs.Numbers.{eqb-turn}
 use Rattle.laws.proofs.Bools.{and-past}
@@ -17,11 +18,8 @@ every-ext zero f g h = h []
 every-ext (suc n) f g h =
     ap₂ _&&_ (every-ext n (λ p. f (0 ∷ p)) (λ p. g (0 ∷ p)) (λ p. h (0 ∷ p))) (every-ext n (λ p. f (1 ∷ p)) (λ p. g (1 ∷ p)) (λ p. h (1 ∷ p)))
 
-abbrev pub SaySame : List Pair → List Pair → Type 0
-SaySame qs rs = (p : List ℕ) → satisfiesPairs p qs ≡ satisfiesPairs p rs
-
 pub equals-same : (n : ℕ) (qs rs : List Pair) → SaySame qs rs → (s t : ℕ) → equals n qs s t ≡ equals n rs s t
-unfolding equals
+unfolding equalUnder
 equals-same n qs rs h s t =
     every-ext n (λ p. not (satisfiesPairs p qs) || eqb (bitOf p s) (bitOf p t)) (λ p. not (satisfiesPairs p rs) || eqb (bitOf p s) (bitOf p t))
     (λ p. ap (λ (b : Bool). not b || eqb (bitOf p s) (bitOf p t)) (h p))
@@ -49,13 +47,6 @@ pub sides-exchanged : (qs : List Pair) → SaySame (map turned qs) qs
 unfolding satisfiesPairs
 sides-exchanged [] p = refl
 sides-exchanged (q ∷ qs) p = ap₂ _&&_ (eqb-turn (bitOf p (q .right)) (bitOf p (q .left))) (sides-exchanged qs p)
-
--- the same pairs in another order: neighbours exchanged, any number of times
-pub data Reordered : List Pair → List Pair → Type 0 where
-  unchanged : {qs : List Pair} → Reordered qs qs
-  exchanged : {q r : Pair} {qs : List Pair} → Reordered (q ∷ r ∷ qs) (r ∷ q ∷ qs)
-  behind : {q : Pair} {qs rs : List Pair} → Reordered qs rs → Reordered (q ∷ qs) (q ∷ rs)
-  again : {qs rs ss : List Pair} → Reordered qs rs → Reordered rs ss → Reordered qs ss
 
 pub order-free : {qs rs : List Pair} → Reordered qs rs → SaySame qs rs
 unfolding satisfiesPairs

@@ -11,11 +11,11 @@ use borrow.Author.Tests.{eqb-true, eq-eqb, le-leb, lt-leb, not-true}
 use Rattle.terms.specs.Assignments.{Assignment}
 use Rattle.terms.specs.Table.{bitOf}
 use Rattle.answers.specs.Pairs.{Pair, satisfiesPairs}
-use Rattle.answers.specs.Classes.{rep}
+use Rattle.answers.specs.inner.Classes.{rep, Represents}
 use Rattle.laws.specs.Lists.{tally}
 use Rattle.laws.proofs.Bools.{and-first, and-second, and-both}
 use Rattle.laws.proofs.Numbers.{dec-eq}
-use Rattle.answers.proofs.Agreement.{Represents, bit-past}
+use Rattle.answers.proofs.Agreement.{bit-past}
 use Rattle.laws.proofs.Numbers.{lt-or-le}
 use Rattle.laws.proofs.Tallies.{tally-mono, select, select-rank, select-mark}
 use Rattle.laws.proofs.Lists.{tab, tab-at}

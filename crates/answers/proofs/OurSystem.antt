@@ -14,13 +14,13 @@ use Rattle.terms.specs.Faults.{firstFault}
 use Rattle.terms.specs.Table.{rowsOf, bitsOf, satisfies}
 use Rattle.terms.proofs.Assignments.{assignment-length, assignment-bit}
 use Rattle.answers.specs.Pairs.{Pair, equationPairs, satisfiesPairs}
-use Rattle.answers.specs.Classes.{rep, inClass}
+use Rattle.answers.specs.inner.Classes.{rep, inClass, Represents}
 use Rattle.answers.specs.Answer.{variableWidths, begins, rowsTo, answerRows, isFresh, freshPieces}
 use Rattle.answers.specs.declared.AnswerRow.{AnswerRow}
 use Rattle.laws.specs.Lists.{distinct}
 use Rattle.answers.specs.Systems.{fill as fillPart, fresh as freshPart, FinePart, SolvedSystem, labelsOf, freshCount, pieceBits, partBits, sideBits, systemBits, Filling, Gives}
 use Rattle.answers.specs.Solve.{valid, unsatisfiable, pairsTogether, solvedRows, answerRecord}
-use Rattle.answers.proofs.Agreement.{Represents, satisfies-reverse}
+use Rattle.answers.proofs.Agreement.{satisfies-reverse}
 use Rattle.answers.proofs.Slots.{Slot, fill, part, value, tab-assignment}
 use Rattle.laws.proofs.Lists.{tab, tab-at, tab-length, tab-more}
 use Rattle.answers.proofs.OurPieces.{slot, wide, slot-bits, slot-gives, slot-reads, filled}
@@ -30,13 +30,8 @@ use Rattle.answers.proofs.GeneralSystems.{widthSum}
 use Rattle.answers.proofs.Variables.{widths-sum, begins-first, begins-behind}
 use Rattle.answers.proofs.Tables.{tableClasses, represent, satisfies-is, apart-one, solved-rows}
 use Rattle.answers.proofs.Demands.{demand-3}
-use Rattle.answers.proofs.RowSides.{partOf, sidesOf, flat, labels-flat, bits-flat, row-labels, flat-rows, fine-sides, InOrder, in-order}
-
--- A table's answer as a solved system: its sides, its patterns, and its fresh pieces.
-pub record AnswerSystem (t : List Row) : Type 0 where
-  pub solves : SolvedSystem (variableWidths t) (sidesOf (variableWidths t) (solvedRows t))
-  pub gives : Gives (bitsOf t) (satisfies t) (sidesOf (variableWidths t) (solvedRows t))
-  pub pieces : freshCount (sidesOf (variableWidths t) (solvedRows t)) ≡ answerRecord t .fresh
+use Rattle.answers.proofs.RowSides.{flat, labels-flat, bits-flat, row-labels, flat-rows, fine-sides, InOrder, in-order}
+use Rattle.answers.specs.Demands.{partOf, sidesOf, AnswerSystem}
 
 each-two : (P Q R : AnswerRow → Type 0) (xs : List AnswerRow) → ((x : AnswerRow) → P x → Q x → R x) → Each P xs → Each Q xs → Each R xs
 each-two P Q R [] h k l = tt

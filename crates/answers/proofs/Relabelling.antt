@@ -4,7 +4,7 @@ use mathlib.Core.Logic.{_⊎_, inl, inr, _≢_}
 use Prim.Native.Nat.{ℕ, _≤_, min, max}
 use native.Mathlib.Omega.{arith}
 use borrow.Author.Tests.{eq-eqb, ne-eqb}
-use Rattle.answers.specs.Classes.{relabel}
+use Rattle.answers.specs.inner.Classes.{relabel}
 use Rattle.laws.proofs.Numbers.{dec-eq}
 
 pub relabel-hit : (hi lo v : ℕ) → v ≡ hi → relabel hi lo v ≡ lo

@@ -9,12 +9,11 @@ use lib.Dec.{eqb, leb}
 use borrow.Author.Tests.{eqb-true, eq-eqb, ne-eqb, le-leb, lt-leb, not-true}
 use Rattle.answers.specs.Pairs.{Pair}
 use Rattle.laws.specs.Lists.{least}
-use Rattle.answers.specs.Classes.{rep, inClass}
+use Rattle.answers.specs.inner.Classes.{rep, inClass, Represents}
 use Rattle.laws.specs.Lists.{below}
 use Rattle.answers.specs.Answer.{begins, fixedTo, unfixed, contiguous, fixedAlike, goesOn, lowest, appears}
 use Rattle.laws.proofs.Bools.{and-first, same-test}
 use Rattle.laws.proofs.Numbers.{dec-eq}
-use Rattle.answers.proofs.Agreement.{Represents}
 use Rattle.laws.proofs.Numbers.{lt-or-le}
 use Rattle.answers.proofs.Slots.{loose, glued, heads}
 use Rattle.answers.proofs.Gluing.{glued-e}

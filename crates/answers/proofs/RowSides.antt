@@ -21,22 +21,7 @@ use Rattle.answers.proofs.Instantiating.{each-turn}
 use Rattle.answers.proofs.GeneralSystems.{widthSum}
 use Rattle.answers.proofs.Variables.{begins-first}
 use Rattle.laws.proofs.Tallies.{tally-all, tally-ext, tally-no, tally-apart}
-
--- A row as a part of a right side, labelled by its fresh number.
-unfoldable pub partOf : AnswerRow → Part
-partOf r = cond (isFresh r) (fresh (r .fresh) (r .width)) (fill (r .kind) (r .width))
-
--- The right side of variable v; those of m variables from v on; and those of variables of the widths ws.
-unfoldable pub sideOf : ℕ → List AnswerRow → List Part
-sideOf v [] = []
-sideOf v (r ∷ rows) = cond (eqb (r .variable) v) (partOf r ∷ sideOf v rows) (sideOf v rows)
-
-unfoldable pub sidesFrom : ℕ → ℕ → List AnswerRow → List (List Part)
-sidesFrom v zero rows = []
-sidesFrom v (suc m) rows = sideOf v rows ∷ sidesFrom (suc v) m rows
-
-unfoldable pub sidesOf : List ℕ → List AnswerRow → List (List Part)
-sidesOf ws rows = sidesFrom 0 (length ws) rows
+use Rattle.answers.specs.Demands.{partOf, sideOf, sidesFrom, sidesOf}
 
 -- all parts in one list
 unfoldable pub flat : List (List Part) → List Part

@@ -10,13 +10,13 @@ use borrow.Author.Tests.{eq-eqb}
 use Rattle.terms.specs.Assignments.{Assignment}
 use Rattle.terms.specs.Table.{bitOf}
 use Rattle.terms.proofs.Assignments.{every-of, assignment-of}
-use Rattle.answers.specs.Pairs.{Pair, satisfiesPairs, equals}
+use Rattle.answers.specs.Pairs.{Pair, satisfiesPairs, equals, equalUnder}
 use Rattle.laws.specs.Lists.{below, tally, member}
 use Rattle.laws.proofs.Lists.{tab, tab-length, tab-at}
 
 -- what holds in every pattern, as a statement
 pub equals-from : (n : ℕ) (seen : List Pair) (s t : ℕ) → ((p : List ℕ) → Assignment n p → satisfiesPairs p seen ≡ true → bitOf p s ≡ bitOf p t) → equals n seen s t ≡ true
-unfolding equals
+unfolding equalUnder
 equals-from n seen s t h = every-of n (λ p. not (satisfiesPairs p seen) || eqb (bitOf p s) (bitOf p t)) (λ p k. go p k (satisfiesPairs p seen) refl)
   where
     go : (p : List ℕ) → Assignment n p → (b : Bool) → satisfiesPairs p seen ≡ b → not b || eqb (bitOf p s) (bitOf p t) ≡ true

@@ -18,18 +18,20 @@ use Rattle.laws.specs.Lists.{countUp}
 use Rattle.terms.proofs.AcceptedTable.{accepted-table}
 use Rattle.terms.proofs.Assignments.{assignment-length, every-at, every-of, count-ext, count-none-of, count-all-of, count-all-at}
 use Rattle.terms.proofs.Values.{Sound}
-use Rattle.answers.specs.Pairs.{Pair, pairsOf, pairsIn, equationPairs, satisfiesPairs, satisfiesAll, allPairs, equals, ties, noneSatisfies, unsatAt, tiesBefore}
+use Rattle.answers.specs.Pairs.{Pair, pairsOf, pairsIn, equationPairs, satisfiesPairs, ties, equalUnder}
+use Rattle.answers.proofs.Conflicts.{unsatAt, tiesBefore}
+use Rattle.answers.specs.Representatives.{satisfiesAll, allPairs, noneSatisfies, Satisfiable}
 use Rattle.laws.specs.Lists.{least}
-use Rattle.answers.specs.Classes.{rep, inClass, classesOf, runAll, roots, conflictAt, linksBefore}
-use Rattle.answers.specs.Answer.{placed, placeRow, goesOn, rowsTo, equalUnder, variableWidths, answerRows}
+use Rattle.answers.specs.inner.Classes.{rep, inClass, classesOf, runAll, roots, conflictAt, linksBefore, Represents}
+use Rattle.answers.specs.Answer.{placed, placeRow, goesOn, rowsTo, variableWidths, answerRows}
 use Rattle.answers.specs.declared.AnswerRow.{AnswerRow}
 use Rattle.answers.specs.Solve.{valid, unsatisfiable, satisfiesTo, unsatRow, pairsTogether, tiesTo, solvedRows, alwaysRecord, neverRecord, solvedRecord, answerRecord}
-use Rattle.answers.proofs.Agreement.{Represents, classes-represent, satisfies-reverse}
+use Rattle.answers.proofs.Agreement.{classes-represent, satisfies-reverse}
 use Rattle.laws.proofs.Bools.{same-test}
 use Rattle.laws.proofs.Numbers.{lt-or-le, power-same, power-pos}
 use Rattle.answers.proofs.Exact.{equals-is}
 use Rattle.answers.proofs.Equations.{table-pairs, rows-pairs, row-pairs, all-pairs}
-use Rattle.answers.proofs.Theorems.{Satisfiable, apart, satisfying-count, free-and-ties, conflict-place, links-before}
+use Rattle.answers.proofs.Theorems.{apart, satisfying-count, free-and-ties, conflict-place, links-before}
 use Rattle.answers.proofs.Together.{run-together, satisfies-together, ties-together, unsat-least, unsat-most, none-below, some-left}
 
 -- a test that agrees at every assignment
@@ -137,6 +139,13 @@ module _ (table : List ℕ) (accepted : firstFault table ≡ Accepted) where
   unfolding tiesTo
   ties-row = ap (λ (r : ℕ). ties n [] (pairsTogether (take r es))) unsat-row ∙ sym (ties-together n [] es)
 
+  -- where the fixed bits fall into one class no assignment is left, and the links before it are the ties
+  pub conflict-row : conflictAt (countUp 0 (suc (suc n))) es ≡ unsatRow t
+  conflict-row = conflict-place n es ∙ sym unsat-row
+
+  pub links-row : linksBefore (countUp 0 (suc (suc n))) es ≡ tiesTo t (unsatRow t)
+  links-row = links-before n es ∙ sym ties-row
+
   pub ties-all : tiesTo t (length t) ≡ ties n [] qs
   unfolding tiesTo
   ties-all = ap (λ (l : List (List Pair)). ties n [] (pairsTogether l)) (take-all (length t) es (omega (arith, pairs-length t t)))
@@ -154,10 +163,7 @@ module _ (table : List ℕ) (accepted : firstFault table ≡ Accepted) where
     unfolding inClass
     same-relation =
         equal-same n (satisfies t) (λ p. satisfiesPairs p (reverse qs)) (λ p a. satisfies-is p a ∙ sym (satisfies-reverse p qs))
-        ∙ fun-ext (λ s. fun-ext (λ u. by-pairs s u ∙ equals-is n tableClasses (reverse qs) represent apart-one s u))
-      where
-        by-pairs : (s u : ℕ) → equalUnder n (λ p. satisfiesPairs p (reverse qs)) s u ≡ equals n (reverse qs) s u
-        by-pairs s u = unfold equalUnder equals in refl
+        ∙ fun-ext (λ s. fun-ext (λ u. equals-is n tableClasses (reverse qs) represent apart-one s u))
 
     pub rows-by-classes : answerRows n (variableWidths t) (equalUnder n (satisfies t)) ≡ answerRows n (variableWidths t) (inClass tableClasses)
     rows-by-classes = ap (answerRows n (variableWidths t)) same-relation
@@ -244,7 +250,7 @@ module _ (table : List ℕ) (accepted : firstFault table ≡ Accepted) where
   unfolding answerRecord
   never-record l =
       let u = is-never l in
-      rw (not-valid u, u) (ap₂ neverRecord (ties-row ∙ sym (links-before n es)) (unsat-row ∙ sym (conflict-place n es)))
+      rw (not-valid u, u) (ap₂ neverRecord (sym links-row) (sym conflict-row))
 
   pub always-record : conflictAt (countUp 0 (suc (suc n))) es ≡ length t → linksBefore (countUp 0 (suc (suc n))) es ≡ 0 → answerRecord t ≡ alwaysRecord n
   unfolding answerRecord

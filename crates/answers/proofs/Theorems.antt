@@ -1,7 +1,7 @@
 -- Pairs and their classes (demands 2 and 3, for lists of pairs): the classes are the representatives, the links are the ties, a
 -- conflict is reported exactly if nothing satisfies the pairs, and so many assignments satisfy them. Assumes nothing.
 use mathlib.Core.Path.{_≡_, sym, _∙_, ap}
-use mathlib.Core.Bool.{true, false, not}
+use mathlib.Core.Bool.{true, not}
 use mathlib.Core.List.{List, [], reverse}
 use Prim.Native.Nat.{ℕ, suc, _+_, _^_}
 use native.Mathlib.Omega.{arith}
@@ -12,16 +12,14 @@ use Rattle.terms.specs.Assignments.{Assignment, count}
 use Rattle.terms.specs.Table.{bitOf}
 use Rattle.laws.specs.Lists.{countUp}
 use Rattle.terms.proofs.Assignments.{every-at, count-none-of}
-use Rattle.answers.specs.Pairs.{Pair, satisfiesPairs, representative, ties, noneSatisfies, unsatAt, tiesBefore}
-use Rattle.answers.specs.Classes.{rep, classesOf, roots, links, conflictAt, linksBefore}
+use Rattle.answers.specs.Pairs.{Pair, satisfiesPairs, ties}
+use Rattle.answers.specs.Representatives.{representative, noneSatisfies, SaySame, Satisfiable}
+use Rattle.answers.specs.inner.Classes.{rep, classesOf, roots, links, conflictAt, linksBefore}
 use Rattle.answers.proofs.Agreement.{classes-represent, satisfies-reverse, base}
 use Rattle.answers.proofs.Counting.{count-satisfying}
 use Rattle.answers.proofs.Exact.{representative-is, ties-are, free-ties}
-use Rattle.answers.proofs.Conflicts.{none-satisfies-is, unsat-is, ties-before-are}
-use Rattle.answers.proofs.Order.{SaySame, representative-same, every-ext}
-
-abbrev pub Satisfiable : ℕ → List Pair → Type 0
-Satisfiable n qs = noneSatisfies n qs ≡ false
+use Rattle.answers.proofs.Conflicts.{none-satisfies-is, unsat-is, ties-before-are, unsatAt, tiesBefore}
+use Rattle.answers.proofs.Order.{representative-same, every-ext}
 
 none-same : (n : ℕ) (qs rs : List Pair) → SaySame qs rs → noneSatisfies n qs ≡ noneSatisfies n rs
 unfolding noneSatisfies

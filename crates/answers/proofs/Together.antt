@@ -7,9 +7,11 @@ use native.Mathlib.Omega.{arith}
 use lib.ListN.{length, take}
 use borrow.Author.Tests.{not-true}
 use Rattle.terms.proofs.Assignments.{every-at, every-of}
-use Rattle.answers.specs.Pairs.{Pair, satisfiesPairs, satisfiesAll, allPairs, ties, noneSatisfies, unsatAt, tiesBefore}
+use Rattle.answers.specs.Pairs.{Pair, satisfiesPairs, ties}
+use Rattle.answers.proofs.Conflicts.{unsatAt, tiesBefore}
+use Rattle.answers.specs.Representatives.{satisfiesAll, allPairs, noneSatisfies}
 use Rattle.laws.specs.Lists.{least}
-use Rattle.answers.specs.Classes.{run, runAll}
+use Rattle.answers.specs.inner.Classes.{run, runAll}
 use Rattle.answers.specs.Solve.{pairsTogether}
 use Rattle.laws.proofs.Bools.{and-second}
 use Rattle.answers.proofs.Equations.{all-pairs}

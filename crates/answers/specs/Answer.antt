@@ -7,13 +7,8 @@ use lib.Dec.{eqb, ltb}
 use lib.ListN.{getD, take, drop, replicate}
 use Rattle.terms.specs.declared.Row.{Row}
 use Rattle.answers.specs.declared.AnswerRow.{AnswerRow}
-use Rattle.terms.specs.Assignments.{every}
-use Rattle.terms.specs.Table.{ifVariable, bitOf}
+use Rattle.terms.specs.Table.{ifVariable}
 use Rattle.laws.specs.Lists.{least, below, tally, distinct}
-
--- Whether two sources have the same bit in every assignment of n bits that passes a test.
-unfoldable pub equalUnder : ℕ → (List ℕ → Bool) → ℕ → ℕ → Bool
-equalUnder n test s t = every n (λ p. not (test p) || eqb (bitOf p s) (bitOf p t))
 
 -- The widths of the variables of a table, variable 0 first.
 unfoldable pub variableWidths : List Row → List ℕ

@@ -1,6 +1,8 @@
 pub mod Pairs
-pub mod Classes
 pub mod Answer
-pub mod Systems
 pub mod Solve
 pub mod RightSide
+pub mod Systems
+pub mod Demands
+pub mod Representatives
+pub mod inner

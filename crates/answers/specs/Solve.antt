@@ -12,10 +12,10 @@ use Rattle.terms.specs.Calls.{refusal, faultRecord, stopAt}
 use Rattle.laws.specs.Buffers.{overwrite}
 use Rattle.terms.specs.Faults.{isAccepted, firstFault}
 use Rattle.terms.specs.Table.{rowsOf, bitsOf, valuesOf, sidesAgree, allRows, satisfies}
-use Rattle.answers.specs.Pairs.{Pair, equationPairs, ties}
+use Rattle.answers.specs.Pairs.{Pair, equationPairs, ties, equalUnder}
 use Rattle.laws.specs.Lists.{least}
 use Rattle.answers.specs.declared.AnswerRow.{AnswerRow}
-use Rattle.answers.specs.Answer.{equalUnder, variableWidths, answerRows, answerNumbers, freshPieces, freeBits}
+use Rattle.answers.specs.Answer.{variableWidths, answerRows, answerNumbers, freshPieces, freeBits}
 
 -- Whether every assignment satisfies a table; whether none does.
 unfoldable pub valid : List Row → Bool

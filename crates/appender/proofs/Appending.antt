@@ -10,8 +10,8 @@ use Rattle.laws.proofs.Buffers.{overwrite-length}
 use Rattle.laws.proofs.Lists.{map-append}
 use Rattle.forms.specs.declared.Piece.{Piece}
 use Rattle.forms.specs.Form.{group, pieceOf, formFrom, numbersOf, pieceWidth, formWidth, formOf, addAll}
-use Rattle.appender.specs.Append.{Has, Appended}
-use Rattle.pieces.specs.Pieces.{pushedCount, pushedNumbers}
+use Rattle.appender.specs.inner.Append.{Has, Appended}
+use Rattle.pieces.specs.inner.Pieces.{pushedCount, pushedNumbers}
 use Rattle.forms.proofs.Maximal.{pushed, group-push}
 use Rattle.forms.proofs.PieceWidths.{Proper, AllProper, some}
 use Rattle.pieces.proofs.Pushing.{pushed-form}

@@ -15,12 +15,12 @@ use Rattle.terms.specs.Table.{rowsOf, rowAt, widthOf, sourceOf, extract}
 use Rattle.terms.specs.Faults.{absent}
 use Rattle.forms.specs.declared.Piece.{Piece}
 use Rattle.forms.specs.Form.{part, formFrom}
-use Rattle.forms.specs.Numbered.{Numbered}
+use Rattle.forms.specs.inner.Numbered.{Numbered}
 use Rattle.forms.proofs.RowForms.{width-some, width-read, whole-cut, first-earlier, concat-left, variable-cut, constant-cut, cut-there, cut-bounds, cut-sources, shifted-within, shifted-small, cut-cut, left-there, right-there, right-earlier, both-sources, right-cut, left-cut, left-within, across}
-use Rattle.pieces.specs.Pieces.{pushedCount, pushedNumbers}
+use Rattle.pieces.specs.inner.Pieces.{pushedCount, pushedNumbers}
 use Rattle.appender.specs.declared.Cut.{Cut}
 use Rattle.appender.specs.declared.Part.{Part}
-use Rattle.appender.specs.Cuts.{isLeaf, leafPiece, AppendsForm, AppendsCut, leftBits, rightBits, partSources, Within, AppendsPart, AppendsParts}
+use Rattle.appender.specs.inner.Cuts.{isLeaf, leafPiece, AppendsForm, AppendsCut, leftBits, rightBits, partSources, Within, AppendsPart, AppendsParts}
 use Rattle.appender.proofs.Appending.{appended-none, appended-push, appended-same, appended-both}
 
 -- a row that is no leaf is neither a variable nor a constant

@@ -4,7 +4,7 @@
 // with the last piece where they meet. So the two phases of figure 3 are one pass, and what stands in the buffer is always the normal form of
 // the bits that were met.
 ghost use mathlib.Core.Path.{_≡_};
-ghost use Rattle.appender.specs.Cuts.{isLeaf, leafPiece, AppendsForm, AppendsCut, leftBits, rightBits, AppendsPart, AppendsParts};
+ghost use Rattle.appender.specs.inner.Cuts.{isLeaf, leafPiece, AppendsForm, AppendsCut, leftBits, rightBits, AppendsPart, AppendsParts};
 use forms::Piece;
 use terms::Row;
 

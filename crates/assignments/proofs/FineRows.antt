@@ -10,11 +10,10 @@ use lib.Dec.{eqb}
 use lib.ListN.{length}
 use borrow.Author.Tests.{eq-eqb, ne-eqb, lt-leb}
 use Rattle.answers.specs.Pairs.{Pair}
-use Rattle.answers.specs.Classes.{rep, inClass}
+use Rattle.answers.specs.inner.Classes.{rep, inClass, Represents}
 use Rattle.laws.specs.Lists.{tally, member}
 use Rattle.answers.specs.Answer.{begins, variableAt, fixedTo, unfixed, goesOn, placeRow, widened, placed, rowsTo, answerRows, isFresh, freshNumbers}
 use Rattle.answers.specs.declared.AnswerRow.{AnswerRow}
-use Rattle.answers.proofs.Agreement.{Represents}
 use Rattle.laws.proofs.Numbers.{lt-or-le}
 use Rattle.laws.proofs.Tallies.{tally-mono, tally-up}
 use Rattle.answers.proofs.Slots.{glued}

@@ -14,9 +14,9 @@ use Rattle.terms.proofs.AcceptedTable.{accepted-table}
 use Rattle.terms.proofs.Faults.{kept, kept-width, totals-small}
 use Rattle.terms.proofs.Values.{width-variable}
 use Rattle.answers.specs.Answer.{variableWidths}
-use Rattle.answers.proofs.Agreement.{Represents}
-use Rattle.borders.specs.Rows.{PutsRows}
-use Rattle.borders.specs.Borders.{Zeros, MarksBegins, BeginsMarked, evenAt, MarksUneven, PutsPlaces, PlacesPut}
+use Rattle.answers.specs.inner.Classes.{Represents}
+use Rattle.borders.specs.inner.Rows.{PutsRows}
+use Rattle.borders.specs.inner.Borders.{Zeros, MarksBegins, BeginsMarked, evenAt, MarksUneven, PutsPlaces, PlacesPut}
 use Rattle.answers.proofs.Variables.{widths-sum, begins-first}
 use Rattle.borders.proofs.Beginning.{Positive, widths-positive, variable-tally}
 

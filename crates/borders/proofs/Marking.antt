@@ -21,7 +21,7 @@ use Rattle.answers.specs.Answer.{variableWidths, begins}
 use Rattle.laws.proofs.Numbers.{dec-eq}
 use Rattle.laws.proofs.Numbers.{lt-or-le}
 use Rattle.answers.proofs.GeneralSystems.{widthSum}
-use Rattle.borders.specs.Borders.{Zeros, MarksBegins}
+use Rattle.borders.specs.inner.Borders.{Zeros, MarksBegins}
 use Rattle.answers.proofs.Variables.{widths-sum}
 use Rattle.borders.proofs.Beginning.{begins-low, begins-high, begins-past, widths-append, begins-row}
 

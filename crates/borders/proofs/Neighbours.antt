@@ -11,7 +11,7 @@ use lib.ListN.{getD}
 use borrow.Author.Tests.{eqb-true, eq-eqb, lt-ltb, le-ltb, not-true, ltb-false}
 use Rattle.laws.proofs.Bools.{not-both, open-mark, cond-not, cond-there, even-mark}
 use Rattle.answers.specs.Pairs.{Pair}
-use Rattle.answers.specs.Classes.{rep, inClass}
+use Rattle.answers.specs.inner.Classes.{rep, inClass}
 use Rattle.answers.specs.Answer.{implies, begins, goesOn}
 use Rattle.laws.proofs.Bools.{and-first, and-second, same-test}
 use Rattle.laws.proofs.Numbers.{lt-or-le}
@@ -19,7 +19,7 @@ use Rattle.laws.proofs.Tallies.{below-of, below-at, implied}
 use Rattle.answers.proofs.Slots.{glued}
 use Rattle.answers.proofs.Gluing.{Glue, glued-e, glued-i}
 use Rattle.answers.proofs.Relation.{goes-loose, goes-fixed}
-use Rattle.borders.specs.Borders.{besideIn, evenAt, goesIn, Bordered}
+use Rattle.borders.specs.inner.Borders.{besideIn, evenAt, goesIn, Bordered}
 
 -- neighbours that are all the same
 module _ (m c : List ℕ) (side r n : ℕ) where

@@ -13,7 +13,7 @@ use borrow.Author.Tests.{eqb-true, eq-eqb, ne-eqb, lt-ltb, le-ltb, le-leb, lt-le
 use Rattle.laws.specs.Buffers.{overwrite}
 use Rattle.laws.proofs.Bools.{not-both, one-most}
 use Rattle.answers.specs.Pairs.{Pair}
-use Rattle.answers.specs.Classes.{rep, inClass}
+use Rattle.answers.specs.inner.Classes.{rep, inClass}
 use Rattle.laws.specs.Lists.{tally}
 use Rattle.answers.specs.Answer.{begins, variableAt, fixedTo, unfixed, goesOn, lowest, appears, placeRow, widened, placed, rowsTo, answerRows, answerNumbers}
 use Rattle.answers.specs.declared.AnswerRow.{AnswerRow}
@@ -22,9 +22,9 @@ use Rattle.laws.proofs.Numbers.{dec-eq}
 use Rattle.laws.proofs.Numbers.{lt-or-le}
 use Rattle.answers.proofs.Relation.{fixed-is, unfixed-is, lowest-is}
 use Rattle.borders.specs.declared.Progress.{Progress}
-use Rattle.borders.specs.Borders.{numberIn, stepIn, rowWritten, Bordered, PutsPlaces}
+use Rattle.borders.specs.inner.Borders.{numberIn, stepIn, rowWritten, Bordered, PutsPlaces}
 use Rattle.borders.proofs.Neighbours.{goes-is}
-use Rattle.borders.specs.Borders.{rowOf}
+use Rattle.borders.specs.inner.Borders.{rowOf}
 use Rattle.borders.proofs.RowNumbers.{row-next, row-anew}
 use Rattle.laws.proofs.Tallies.{tally-most}
 

@@ -7,11 +7,11 @@ use lib.ListN.{length, length-reverse}
 use Rattle.laws.specs.Buffers.{overwrite}
 use Rattle.laws.proofs.Buffers.{four-more, four-anew}
 use Rattle.answers.proofs.AnswerNumbers.{answer-append, numbers-length}
-use Rattle.answer_table.specs.Rows.{answerRowPut}
+use Rattle.answer_table.specs.inner.Rows.{answerRowPut}
 use Rattle.answers.specs.declared.AnswerRow.{AnswerRow}
 use Rattle.answers.specs.Answer.{answerNumbers}
 use Rattle.borders.specs.declared.Progress.{Progress}
-use Rattle.borders.specs.Borders.{rowWritten, rowOf}
+use Rattle.borders.specs.inner.Borders.{rowWritten, rowOf}
 
 module _ (old : List ℕ) (p : Progress) (rest : List AnswerRow) (n : p .rows ≡ suc (length rest)) where
   abbrev s : List ℕ

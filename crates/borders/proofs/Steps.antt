@@ -8,9 +8,9 @@ use native.Mathlib.Omega.{arith}
 use lib.Dec.{eqb}
 use lib.ListN.{getD, set}
 use borrow.Author.Tests.{eq-eqb, ne-eqb, lt-ltb, le-ltb}
-use Rattle.answers.specs.Classes.{rep}
+use Rattle.answers.specs.inner.Classes.{rep}
 use Rattle.borders.specs.declared.Progress.{Progress}
-use Rattle.borders.specs.Borders.{besideIn, unevenWith, goesIn, numberIn, stepIn}
+use Rattle.borders.specs.inner.Borders.{besideIn, unevenWith, goesIn, numberIn, stepIn}
 
 -- the neighbour of a place
 module _ (m c : List ℕ) (side k a b x : ℕ) (ea : a ≡ k) (eb : b ≡ side) (ex : x ≡ getD m (a + b) 0) where

@@ -10,11 +10,11 @@ use lib.Dec.{eqb}
 use lib.ListN.{length, getD, set}
 use lib.Seq.{getD-set-same, getD-set-other}
 use borrow.Author.Tests.{eq-eqb, ne-eqb}
-use Rattle.answers.specs.Classes.{rep}
+use Rattle.answers.specs.inner.Classes.{rep}
 use Rattle.laws.specs.Lists.{below}
 use Rattle.answers.specs.Answer.{implies}
 use Rattle.laws.proofs.Numbers.{dec-eq}
-use Rattle.borders.specs.Borders.{besideIn, evenAt, MarksUneven, unevenWith}
+use Rattle.borders.specs.inner.Borders.{besideIn, evenAt, MarksUneven, unevenWith}
 use Rattle.laws.proofs.Bools.{mark-next}
 
 -- with k places passed, the marks are those of the first k

@@ -4,8 +4,8 @@ ghost use mathlib.Core.Path.{_≡_};
 ghost use mathlib.Core.Bool.{cond};
 ghost use Prim.Native.Nat.{suc, min};
 ghost use lib.Dec.{eqb};
-ghost use Rattle.borders.specs.Rows.{PutsRows};
-ghost use Rattle.borders.specs.Borders.{MarksBegins, besideIn, unevenWith, MarksUneven, goesIn, numberIn, stepIn, rowWritten, PutsPlaces};
+ghost use Rattle.borders.specs.inner.Rows.{PutsRows};
+ghost use Rattle.borders.specs.inner.Borders.{MarksBegins, besideIn, unevenWith, MarksUneven, goesIn, numberIn, stepIn, rowWritten, PutsPlaces};
 use answers::AnswerRow;
 
 // How many rows an answer has, and how many fresh pieces.

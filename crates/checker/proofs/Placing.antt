@@ -13,7 +13,7 @@ use Rattle.terms.specs.declared.Row.{Row}
 use Rattle.terms.specs.declared.Fault.the-variants.{Accepted}
 use Rattle.terms.specs.Table.{rowsOf, rowAt, bitsOf, countKind}
 use Rattle.terms.specs.Faults.{firstFault}
-use Rattle.terms.specs.Places.{sourceBefore, NumbersVariables, FindsSources}
+use Rattle.terms.specs.inner.Places.{sourceBefore, NumbersVariables, FindsSources}
 use Rattle.laws.proofs.Numbers.{lt-or-le}
 use Rattle.terms.proofs.AcceptedTable.{accepted-table}
 use Rattle.terms.proofs.Faults.{totals-small}

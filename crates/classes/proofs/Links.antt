@@ -8,14 +8,14 @@ use lib.ListN.{length, getD, set, length-set, length-map}
 use lib.Seq.{getD-set-other, ext-getD}
 use borrow.Author.Tests.{eq-eqb, ne-eqb}
 use Rattle.answers.specs.Pairs.{Pair}
-use Rattle.answers.specs.Classes.{rep, relabel, merge}
+use Rattle.answers.specs.inner.Classes.{rep, relabel, merge}
 use Rattle.laws.proofs.Numbers.{dec-eq}
 use Rattle.answers.proofs.Relabelling.{relabel-miss, hi, lo, next, next-low, next-root, next-lo, next-hi}
 use Rattle.laws.proofs.Lists.{map-read, set-cases}
 use Rattle.answers.proofs.Agreement.{relabel-zero}
 use Rattle.answers.proofs.Exact.{relabel-same}
 use Rattle.laws.proofs.Lists.{map-same}
-use Rattle.classes.specs.Links.{Low, pair, linked}
+use Rattle.classes.specs.inner.Links.{Low, pair, linked}
 
 -- a class list: each entry is the lowest source of its class
 pub record Canon (c : List ℕ) : Type 0 where

@@ -7,13 +7,13 @@ use native.Mathlib.Omega.{arith}
 use lib.ListN.{length, getD, set, length-map, List·getD-eq-default}
 use lib.Seq.{ext-getD}
 use Rattle.laws.specs.Lists.{countUp}
-use Rattle.answers.specs.Classes.{rep, merge}
+use Rattle.answers.specs.inner.Classes.{rep, merge}
 use Rattle.laws.proofs.Numbers.{dec-eq}
 use Rattle.answers.proofs.Relabelling.{next}
 use Rattle.laws.proofs.Lists.{map-read}
 use Rattle.laws.proofs.CountUp.{count-at, count-past, count-up}
 use Rattle.laws.proofs.Numbers.{lt-or-le}
-use Rattle.classes.specs.Links.{Low, climb, rootsOf, RootFound, pair, linked, PairTaken}
+use Rattle.classes.specs.inner.Links.{Low, climb, rootsOf, RootFound, pair, linked, PairTaken}
 use Rattle.classes.proofs.Links.{Canon, start, Stands, Found, Linked, set-low, link-tie}
 
 module _ (h : List ℕ) (low : Low h) where

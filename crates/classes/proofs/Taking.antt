@@ -9,14 +9,15 @@ use native.Mathlib.Omega.{arith}
 use lib.Dec.{eqb}
 use borrow.Author.Tests.{eq-eqb, ne-eqb}
 use Rattle.laws.specs.Lists.{countUp}
-use Rattle.answers.specs.Pairs.{Pair, equals, noneSatisfies}
-use Rattle.answers.specs.Classes.{rep, merge, run, classesOf}
+use Rattle.answers.specs.Pairs.{Pair, equals}
+use Rattle.answers.specs.Representatives.{noneSatisfies, Satisfiable}
+use Rattle.answers.specs.inner.Classes.{rep, merge, run, classesOf}
 use Rattle.answers.proofs.Relabelling.{relabel-miss}
 use Rattle.answers.proofs.Agreement.{classes-represent, satisfies-reverse}
 use Rattle.answers.proofs.Exact.{equals-is}
 use Rattle.answers.proofs.Order.{equals-same}
-use Rattle.answers.proofs.Theorems.{Satisfiable, conflict-exactly, apart}
-use Rattle.classes.specs.Links.{linked}
+use Rattle.answers.proofs.Theorems.{conflict-exactly, apart}
+use Rattle.classes.specs.inner.Links.{linked}
 use Rattle.classes.proofs.Links.{Canon, linked-cases, merge-is, merge-hi, merge-same}
 
 -- one pair, taken or in conflict

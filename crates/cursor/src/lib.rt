@@ -2,7 +2,7 @@
 // found there and gives the cursor behind it.
 ghost use mathlib.Core.Path.{_≡_};
 ghost use Rattle.sheets.specs.Text.{numberAt, fieldAt, lineAt, columnAt, nameAt, namesAt};
-ghost use Rattle.cursor.specs.Found.{numberFound, nameFound, namesFound, lineFound};
+ghost use Rattle.cursor.specs.inner.Found.{numberFound, nameFound, namesFound, lineFound};
 use sheets::Order;
 use terms::Row;
 

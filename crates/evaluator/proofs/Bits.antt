@@ -12,7 +12,7 @@ use Rattle.terms.proofs.AcceptedTable.{Table, accepted-table}
 use Rattle.terms.proofs.Faults.{Term, Kept, kept, kept-names, kept-kind, kept-first, kept-bit, kept-bounds, concat-names, extract-names, totals-small}
 use Rattle.terms.proofs.Values.{value-length, value-variable, value-constant, value-concat, value-extract, width-variable, width-constant, width-concat, width-extract, variable-fits}
 use Rattle.terms.proofs.Words.{extract-bit}
-use Rattle.evaluator.specs.Ready.{Ready, IsTerm}
+use Rattle.evaluator.specs.inner.Ready.{Ready, IsTerm}
 
 module _ (table widths places pattern : List ℕ) (ready : Ready table widths places pattern) (row : ℕ) (is : IsTerm table row) where
   abbrev rows : List Row

@@ -9,7 +9,7 @@ use Rattle.terms.specs.declared.Fault.the-variants.{Accepted}
 use Rattle.terms.specs.Table.{rowsOf, bitsOf}
 use Rattle.terms.specs.Faults.{absent, firstFault}
 use Rattle.terms.proofs.AcceptedTable.{accepted-table, term-there}
-use Rattle.evaluator.specs.Ready.{IsTerm}
+use Rattle.evaluator.specs.inner.Ready.{IsTerm}
 
 -- the bits that an accepted table has
 pub bits-found : (table : List ℕ) → firstFault table ≡ Accepted → bitsOf (take 512 (rowsOf table)) ≡ bitsOf (rowsOf table)

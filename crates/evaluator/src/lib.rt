@@ -7,7 +7,7 @@ ghost use lib.ListN.{getD, length};
 ghost use Rattle.terms.specs.Table.{rowsOf, rowAt, widthOf, valueOf};
 ghost use Rattle.laws.specs.Buffers.{overwrite};
 ghost use Rattle.terms.specs.Value.{valueRecord, valueAfter};
-ghost use Rattle.evaluator.specs.Ready.{Ready, IsTerm};
+ghost use Rattle.evaluator.specs.inner.Ready.{Ready, IsTerm};
 use terms::Record;
 use terms::Row;
 

@@ -18,7 +18,7 @@ use Rattle.terms.proofs.Values.{value-concat, value-extract, width-variable, wi
 use Rattle.terms.proofs.Words.{extract-right, extract-left, extract-across, extract-whole, extract-extract}
 use Rattle.forms.specs.declared.Piece.{Piece}
 use Rattle.forms.specs.Form.{fill, part, bitsUp, pieceOf, group, formFrom}
-use Rattle.forms.specs.Numbered.{Numbered}
+use Rattle.forms.specs.inner.Numbered.{Numbered}
 use Rattle.forms.proofs.Places.{variable-pieces, constant-pieces, bits-take, bits-drop, group-bits, group-fills}
 
 drop-copies : (n j : ℕ) (p : Piece) → drop j (replicate n p) ≡ replicate (n - j) p

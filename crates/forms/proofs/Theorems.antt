@@ -22,7 +22,7 @@ use Rattle.terms.proofs.Sources.{source-length}
 use Rattle.terms.proofs.Values.{Sound, value-concat, value-extract, width-variable}
 use Rattle.terms.proofs.Words.{extract-join, extract-whole}
 use Rattle.forms.specs.Form.{fill, part, pieceOf, addAll, group, formFrom, formOf, numbersOf, formWidth, formValue}
-use Rattle.forms.specs.Numbered.{Numbered}
+use Rattle.forms.specs.inner.Numbered.{Numbered}
 use Rattle.forms.proofs.FormNumbers.{numbers-length}
 use Rattle.forms.proofs.FormValues.{form-value}
 use Rattle.forms.proofs.Grouping.{group-append}

@@ -1,3 +1,3 @@
 pub mod Form
 pub mod Call
-pub mod Numbered
+pub mod inner

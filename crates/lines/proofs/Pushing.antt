@@ -8,7 +8,7 @@ use Rattle.sheets.proofs.Numbers.{at-byte}
 use borrow.Author.Tests.{lt-ltb, le-ltb}
 use Rattle.laws.proofs.Buffers.{overwrite-more}
 use Rattle.sheets.specs.declared.Text.{Text}
-use Rattle.lines.specs.Push.{pushed, pushAll, fourValues}
+use Rattle.lines.specs.inner.Push.{pushed, pushAll, fourValues}
 use Rattle.sheets.specs.Print.{lineOf, field, answerValues}
 use Rattle.sheets.specs.Writing.{digits}
 use Rattle.sheets.proofs.Lengths.{answer-values-few}

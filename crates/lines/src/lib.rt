@@ -1,7 +1,7 @@
 // The lines that are printed, of a record and of an answer table, each made byte by byte and passed by value.
 ghost use mathlib.Core.Path.{_≡_};
 ghost use mathlib.Core.List.{[]};
-ghost use Rattle.lines.specs.Push.{pushed, pushAll, fourValues};
+ghost use Rattle.lines.specs.inner.Push.{pushed, pushAll, fourValues};
 ghost use Rattle.sheets.specs.Print.{field, lineOf, recordNames, recordValues, answerNames, answerValues};
 ghost use Rattle.sheets.specs.Writing.{digits};
 use answers::AnswerRow;

@@ -16,7 +16,7 @@ use Rattle.answers.specs.Answer.{isFresh, freshStart, rowBits, bitsOfRows, inst
 use Rattle.laws.proofs.Numbers.{lt-or-le}
 use Rattle.answers.specs.Answer.{answerRowsOf}
 use Rattle.assignments.specs.Form.{patternBits}
-use Rattle.maker.specs.Making.{Shaped, byteIn, bytesIn, WritesRows}
+use Rattle.maker.specs.inner.Making.{Shaped, byteIn, bytesIn, WritesRows}
 use Rattle.answers.specs.Answer.{answerRowAt, noAnswerRow}
 use Rattle.maker.proofs.OneMore.{bits-part}
 use Rattle.answers.proofs.AnswerNumbers.{answer-length}

@@ -15,7 +15,7 @@ use Rattle.laws.proofs.Numbers.{lt-or-le}
 use Rattle.laws.proofs.Bools.{and-second}
 use Rattle.maker.specs.declared.Progress.{Progress}
 use Rattle.assignments.specs.Form.{variableFine, kindFine, widthFine, widthIn, variableWide, patternBits, patternWide, fillFine, neighboursFine, lowestUnseen, freshFine, rowFine}
-use Rattle.maker.specs.Making.{widthBefore, variableIn, widthsIn, fillIn, freshIn, fineIn}
+use Rattle.maker.specs.inner.Making.{widthBefore, variableIn, widthsIn, fillIn, freshIn, fineIn}
 use Rattle.answers.specs.Answer.{answerRowAt}
 use Rattle.maker.proofs.OneMore.{neighbours-fresh}
 use Rattle.laws.proofs.Least.{least-is}

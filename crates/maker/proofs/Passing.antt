@@ -18,7 +18,7 @@ use Rattle.laws.proofs.Numbers.{lt-or-le}
 use Rattle.laws.proofs.Bools.{and-first, and-second, cond-most, not-and}
 use Rattle.maker.specs.declared.Progress.{Progress}
 use Rattle.assignments.specs.Form.{variableFine, widthIn, neighboursFine}
-use Rattle.maker.specs.Making.{widthBefore, isNew, variableIn, widthsIn, fillIn, freshIn, fineIn, advanced}
+use Rattle.maker.specs.inner.Making.{widthBefore, isNew, variableIn, widthsIn, fillIn, freshIn, fineIn, advanced}
 use Rattle.answers.specs.Answer.{answerRowAt, noAnswerRow}
 use Rattle.laws.proofs.Numbers.{eqb-turn}
 use Rattle.maker.proofs.OneMore.{variable-last, neighbours-last, width-more, bits-more, member-more, piece-more, starts-same}

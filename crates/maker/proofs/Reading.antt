@@ -15,7 +15,7 @@ use Rattle.laws.proofs.Tallies.{distinct-is}
 use Rattle.maker.specs.declared.Progress.{Progress}
 use Rattle.answers.specs.Answer.{answerRowsOf}
 use Rattle.assignments.specs.Form.{rowsFine, hasForm}
-use Rattle.maker.specs.Making.{fineIn, advanced, Shaped, ReadsForm}
+use Rattle.maker.specs.inner.Making.{fineIn, advanced, Shaped, ReadsForm}
 use Rattle.answers.specs.Answer.{answerRowAt, noAnswerRow}
 use Rattle.maker.proofs.OneMore.{starts-rise}
 use Rattle.maker.proofs.Passed.{Passed, atFirst, passed-none, row-is}

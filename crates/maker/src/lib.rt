@@ -5,7 +5,7 @@ ghost use mathlib.Core.Bool.{cond};
 ghost use lib.ListN.{length};
 ghost use Rattle.laws.specs.Buffers.{Behind};
 ghost use Rattle.assignments.specs.Call.{patternRecord, patternAfter};
-ghost use Rattle.maker.specs.Making.{widthBefore, isNew, variableIn, widthsIn, fillIn, freshIn, fineIn, advanced, ReadsForm, byteIn, bytesIn, WritesRows};
+ghost use Rattle.maker.specs.inner.Making.{widthBefore, isNew, variableIn, widthsIn, fillIn, freshIn, fineIn, advanced, ReadsForm, byteIn, bytesIn, WritesRows};
 use answers::AnswerRow;
 use terms::Record;
 

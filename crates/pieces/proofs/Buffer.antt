@@ -12,7 +12,7 @@ use Rattle.laws.specs.Buffers.{overwrite, setFour}
 use Rattle.laws.proofs.Buffers.{overwrite-fits, set-behind}
 use Rattle.forms.specs.declared.Piece.{Piece}
 use Rattle.forms.specs.Form.{fill, numbersOf}
-use Rattle.pieces.specs.Pieces.{pieceAt, putPiece}
+use Rattle.pieces.specs.inner.Pieces.{pieceAt, putPiece}
 use Rattle.forms.proofs.FormNumbers.{numbers-append, numbers-length}
 
 module _ (f : List Piece) (w x y z : ℕ) (rest : List ℕ) where

@@ -14,7 +14,7 @@ use Rattle.forms.specs.Form.{meets, merged, add, numbersOf, pieceWidth, formWid
 use Rattle.forms.proofs.Grouping.{Meeting, meeting}
 use Rattle.forms.proofs.Maximal.{pushed, pushed-last}
 use Rattle.forms.proofs.PieceWidths.{Proper, AllProper, last-width, last-proper}
-use Rattle.pieces.specs.Pieces.{pieceAt, putPiece, mergedIn, meetsLast, pushedCount, pushedNumbers}
+use Rattle.pieces.specs.inner.Pieces.{pieceAt, putPiece, mergedIn, meetsLast, pushedCount, pushedNumbers}
 use Rattle.pieces.proofs.Buffer.{last-read, last-put, next-put}
 
 -- what a push leaves is the form with the piece pushed to it

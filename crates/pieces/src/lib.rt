@@ -1,7 +1,7 @@
 // The pieces of a normal form in a buffer of numbers: one is read, written, or appended, and made one with the last piece where they meet.
 ghost use mathlib.Core.Path.{_≡_};
 ghost use Rattle.forms.specs.Form.{meets};
-ghost use Rattle.pieces.specs.Pieces.{pieceAt, putPiece, mergedIn, pushedCount, pushedNumbers};
+ghost use Rattle.pieces.specs.inner.Pieces.{pieceAt, putPiece, mergedIn, pushedCount, pushedNumbers};
 use forms::Piece;
 
 // The numbers that a piece takes.

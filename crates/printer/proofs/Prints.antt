@@ -12,7 +12,7 @@ use Rattle.sheets.specs.Sheet.{sheetRows}
 use Rattle.sheets.specs.Print.{recordText, answerText}
 use Rattle.answers.specs.Answer.{answerNumbers}
 use Rattle.answers.specs.Solve.{solvedRows}
-use Rattle.sheets.specs.Printed.{written}
+use Rattle.sheets.specs.inner.Printed.{written}
 use Rattle.sheets.specs.Program.{textRecord, textAnswer, programRecord, programText, printLength, printAfter}
 use Rattle.sheets.proofs.Printed.{Put, PutIn, put-there, put-kept, both-put}
 use Rattle.sheets.proofs.Lengths.{record-few}

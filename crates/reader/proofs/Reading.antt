@@ -13,7 +13,7 @@ use Rattle.sheets.specs.declared.Order.{Order}
 use Rattle.sheets.specs.declared.Sheet.the-variants.{TooMany, WrongLine, Rows}
 use Rattle.sheets.specs.Text.{Values, NoLine, lineAt}
 use Rattle.terms.specs.Table.{rowNumbers}
-use Rattle.rows.specs.Held.{putRow}
+use Rattle.rows.specs.inner.Held.{putRow}
 use Rattle.sheets.specs.Sheet.{foundFrom, rowsFrom}
 use Rattle.rows.proofs.Held.{row-put}
 

@@ -3,7 +3,7 @@ ghost use mathlib.Core.Path.{_≡_};
 ghost use lib.ListN.{length};
 ghost use Rattle.laws.specs.Buffers.{overwrite};
 ghost use Rattle.terms.specs.Table.{rowNumbers};
-ghost use Rattle.rows.specs.Held.{putRow};
+ghost use Rattle.rows.specs.inner.Held.{putRow};
 ghost use Rattle.sheets.specs.Sheet.{foundFrom, rowsFrom, sheetFound, sheetRows};
 ghost use Rattle.sheets.specs.Call.{sheetNumber, sheetRow, rowCount, sheetRecord, tableAfter};
 use cursor::Cursor;

@@ -19,10 +19,10 @@ use Rattle.terms.specs.Faults.{breaks11, firstFault}
 use Rattle.laws.proofs.Numbers.{lt-or-le}
 use Rattle.laws.proofs.Buffers.{overwrite-length, overwrite-fits, four-more}
 use Rattle.terms.specs.Table.{rowNumbers}
-use Rattle.rows.specs.Held.{putRow}
+use Rattle.rows.specs.inner.Held.{putRow}
 use Rattle.terms.proofs.RowNumbers.{row-numbers-append, row-numbers-length}
 use Rattle.terms.proofs.RowNumbers.{rows-written}
-use Rattle.rows.specs.Held.{held, fitting, putWhole, areaNumbers}
+use Rattle.rows.specs.inner.Held.{held, fitting, putWhole, areaNumbers}
 
 -- ---- how many rows a buffer holds
 pub fitting-rows : (n room : ℕ) → fitting n room ≤ n

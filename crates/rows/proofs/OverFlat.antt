@@ -46,7 +46,7 @@ use denote.Triple.Clauses.{lasts}
 use Rattle.terms.specs.declared.Row.{Row}
 use Rattle.terms.proofs.Row as T
 use Rattle.laws.specs.Buffers.{overwrite}
-use Rattle.rows.specs.Held.{held, areaNumbers}
+use Rattle.rows.specs.inner.Held.{held, areaNumbers}
 use Rattle.rows.proofs.Held.{held-room, held-read}
 use Rattle.rows.proofs.Facts.{number-is}
 use Rattle.rows.proofs.LocalArray.{apart, LentPart, lends-part, part-back, room-again, big-lit}

@@ -4,7 +4,7 @@
 ghost use mathlib.Core.Path.{_≡_};
 ghost use lib.ListN.{length};
 ghost use Rattle.laws.specs.Buffers.{overwrite};
-ghost use Rattle.rows.specs.Held.{held, fitting, putWhole};
+ghost use Rattle.rows.specs.inner.Held.{held, fitting, putWhole};
 ghost use Prim.Native.Nat.{_+_, _-_};
 ghost use Rattle.terms.specs.Table.{rowsOf, rowAt};
 use terms::Row;

@@ -12,7 +12,7 @@ use lib.Seq.{take-suc, take-at, length-take-le}
 use borrow.Author.Tests.{leb-true, leb-false, le-leb, lt-leb}
 use Rattle.laws.specs.Buffers.{overwrite}
 use Rattle.laws.proofs.Buffers.{overwrite-length, overwrite-fits, overwrite-more}
-use Rattle.sheets.specs.Printed.{fits, written, printedIn, behindIn}
+use Rattle.sheets.specs.inner.Printed.{fits, written, printedIn, behindIn}
 
 pub written-length : (out : List ℕ) (at : ℕ) (l : List ℕ) → length (written out at l) ≡ length out
 unfolding written

@@ -24,7 +24,8 @@ use Rattle.terms.specs.Table.{rowNumbers}
 use Rattle.sheets.specs.Sheet.{sheetRows, sheetFound}
 use Rattle.sheets.specs.Call.{sheetNumber, sheetRow, rowCount, sheetRecord}
 use Rattle.terms.proofs.RowNumbers.{rows-written}
-use Rattle.answers.specs.Answer.{equalUnder, variableWidths, answerNumbers}
+use Rattle.answers.specs.Answer.{variableWidths, answerNumbers}
+use Rattle.answers.specs.Pairs.{equalUnder}
 use Rattle.answers.specs.Solve.{solvedRows, answerRecord, solveRecord, answerAfter}
 use Rattle.answers.proofs.Demands.{demand-3}
 use Rattle.answers.proofs.Lent.{call-record, call-answer}

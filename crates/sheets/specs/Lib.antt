@@ -3,5 +3,5 @@ pub mod Sheet
 pub mod Call
 pub mod Print
 pub mod Writing
-pub mod Printed
 pub mod Program
+pub mod inner

@@ -11,7 +11,7 @@ use lib.Seq.{getD-take}
 use borrow.Author.Tests.{eqb-true, eqb-false}
 use Rattle.terms.specs.declared.Row.{Row}
 use Rattle.terms.specs.Table.{rowAt, noRow, bitsIn, bitsOf, countKind, sourcesOf, sourceOf}
-use Rattle.terms.specs.Places.{firstPlace}
+use Rattle.terms.specs.inner.Places.{firstPlace}
 use Rattle.terms.proofs.RowKinds.{of-term, bits-other}
 use Rattle.terms.proofs.Places.{place-other}
 use Rattle.laws.proofs.Numbers.{lt-or-le}

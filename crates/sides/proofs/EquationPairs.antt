@@ -15,7 +15,7 @@ use Rattle.terms.proofs.RowKinds.{Equation, of-equation, of-term}
 use Rattle.terms.proofs.Faults.{Term, Kept, kept, kept-kind, kept-names, kept-sides, equation-names, widths-small}
 use Rattle.terms.proofs.Sources.{source-length}
 use Rattle.answers.specs.Pairs.{Pair, paired, pairsOf}
-use Rattle.sides.specs.Sides.{Prepared, pairsFrom, SidesRead}
+use Rattle.sides.specs.inner.Sides.{Prepared, pairsFrom, SidesRead}
 use Rattle.sides.proofs.FormSources.{sources-below, below-read}
 
 -- pairs read where two words stand

@@ -21,12 +21,12 @@ use Rattle.terms.proofs.Values.{Sound}
 use Rattle.forms.specs.declared.Piece.{Piece}
 use Rattle.forms.specs.Form.{fill, formOf, numbersOf}
 use Rattle.pieces.proofs.Buffer.{form-piece}
-use Rattle.appender.specs.Append.{Appended}
+use Rattle.appender.specs.inner.Append.{Appended}
 use Rattle.forms.proofs.RowForms.{sources-wide, width-small}
 use Rattle.appender.proofs.Appending.{appended-form}
 use Rattle.forms.proofs.FormCall.{form-few}
-use Rattle.sides.specs.Sides.{Prepared}
-use Rattle.sides.specs.Spread.{stepped, sourcesIn, spelled, Spells}
+use Rattle.sides.specs.inner.Sides.{Prepared}
+use Rattle.sides.specs.inner.Spread.{stepped, sourcesIn, spelled, Spells}
 use Rattle.sides.proofs.Spelling.{named, namedAll, Lies, AllLie, form-lies, form-named, AllBelow, none, some}
 
 -- a run that stands still, and one that rises

@@ -20,7 +20,7 @@ use Rattle.terms.proofs.Values.{Sound, values-count, value-extract, value-same,
 use Rattle.laws.proofs.CountUp.{count-up}
 use Rattle.answers.specs.Pairs.{equationPairs}
 use Rattle.answers.proofs.Equations.{pairs-same}
-use Rattle.sides.specs.Shortened.{shortened}
+use Rattle.sides.specs.inner.Shortened.{shortened}
 use Rattle.sides.proofs.Alike.{AlikeRow, Alike, alike-kinds, alike-take, alike-bits, alike-count, alike-pairs}
 use Rattle.sides.proofs.Shortened.{short-count, short-same, CutOf, short-cut}
 

@@ -15,7 +15,7 @@ use Rattle.terms.proofs.ByRows.{rows-count, rows-early, rows-more, rows-at}
 use Rattle.terms.proofs.Faults.{Term, kept, kept-names, kept-bounds, extract-names}
 use Rattle.terms.proofs.Values.{Sound, value-extract, value-length, width-extract}
 use Rattle.terms.proofs.Words.{extract-extract}
-use Rattle.sides.specs.Shortened.{shortRow, shortened}
+use Rattle.sides.specs.inner.Shortened.{shortRow, shortened}
 
 pub short-count : (t : List Row) → length (shortened t) ≡ length t
 unfolding shortened

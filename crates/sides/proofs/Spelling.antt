@@ -13,7 +13,7 @@ use borrow.Author.Tests.{eqb-true, eqb-false}
 use Rattle.terms.specs.declared.Row.{Row}
 use Rattle.terms.specs.Table.{bitsOf, countKind}
 use Rattle.laws.specs.Lists.{countUp}
-use Rattle.terms.specs.Places.{firstPlace, lowSource}
+use Rattle.terms.specs.inner.Places.{firstPlace, lowSource}
 use Rattle.terms.proofs.RowKinds.{bits-variable, bits-other}
 use Rattle.terms.proofs.Places.{count-variable, count-other, place-variable, place-one, place-other}
 use Rattle.laws.proofs.Bools.{not-both}

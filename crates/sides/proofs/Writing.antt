@@ -9,8 +9,8 @@ use borrow.Author.Tests.{lt-ltb, le-ltb}
 use Rattle.laws.specs.Buffers.{overwrite, Written, Behind}
 use Rattle.laws.proofs.Buffers.{overwrite-length, written-more}
 use Rattle.forms.specs.declared.Piece.{Piece}
-use Rattle.pieces.specs.Pieces.{pieceAt}
-use Rattle.sides.specs.Spread.{stepped, sourcesIn, spelled, Spells}
+use Rattle.pieces.specs.inner.Pieces.{pieceAt}
+use Rattle.sides.specs.inner.Spread.{stepped, sourcesIn, spelled, Spells}
 
 stepped-count : (x step n : ℕ) → length (stepped x step n) ≡ n
 unfolding stepped

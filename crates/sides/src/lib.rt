@@ -4,9 +4,9 @@ ghost use mathlib.Core.Path.{_≡_};
 ghost use Prim.Native.Nat.{_≤_, min};
 ghost use lib.ListN.{length};
 ghost use Rattle.laws.specs.Buffers.{Behind};
-ghost use Rattle.sides.specs.Sides.{ReadsSides};
-ghost use Rattle.sides.specs.Spread.{stepped, sourcesIn, Spells, ReadsSide};
-ghost use Rattle.sides.specs.Shortened.{shortIn, storedRow, Shortens};
+ghost use Rattle.sides.specs.inner.Sides.{ReadsSides};
+ghost use Rattle.sides.specs.inner.Spread.{stepped, sourcesIn, Spells, ReadsSide};
+ghost use Rattle.sides.specs.inner.Shortened.{shortIn, storedRow, Shortens};
 use forms::Piece;
 use terms::Row;
 

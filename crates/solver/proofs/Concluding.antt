@@ -19,17 +19,17 @@ use Rattle.terms.proofs.AcceptedTable.{accepted-table}
 use Rattle.terms.proofs.Faults.{totals-small}
 use Rattle.laws.proofs.Tallies.{tally-most}
 use Rattle.answers.specs.Pairs.{Pair, equationPairs}
-use Rattle.answers.specs.Classes.{inClass}
+use Rattle.answers.specs.inner.Classes.{inClass}
 use Rattle.answers.specs.declared.AnswerRow.{AnswerRow}
 use Rattle.answers.specs.Answer.{appears, variableWidths, answerRows, answerNumbers, freshPieces, freeBits}
 use Rattle.answers.specs.Solve.{unsatisfiable, solvedRows, tiesTo, alwaysRecord, neverRecord, solvedRecord, answerRecord}
 use Rattle.answers.proofs.Tables.{tableClasses, classes-run, represent, conflict-most, apart-one, solved-rows, is-left, never-record, always-record, solved-record, all-ties, rows-few}
 use Rattle.answers.proofs.Theorems.{links-before}
 use Rattle.answers.proofs.Demands.{solved-sum, solved-appear}
-use Rattle.classes.specs.Links.{rootsOf}
-use Rattle.borders.specs.Rows.{RowsPut, PutsRows}
-use Rattle.solver.specs.Equations.{EquationsTaken}
-use Rattle.solver.specs.Call.{answerOver, Answered}
+use Rattle.classes.specs.inner.Links.{rootsOf}
+use Rattle.borders.specs.inner.Rows.{RowsPut, PutsRows}
+use Rattle.solver.specs.inner.Equations.{EquationsTaken}
+use Rattle.solver.specs.inner.Call.{answerOver, Answered}
 
 -- a number below 2 ^ 32 stays
 pub kept-short : (x : ℕ) → x ≤ 1000000 → x % 4294967296 ≡ x

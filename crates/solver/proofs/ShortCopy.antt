@@ -10,13 +10,13 @@ use Rattle.terms.specs.declared.Row.{Row}
 use Rattle.terms.specs.declared.Fault.the-variants.{Accepted}
 use Rattle.terms.specs.Table.{rowsOf, bitsOf, widthsOf, widthOf, countKind}
 use Rattle.terms.specs.Faults.{firstFault}
-use Rattle.terms.specs.Places.{lowSource}
+use Rattle.terms.specs.inner.Places.{lowSource}
 use Rattle.terms.proofs.AcceptedTable.{accepted-table}
 use Rattle.terms.proofs.Values.{Sound}
 use Rattle.answers.specs.Pairs.{equationPairs}
-use Rattle.sides.specs.Shortened.{shortened}
-use Rattle.sides.specs.Sides.{Prepared}
-use Rattle.solver.specs.Equations.{EquationsTaken}
+use Rattle.sides.specs.inner.Shortened.{shortened}
+use Rattle.sides.specs.inner.Sides.{Prepared}
+use Rattle.solver.specs.inner.Equations.{EquationsTaken}
 use Rattle.sides.proofs.Alike.{Alike, alike-take, alike-bits, alike-count, alike-places}
 use Rattle.sides.proofs.ShortTable.{sound-accepted, short-alike, short-widths, short-sound, short-pairs}
 

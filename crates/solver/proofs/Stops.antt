@@ -15,7 +15,7 @@ use Rattle.terms.specs.Calls.{refusal, faultNumber, faultRecord, stopAt}
 use Rattle.terms.specs.Faults.{isAccepted, firstFault}
 use Rattle.answers.specs.Solve.{answerRecord, solveRecord, answerAfter, workAfter}
 use Rattle.answers.proofs.Demands.{demand-3}
-use Rattle.solver.specs.Call.{answerOver, Answered}
+use Rattle.solver.specs.inner.Call.{answerOver, Answered}
 
 -- the record, the answer table and the work area of a call
 abbrev pub Ends : List ℕ → List ℕ → List ℕ → Record → List ℕ → List ℕ → Type 0

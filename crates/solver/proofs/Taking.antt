@@ -13,17 +13,17 @@ use Rattle.terms.specs.declared.Row.{Row}
 use Rattle.terms.specs.Table.{rowAt, bitsOf}
 use Rattle.laws.specs.Lists.{countUp}
 use Rattle.answers.specs.Pairs.{Pair, pairsOf, equationPairs}
-use Rattle.answers.specs.Classes.{rep, relabel, merge, run, runAll, links, conflictAt, linksBefore}
+use Rattle.answers.specs.inner.Classes.{rep, relabel, merge, run, runAll, links, conflictAt, linksBefore}
 use Rattle.laws.proofs.Numbers.{dec-eq}
 use Rattle.answers.proofs.Agreement.{relabel-zero, base}
 use Rattle.laws.proofs.CountUp.{count-at, count-up}
 use Rattle.answers.proofs.Equations.{pairs-from, pairs-past}
-use Rattle.classes.specs.Links.{Low, rootsOf, pair, linked, PairTaken}
+use Rattle.classes.specs.inner.Links.{Low, rootsOf, pair, linked, PairTaken}
 use Rattle.classes.proofs.Links.{Canon, canon-merge, merge-len, merge-is}
 use Rattle.classes.proofs.Roots.{roots-settled}
 use Rattle.classes.proofs.Taking.{tie-or-not, no-conflict, a-conflict}
-use Rattle.sides.specs.Sides.{pairsFrom}
-use Rattle.solver.specs.Equations.{EquationsTaken}
+use Rattle.sides.specs.inner.Sides.{pairsFrom}
+use Rattle.solver.specs.inner.Equations.{EquationsTaken}
 
 -- ---- one pair more at the end of those taken
 abbrev pairAt : List ℕ → List ℕ → ℕ → Pair

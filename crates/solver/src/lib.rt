@@ -5,8 +5,8 @@ ghost use mathlib.Core.Path.{_≡_};
 ghost use Prim.Native.Nat.{_%_};
 ghost use lib.ListN.{length};
 ghost use Rattle.answers.specs.Solve.{solveRecord, answerAfter, workAfter};
-ghost use Rattle.solver.specs.Equations.{TakesEquations};
-ghost use Rattle.solver.specs.Call.{Unlinks, Concludes, AnswersTable, SolvesAccepted};
+ghost use Rattle.solver.specs.inner.Equations.{TakesEquations};
+ghost use Rattle.solver.specs.inner.Call.{Unlinks, Concludes, AnswersTable, SolvesAccepted};
 use terms::Record;
 
 // How far the equations were taken: to the row at which two different fixed bits met, or through all rows; and the ties before it.

@@ -9,7 +9,7 @@ use lib.ListN.{take}
 use borrow.Author.Tests.{eqb-true, eqb-false, eq-eqb, ne-eqb}
 use Rattle.terms.specs.declared.Row.{Row}
 use Rattle.terms.specs.Table.{bitsIn, bitsOf, countKind}
-use Rattle.terms.specs.Places.{firstPlace}
+use Rattle.terms.specs.inner.Places.{firstPlace}
 use Rattle.terms.proofs.RowKinds.{of-variable, of-other, bits-variable, bits-other}
 
 -- what a row adds in front

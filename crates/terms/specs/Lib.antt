@@ -3,4 +3,4 @@ pub mod Faults
 pub mod Assignments
 pub mod Calls
 pub mod Value
-pub mod Places
+pub mod inner

@@ -15,7 +15,7 @@ use Rattle.terms.specs.Faults.{firstFault}
 use Rattle.terms.specs.Table.{rowsOf, bitsOf}
 use Rattle.laws.specs.Lists.{countUp}
 use Rattle.answers.specs.Pairs.{pairsIn}
-use Rattle.answers.specs.Classes.{inClass, classesOf, conflictAt, linksBefore}
+use Rattle.answers.specs.inner.Classes.{inClass, classesOf, conflictAt, linksBefore}
 use Rattle.answers.specs.declared.AnswerRow.{AnswerRow}
 use Rattle.answers.specs.Answer.{variableWidths, answerRows, answerNumbers}
 use Rattle.answers.specs.Solve.{pairsTogether, solvedRows, alwaysRecord, neverRecord, solvedRecord, answerRecord}

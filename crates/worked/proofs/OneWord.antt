@@ -16,7 +16,8 @@ use Rattle.terms.specs.Table.{rowsOf, bitsOf, bitOf, satisfies}
 use Rattle.terms.proofs.Assignments.{assignment-of, every-of}
 use Rattle.laws.specs.Lists.{least}
 use Rattle.answers.specs.declared.AnswerRow.{AnswerRow}
-use Rattle.answers.specs.Answer.{equalUnder, variableWidths, answerRows, answerNumbers, freshNumbers, freshPieces, freshStart, freeBits, begins, variableAt, implies, tied, fixedTo, contiguous, fixedAlike, goesOn, lowest, placeRow, placed, rowsTo, freshWidth}
+use Rattle.answers.specs.Answer.{variableWidths, answerRows, answerNumbers, freshNumbers, freshPieces, freshStart, freeBits, begins, variableAt, implies, tied, fixedTo, contiguous, fixedAlike, goesOn, lowest, placeRow, placed, rowsTo, freshWidth}
+use Rattle.answers.specs.Pairs.{equalUnder}
 use Rattle.laws.specs.Lists.{distinct, below, tally, member}
 use Rattle.answers.specs.Solve.{solvedRows, answerRecord, solvedRecord}
 use Rattle.laws.proofs.Tallies.{below-at}

@@ -9,7 +9,8 @@ use Rattle.terms.specs.Table.{rowNumbers}
 use Rattle.sheets.specs.Sheet.{sheetRows}
 use Rattle.terms.proofs.RowNumbers.{rows-written}
 use Rattle.answers.specs.Solve.{answerRecord}
-use Rattle.answers.proofs.Demands.{Demand2, Demand3, demand-2, demand-3}
+use Rattle.answers.proofs.Demands.{demand-2, demand-3}
+use Rattle.answers.specs.Demands.{Demand2, Demand3}
 
 -- Demand 2 for a table read from a sheet.
 pub sheet-demand-2 : (text : List ℕ) → firstFault (rowNumbers (sheetRows text)) ≡ Accepted → answerRecord (sheetRows text) .outcome ≡ 2 → Demand2 (sheetRows text)

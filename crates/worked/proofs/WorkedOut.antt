@@ -22,7 +22,7 @@ use Rattle.sheets.specs.Call.{sheetRecord, tableAfter}
 use Rattle.sheets.specs.Writing.{digits}
 use Rattle.sheets.specs.Print.{field, recordValues, recordText, answerValues, rowLines, answerLines, answerText}
 use Rattle.answers.specs.Pairs.{paired, pairsOf, pairsIn}
-use Rattle.answers.specs.Classes.{inClass, relabel, merge, run, classesOf, links, conflictAt, linksBefore}
+use Rattle.answers.specs.inner.Classes.{inClass, relabel, merge, run, classesOf, links, conflictAt, linksBefore}
 use Rattle.answers.specs.Answer.{variableWidths, begins, variableAt, contiguous, fixedAlike, goesOn, lowest, appears, placeRow, rowsTo, answerRows, answerNumbers, answerRowsOf, freshNumbers, freshPieces, freshWidth, freshStart, freeBits}
 use Rattle.answers.specs.Answer as answer
 use Rattle.answers.specs.Solve.{pairsTogether}

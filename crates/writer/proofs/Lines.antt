@@ -15,7 +15,7 @@ use Rattle.answers.specs.Answer.{answerRowsOf, noAnswerRow, answerRowAt}
 use Rattle.answers.proofs.AnswerNumbers.{answer-length}
 use Rattle.sheets.proofs.PrintedText.{line-shown}
 use Rattle.sheets.proofs.Lengths.{record-values-few, answer-values-few}
-use Rattle.sheets.specs.Printed.{written}
+use Rattle.sheets.specs.inner.Printed.{written}
 use Rattle.sheets.proofs.Printed.{written-none, written-more, Put, PutIn, put-kept, put-in, put-there, both-put}
 
 -- a line that was put, where it fits

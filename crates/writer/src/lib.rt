@@ -4,7 +4,7 @@ ghost use mathlib.Core.Path.{_≡_};
 ghost use Prim.Native.Nat.{_+_, _*_, _/_};
 ghost use lib.ListN.{length};
 ghost use Rattle.sheets.specs.Print.{shown, recordText, answerLines, answerText};
-ghost use Rattle.sheets.specs.Printed.{fits, printed, behind, printedIn, behindIn};
+ghost use Rattle.sheets.specs.inner.Printed.{fits, printed, behind, printedIn, behindIn};
 use sheets::Text;
 use terms::Record;
 

@@ -1,5 +1,5 @@
 -- `put_row` meets its contract: the columns stand side by side. Assumes nothing.
-use Rattle.answer_table.specs.Rows.{answerRowPut}
+use Rattle.answer_table.specs.inner.Rows.{answerRowPut}
 use borrow.Author.Needs.{needs}
 use Rattle.answer_table.proofs.put_row.Statement.{statement}
 use Rattle.answer_table.proofs.put_row.Tie as tie

@@ -9,7 +9,7 @@ use borrow.Fn.Kinds.{In}
 use borrow.Fn.PlainCycle.{Measures, is, falls, and}
 use Rattle.appender.specs.declared.Cut.{Cut}
 use Rattle.appender.specs.declared.Part.{Part}
-use Rattle.appender.specs.Cuts.{isLeaf}
+use Rattle.appender.specs.inner.Cuts.{isLeaf}
 use Rattle.appender.proofs.FormCases.{form-leaf, form-first-later, form-second-later, form-cut, form-join, cut-leaf, cut-first-later, cut-second-later, cut-of-cut, cut-of-join, left-row, right-row, both-parts, part-none, part-whole, part-cut}
 use Rattle.appender.proofs.put_cut.Reads as put-cut
 use Rattle.appender.proofs.put_cut.Kinds as put-cut-kinds

@@ -1,6 +1,6 @@
 -- `leaf` meets its contract. Assumes nothing.
 use borrow.Author.Tests.{eq-eqb, ne-eqb}
-use Rattle.appender.specs.Cuts.{isLeaf}
+use Rattle.appender.specs.inner.Cuts.{isLeaf}
 use Rattle.appender.proofs.leaf.Statement.{statement}
 use Rattle.appender.proofs.leaf.Tie as tie
 

@@ -1,7 +1,7 @@
 -- `leaf_piece` meets its contract. Assumes nothing.
 use borrow.Author.Needs.{needs}
 use borrow.Author.Tests.{eq-eqb, ne-eqb}
-use Rattle.appender.specs.Cuts.{leafPiece}
+use Rattle.appender.specs.inner.Cuts.{leafPiece}
 use Rattle.appender.proofs.leaf_piece.Statement.{statement}
 use Rattle.appender.proofs.leaf_piece.Tie as tie
 

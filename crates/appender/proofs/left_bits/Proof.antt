@@ -1,7 +1,7 @@
 -- `left_bits` meets its contract. Assumes nothing.
 use borrow.Author.Needs.{needs}
 use borrow.Author.Tests.{lt-ltb, le-ltb}
-use Rattle.appender.specs.Cuts.{leftBits}
+use Rattle.appender.specs.inner.Cuts.{leftBits}
 use Rattle.appender.proofs.left_bits.Statement.{statement}
 use Rattle.appender.proofs.left_bits.Tie as tie
 

@@ -1,7 +1,7 @@
 -- `right_bits` meets its contract. Assumes nothing.
 use borrow.Author.Needs.{needs}
 use borrow.Author.Tests.{lt-ltb, le-ltb}
-use Rattle.appender.specs.Cuts.{rightBits}
+use Rattle.appender.specs.inner.Cuts.{rightBits}
 use Rattle.appender.proofs.right_bits.Statement.{statement}
 use Rattle.appender.proofs.right_bits.Tie as tie
 

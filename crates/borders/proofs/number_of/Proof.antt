@@ -4,7 +4,7 @@ use mathlib.Core.Path.{_∙_, ap}
 use lib.ListN.{getD}
 use denote.Ref.{now}
 use borrow.Author.Tests.{lt-ltb, le-ltb}
-use Rattle.borders.specs.Borders.{numberIn}
+use Rattle.borders.specs.inner.Borders.{numberIn}
 use borrow.Author.Needs.{needs}
 use Rattle.borders.proofs.number_of.Statement.{statement}
 use Rattle.borders.proofs.number_of.Tie as tie

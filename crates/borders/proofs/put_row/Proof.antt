@@ -2,8 +2,8 @@
 use mathlib.Core.Path.{_∙_, ap}
 use mathlib.Core.List.{List}
 use Prim.Native.Nat.{ℕ}
-use Rattle.answer_table.specs.Rows.{answerRowPut}
-use Rattle.borders.specs.Borders.{rowOf, rowWritten}
+use Rattle.answer_table.specs.inner.Rows.{answerRowPut}
+use Rattle.borders.specs.inner.Borders.{rowOf, rowWritten}
 use denote.Ref.{now}
 use borrow.Author.Needs.{needs}
 use Rattle.borders.proofs.put_row.Statement.{statement}

@@ -8,7 +8,7 @@ use borrow.Author.Tests.{lt-ltb, le-ltb}
 use Rattle.terms.specs.declared.Fault.the-variants.{Kind, Unused, Named, Width, Bounds, Count, Sides}
 use Rattle.terms.specs.Table.{rowsOf, widthIn}
 use Rattle.terms.specs.Faults.{unusedColumn, misnamed, wrongWidth, wrongBounds, tooMany, unequalSides, firstRule}
-use Rattle.checker.specs.Check.{rulesIn}
+use Rattle.checker.specs.inner.Check.{rulesIn}
 use borrow.Author.Needs.{needs}
 use Rattle.checker.proofs.row_fault.Statement.{statement}
 use Rattle.checker.proofs.row_fault.Tie as tie

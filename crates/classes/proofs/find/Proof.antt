@@ -5,7 +5,7 @@ use native.Mathlib.Omega.{arith}
 use lib.ListN.{length, getD}
 use Rattle.classes.proofs.Roots.{found-is}
 use Rattle.classes.proofs.Links.{Finding, finding-first, finding-more, finding-done, finding-near}
-use Rattle.classes.specs.Links.{Low}
+use Rattle.classes.specs.inner.Links.{Low}
 use Rattle.classes.proofs.find.Statement.{statement}
 use Rattle.classes.proofs.find.Tie as tie
 

@@ -5,7 +5,7 @@ use native.Mathlib.Omega.{arith}
 use lib.ListN.{length}
 use Rattle.classes.proofs.Roots.{stands-roots}
 use Rattle.classes.proofs.Links.{Swept, swept-none, swept-more, swept-all}
-use Rattle.classes.specs.Links.{Low}
+use Rattle.classes.specs.inner.Links.{Low}
 use Rattle.classes.proofs.settle.Statement.{statement}
 use Rattle.classes.proofs.settle.Tie as tie
 

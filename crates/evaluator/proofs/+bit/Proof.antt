@@ -7,7 +7,7 @@ use denote.Ref.{now}
 use Rattle.terms.specs.declared.Row.{Row}
 use Rattle.terms.specs.Table.{rowsOf, rowAt, widthOf, valueOf}
 use Rattle.terms.proofs.Rows.{rows-length}
-use Rattle.evaluator.specs.Ready.{Ready, IsTerm}
+use Rattle.evaluator.specs.inner.Ready.{Ready, IsTerm}
 use Rattle.evaluator.proofs.Bits.{row-small, number-small, first-lower, extract-left-over, variable-within, variable-bit, constant-small, constant-bit, left-term, right-term, left-lower, right-lower, left-bit, right-within, right-bit, cut-term, cut-lower, cut-within, cut-bit}
 use Prim.Native.Nat.{ℕ, _<_, _≤_, _+_, _-_}
 use borrow.Fn.Kinds.{In}

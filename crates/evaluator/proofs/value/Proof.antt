@@ -16,7 +16,7 @@ use Rattle.checker.proofs.Checking.{fault-found, widths-left}
 use Rattle.terms.proofs.Faults.{widths-small}
 use Rattle.terms.proofs.Rows.{rows-length}
 use Rattle.terms.specs.Value.{wrongPattern}
-use Rattle.evaluator.specs.Ready.{Ready, IsTerm}
+use Rattle.evaluator.specs.inner.Ready.{Ready, IsTerm}
 use Rattle.terms.proofs.ValueCall.{stop-fault, stop-absent, stop-pattern, stop-room, written, pattern-short, pattern-broken, pattern-right}
 use Rattle.evaluator.proofs.Found.{bits-found, row-there}
 use borrow.Author.Needs.{needs}

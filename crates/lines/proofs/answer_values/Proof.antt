@@ -1,6 +1,6 @@
 -- `answer_values` meets its contract: its numbers one behind the other. Assumes nothing.
 use Rattle.sheets.specs.Print.{answerValues}
-use Rattle.lines.specs.Push.{fourValues}
+use Rattle.lines.specs.inner.Push.{fourValues}
 use borrow.Author.Needs.{needs}
 use Rattle.lines.proofs.answer_values.Statement.{statement}
 use Rattle.lines.proofs.answer_values.Tie as tie

@@ -1,5 +1,5 @@
 -- `four_values` meets its contract: its numbers one behind the other. Assumes nothing.
-use Rattle.lines.specs.Push.{fourValues}
+use Rattle.lines.specs.inner.Push.{fourValues}
 use Rattle.lines.proofs.Pushing.{whole-line, push-both, four-few}
 use borrow.Author.Needs.{needs}
 use Rattle.lines.proofs.four_values.Statement.{statement}

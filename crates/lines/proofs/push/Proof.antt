@@ -2,7 +2,7 @@
 use mathlib.Core.Path.{refl}
 use native.Mathlib.Omega.{arith}
 use borrow.Author.Tests.{lt-ltb, le-ltb}
-use Rattle.lines.specs.Push.{pushed}
+use Rattle.lines.specs.inner.Push.{pushed}
 use borrow.Author.Needs.{needs}
 use Rattle.lines.proofs.push.Statement.{statement}
 use Rattle.lines.proofs.push.Tie as tie

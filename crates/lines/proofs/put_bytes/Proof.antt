@@ -4,7 +4,7 @@ use Prim.Native.Nat.{_-_, _≤_}
 use native.Mathlib.Omega.{arith}
 use lib.ListN.{length, drop}
 use Rattle.lines.proofs.Pushing.{push-next, push-none}
-use Rattle.lines.specs.Push.{pushAll}
+use Rattle.lines.specs.inner.Push.{pushAll}
 use Rattle.lines.proofs.put_bytes.Statement.{statement}
 use Rattle.lines.proofs.put_bytes.Tie as tie
 

@@ -1,5 +1,5 @@
 -- `advance` meets its contract. Assumes nothing.
-use Rattle.maker.specs.Making.{advanced}
+use Rattle.maker.specs.inner.Making.{advanced}
 use borrow.Author.Needs.{needs}
 use Rattle.maker.proofs.advance.Statement.{statement}
 use Rattle.maker.proofs.advance.Tie as tie

@@ -1,6 +1,6 @@
 -- `fill_fine` meets its contract. Assumes nothing.
 use borrow.Author.Tests.{eq-eqb, ne-eqb}
-use Rattle.maker.specs.Making.{fillIn}
+use Rattle.maker.specs.inner.Making.{fillIn}
 use Rattle.maker.proofs.fill_fine.Statement.{statement}
 use Rattle.maker.proofs.fill_fine.Tie as tie
 

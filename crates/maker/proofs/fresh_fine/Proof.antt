@@ -1,7 +1,7 @@
 -- `fresh_fine` meets its contract. Assumes nothing.
 use native.Mathlib.Omega.{arith}
 use borrow.Author.Tests.{lt-ltb, le-ltb, eq-eqb, ne-eqb}
-use Rattle.maker.specs.Making.{freshIn}
+use Rattle.maker.specs.inner.Making.{freshIn}
 use Rattle.maker.proofs.fresh_fine.Statement.{statement}
 use Rattle.maker.proofs.fresh_fine.Tie as tie
 

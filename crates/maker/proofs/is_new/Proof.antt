@@ -1,6 +1,6 @@
 -- `is_new` meets its contract. Assumes nothing.
 use borrow.Author.Tests.{lt-ltb, le-ltb, eq-eqb, ne-eqb}
-use Rattle.maker.specs.Making.{isNew}
+use Rattle.maker.specs.inner.Making.{isNew}
 use Rattle.maker.proofs.is_new.Statement.{statement}
 use Rattle.maker.proofs.is_new.Tie as tie
 

@@ -6,7 +6,7 @@ use denote.Ref.{now}
 use borrow.Author.Tests.{not-true, not-false}
 use Rattle.answers.specs.Answer.{answerRowsOf}
 use Rattle.assignments.specs.Form.{hasForm}
-use Rattle.maker.specs.Making.{Shaped, FormRead}
+use Rattle.maker.specs.inner.Making.{Shaped, FormRead}
 use Rattle.assignments.proofs.PatternCall.{stop-form, stop-count, stop-byte, stop-room, written}
 use borrow.Author.Needs.{needs}
 use Rattle.maker.proofs.make_pattern.Statement.{statement}

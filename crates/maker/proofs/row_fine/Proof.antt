@@ -1,7 +1,7 @@
 -- `row_fine` meets its contract. Assumes nothing.
 use mathlib.Core.Path.{sym, _∙_}
 use borrow.Author.Tests.{lt-ltb, le-ltb, not-true, not-false}
-use Rattle.maker.specs.Making.{fineIn}
+use Rattle.maker.specs.inner.Making.{fineIn}
 use borrow.Author.Needs.{needs}
 use Rattle.maker.proofs.row_fine.Statement.{statement}
 use Rattle.maker.proofs.row_fine.Tie as tie

@@ -1,7 +1,7 @@
 -- `variable_fine` meets its contract. Assumes nothing.
 use native.Mathlib.Omega.{arith}
 use borrow.Author.Tests.{lt-ltb, le-ltb, eq-eqb, ne-eqb}
-use Rattle.maker.specs.Making.{variableIn}
+use Rattle.maker.specs.inner.Making.{variableIn}
 use borrow.Author.Needs.{needs}
 use Rattle.maker.proofs.variable_fine.Statement.{statement}
 use Rattle.maker.proofs.variable_fine.Tie as tie

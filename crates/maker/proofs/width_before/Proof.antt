@@ -1,6 +1,6 @@
 -- `width_before` meets its contract. Assumes nothing.
 use borrow.Author.Tests.{eq-eqb, ne-eqb}
-use Rattle.maker.specs.Making.{widthBefore}
+use Rattle.maker.specs.inner.Making.{widthBefore}
 use Rattle.maker.proofs.width_before.Statement.{statement}
 use Rattle.maker.proofs.width_before.Tie as tie
 

@@ -2,7 +2,7 @@
 use native.Mathlib.Omega.{arith}
 use Prim.Native.Nat.{_+_}
 use borrow.Author.Tests.{lt-ltb, le-ltb}
-use Rattle.maker.specs.Making.{widthBefore, widthsIn}
+use Rattle.maker.specs.inner.Making.{widthBefore, widthsIn}
 use borrow.Author.Needs.{needs}
 use Rattle.maker.proofs.widths_fine.Statement.{statement}
 use Rattle.maker.proofs.widths_fine.Tie as tie

@@ -1,5 +1,5 @@
 -- `merge` meets its contract. Assumes nothing.
-use Rattle.pieces.specs.Pieces.{mergedIn}
+use Rattle.pieces.specs.inner.Pieces.{mergedIn}
 use borrow.Author.Tests.{lt-ltb, le-ltb}
 use borrow.Author.Needs.{needs}
 use Rattle.pieces.proofs.merge.Statement.{statement}

@@ -1,5 +1,5 @@
 -- `piece_at` meets its contract. Assumes nothing.
-use Rattle.pieces.specs.Pieces.{pieceAt}
+use Rattle.pieces.specs.inner.Pieces.{pieceAt}
 use borrow.Author.Tests.{lt-ltb, le-ltb}
 use borrow.Author.Needs.{needs}
 use Rattle.pieces.proofs.piece_at.Statement.{statement}

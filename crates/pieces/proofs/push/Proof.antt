@@ -1,5 +1,5 @@
 -- `push` meets its contract. Assumes nothing.
-use Rattle.pieces.specs.Pieces.{pieceAt, putPiece, mergedIn, meetsLast, pushedCount, pushedNumbers}
+use Rattle.pieces.specs.inner.Pieces.{pieceAt, putPiece, mergedIn, meetsLast, pushedCount, pushedNumbers}
 use Rattle.forms.specs.Form.{meets}
 use Rattle.forms.specs.declared.Piece.{Piece}
 use borrow.Author.Tests.{lt-ltb, le-ltb}

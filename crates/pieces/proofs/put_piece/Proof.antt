@@ -1,6 +1,6 @@
 -- `put_piece` meets its contract. Assumes nothing.
 use borrow.Author.Tests.{lt-ltb, le-ltb}
-use Rattle.pieces.specs.Pieces.{putPiece}
+use Rattle.pieces.specs.inner.Pieces.{putPiece}
 use borrow.Author.Needs.{needs}
 use Rattle.pieces.proofs.put_piece.Statement.{statement}
 use Rattle.pieces.proofs.put_piece.Tie as tie

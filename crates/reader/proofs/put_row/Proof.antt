@@ -1,5 +1,5 @@
 -- `put_row` meets its contract. Assumes nothing.
-use Rattle.rows.specs.Held.{putRow}
+use Rattle.rows.specs.inner.Held.{putRow}
 use borrow.Author.Needs.{needs}
 use Rattle.reader.proofs.put_row.Statement.{statement}
 use Rattle.reader.proofs.put_row.Tie as tie

@@ -4,7 +4,7 @@ use Rattle.sheets.specs.Sheet.{sheetFound, sheetRows}
 use Rattle.laws.specs.Buffers.{overwrite}
 use borrow.Author.Tests.{lt-ltb, le-ltb}
 use mathlib.Core.Path.{sym, _∙_, ap}
-use Rattle.cursor.specs.Found.{namesFound}
+use Rattle.cursor.specs.inner.Found.{namesFound}
 use borrow.Author.Needs.{needs}
 use Rattle.reader.proofs.read_rows.Statement.{statement}
 use Rattle.reader.proofs.read_rows.Tie as tie

@@ -1,6 +1,6 @@
 -- `fit` meets its contract. Assumes nothing.
 use borrow.Author.Tests.{lt-ltb, le-ltb}
-use Rattle.rows.specs.Held.{fitting}
+use Rattle.rows.specs.inner.Held.{fitting}
 use Rattle.rows.proofs.fit.Statement.{statement}
 use Rattle.rows.proofs.fit.Tie as tie
 

@@ -56,7 +56,7 @@ use Rattle.laws.specs.Buffers.{overwrite}
 use Rattle.terms.proofs.Row as T
 use Rattle.terms.proofs.Row.Laws as T′
 use Rattle.terms.specs.Table.{rowNumbers}
-use Rattle.rows.specs.Held.{fitting, putWhole}
+use Rattle.rows.specs.inner.Held.{fitting, putWhole}
 use Rattle.rows.proofs.Held.{fitting-rows, fitting-room, held-fitting, held-length, put-first, put-next}
 use Rattle.rows.proofs.Facts.{says-two, number-is}
 use Rattle.rows.proofs.Again.{LentAgain, lends-again, comes-back}

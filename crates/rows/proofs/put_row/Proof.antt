@@ -1,7 +1,7 @@
 -- `put_row` meets its contract: four stores where there is room, and none elsewhere. Assumes nothing.
 use mathlib.Core.Path.{sym, _∙_}
 use borrow.Author.Tests.{lt-ltb, le-ltb}
-use Rattle.rows.specs.Held.{putRow, putWhole}
+use Rattle.rows.specs.inner.Held.{putRow, putWhole}
 use borrow.Author.Needs.{needs}
 use Rattle.rows.proofs.put_row.Statement.{statement}
 use Rattle.rows.proofs.put_row.Tie as tie

@@ -1,5 +1,5 @@
 -- `store_row` meets its contract. Assumes nothing.
-use Rattle.sides.specs.Shortened.{storedRow}
+use Rattle.sides.specs.inner.Shortened.{storedRow}
 use borrow.Author.Needs.{needs}
 use Rattle.sides.proofs.store_row.Statement.{statement}
 use Rattle.sides.proofs.store_row.Tie as tie

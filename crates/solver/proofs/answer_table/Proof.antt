@@ -10,8 +10,8 @@ use Rattle.terms.specs.Table.{rowsOf}
 use Rattle.laws.specs.Lists.{countUp}
 use Rattle.terms.proofs.AcceptedTable.{accepted-table}
 use Rattle.terms.proofs.Faults.{totals-small}
-use Rattle.sides.specs.Sides.{Prepared}
-use Rattle.solver.specs.Equations.{unlinked}
+use Rattle.sides.specs.inner.Sides.{Prepared}
+use Rattle.solver.specs.inner.Equations.{unlinked}
 use Rattle.solver.proofs.ShortCopy.{lows-part, copy-length, copy-bits, copy-prepared, copy-taken}
 use borrow.Author.Needs.{needs}
 use Rattle.solver.proofs.answer_table.Statement.{statement}

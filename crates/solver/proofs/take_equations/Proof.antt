@@ -11,10 +11,10 @@ use Rattle.terms.specs.Table.{rowsOf}
 use Rattle.terms.proofs.AcceptedTable.{accepted-table}
 use Rattle.terms.proofs.Rows.{rows-length}
 use Rattle.answers.specs.Pairs.{Pair}
-use Rattle.answers.specs.Classes.{rep, run}
-use Rattle.classes.specs.Links.{numberOf, rootsOf, PairTaken}
-use Rattle.sides.specs.Sides.{Prepared, SidesRead, pairsFrom}
-use Rattle.solver.specs.Equations.{unlinked}
+use Rattle.answers.specs.inner.Classes.{rep, run}
+use Rattle.classes.specs.inner.Links.{numberOf, rootsOf, PairTaken}
+use Rattle.sides.specs.inner.Sides.{Prepared, SidesRead, pairsFrom}
+use Rattle.solver.specs.inner.Equations.{unlinked}
 use Rattle.solver.proofs.Taking.{Taking, taking-first, taking-to, taking-conflict, Between, between-first, between-more, between-conflict, between-done}
 use Rattle.solver.proofs.take_equations.Statement.{statement}
 use Rattle.solver.proofs.take_equations.Tie as tie

@@ -6,7 +6,7 @@ use native.Mathlib.Omega.{arith}
 use denote.Ref.{now}
 use lib.ListN.{length, take, set, getD, length-set}
 use lib.Seq.{take-length}
-use Rattle.sheets.specs.Printed.{written}
+use Rattle.sheets.specs.inner.Printed.{written}
 use Rattle.sheets.proofs.Printed.{written-none, written-byte, put-none, put-in}
 use Rattle.writer.proofs.put_bytes.Statement.{statement}
 use Rattle.writer.proofs.put_bytes.Tie as tie

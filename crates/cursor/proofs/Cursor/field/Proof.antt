@@ -1,7 +1,7 @@
 -- `field` meets its contract. Assumes nothing.
 use Rattle.sheets.proofs.Fields.{seen-within}
 use Rattle.sheets.specs.Text.{fieldAt}
-use Rattle.cursor.specs.Found.{numberFound}
+use Rattle.cursor.specs.inner.Found.{numberFound}
 use native.Mathlib.Omega.{arith}
 use mathlib.Core.Path.{sym, _∙_, ap}
 use borrow.Author.Needs.{needs}

@@ -1,6 +1,6 @@
 -- `line` meets its contract: a field after the other. Assumes nothing.
 use Rattle.sheets.specs.Text.{Values, lineAt}
-use Rattle.cursor.specs.Found.{numberFound}
+use Rattle.cursor.specs.inner.Found.{numberFound}
 use Rattle.terms.specs.declared.Row.{Row}
 use mathlib.Core.Path.{sym, _∙_, ap}
 use borrow.Author.Needs.{needs}

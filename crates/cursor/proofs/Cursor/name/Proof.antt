@@ -1,7 +1,7 @@
 -- `name` meets its contract. Assumes nothing.
 use Rattle.sheets.proofs.Fields.{seen-within}
 use Rattle.sheets.specs.Text.{nameAt}
-use Rattle.cursor.specs.Found.{nameFound}
+use Rattle.cursor.specs.inner.Found.{nameFound}
 use native.Mathlib.Omega.{arith}
 use mathlib.Core.Path.{sym, _∙_, ap}
 use borrow.Author.Needs.{needs}

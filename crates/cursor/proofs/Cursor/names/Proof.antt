@@ -1,6 +1,6 @@
 -- `names` meets its contract: a name after the other. Assumes nothing.
 use Rattle.sheets.specs.Text.{namesAt}
-use Rattle.cursor.specs.Found.{nameFound}
+use Rattle.cursor.specs.inner.Found.{nameFound}
 use mathlib.Core.Path.{sym, _∙_, ap}
 use borrow.Author.Needs.{needs}
 use Rattle.cursor.proofs.Cursor.names.Statement.{statement}

@@ -1,12 +1,15 @@
 -- The executable twin of Pairs.antt: a list that has for each source the lowest of its class, changed pair by pair. The theorems
 -- of this crate say that it comes to the same.
-use mathlib.Core.Bool.{Bool, cond}
+use mathlib.Core.Path.{_≡_}
+use mathlib.Core.Bool.{Bool, true, cond}
 use mathlib.Core.List.{List, [], _∷_, map}
-use Prim.Native.Nat.{ℕ, suc, _+_, min, max}
+use Prim.Native.Nat.{ℕ, suc, _+_, _≤_, min, max}
 use lib.Dec.{eqb}
-use lib.ListN.{getD}
+use lib.ListN.{length, getD}
+use Rattle.terms.specs.Assignments.{Assignment}
+use Rattle.terms.specs.Table.{bitOf}
 use Rattle.laws.specs.Lists.{countUp}
-use Rattle.answers.specs.Pairs.{Pair}
+use Rattle.answers.specs.Pairs.{Pair, satisfiesPairs}
 
 abbrev pub rep : List ℕ → ℕ → ℕ
 rep c s = getD c s 0
@@ -53,3 +56,12 @@ linksBefore c (e ∷ es) = cond (eqb (rep (run c e) 1) 0) 0 (links c e + linksBe
 unfoldable pub runAll : List ℕ → List (List Pair) → List ℕ
 runAll c [] = c
 runAll c (e ∷ es) = runAll (run c e) es
+
+-- A list that has for each source the lowest of its class, where the classes are those of pairs: an assignment satisfies the pairs exactly
+-- if each source has the bit of its representative.
+pub record Represents (n : ℕ) (c : List ℕ) (seen : List Pair) : Type 0 where
+  pub len : length c ≡ suc (suc n)
+  pub low : (i : ℕ) → rep c i ≤ i
+  pub root : (i : ℕ) → rep c (rep c i) ≡ rep c i
+  pub just : (p : List ℕ) → Assignment n p → satisfiesPairs p seen ≡ true → (i : ℕ) → bitOf p i ≡ bitOf p (rep c i)
+  pub full : (p : List ℕ) → Assignment n p → ((i : ℕ) → bitOf p i ≡ bitOf p (rep c i)) → satisfiesPairs p seen ≡ true

@@ -7,9 +7,9 @@ use Rattle.terms.specs.declared.Row.{Row}
 use Rattle.terms.specs.Table.{rowsOf, bitsOf}
 use Rattle.laws.specs.Lists.{countUp}
 use Rattle.answers.specs.Pairs.{equationPairs}
-use Rattle.answers.specs.Classes.{runAll, conflictAt, linksBefore}
-use Rattle.classes.specs.Links.{Low, rootsOf}
-use Rattle.sides.specs.Sides.{Prepared}
+use Rattle.answers.specs.inner.Classes.{runAll, conflictAt, linksBefore}
+use Rattle.classes.specs.inner.Links.{Low, rootsOf}
+use Rattle.sides.specs.inner.Sides.{Prepared}
 
 -- Each source links to itself.
 abbrev pub unlinked : List Row → List ℕ

@@ -11,12 +11,11 @@ use Rattle.terms.specs.Table.{rowsOf, bitsOf}
 use Rattle.terms.specs.Faults.{firstFault}
 use Rattle.laws.specs.Buffers.{overwrite}
 use Rattle.answers.specs.Pairs.{Pair}
-use Rattle.answers.specs.Classes.{rep, inClass}
+use Rattle.answers.specs.inner.Classes.{rep, inClass, Represents}
 use Rattle.answers.specs.Answer.{begins, variableAt, variableWidths, implies, appears, answerRows, answerNumbers}
 use Rattle.laws.specs.Lists.{below, tally}
-use Rattle.answers.proofs.Agreement.{Represents}
 use Rattle.answers.specs.declared.AnswerRow.{AnswerRow}
-use Rattle.answer_table.specs.Rows.{answerRowPut}
+use Rattle.answer_table.specs.inner.Rows.{answerRowPut}
 use Rattle.borders.specs.declared.Progress.{Progress}
 
 -- A list of zeros.

@@ -6,7 +6,7 @@ use Prim.Native.Nat.{ℕ, _+_, _<_, _≤_}
 use lib.ListN.{length, getD, take}
 use Rattle.terms.specs.declared.Fault.the-variants.{Accepted}
 use Rattle.terms.specs.Table.{rowsOf, rowAt, widthOf, bitsOf, countKind}
-use Rattle.terms.specs.Places.{sourceBefore}
+use Rattle.terms.specs.inner.Places.{sourceBefore}
 use Rattle.terms.specs.Faults.{firstFault}
 
 pub record Ready (table widths places pattern : List ℕ) : Type 0 where

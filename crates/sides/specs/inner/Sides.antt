@@ -5,8 +5,8 @@ use Prim.Native.Nat.{ℕ, zero, suc, _+_, _≤_, _<_}
 use lib.ListN.{length, getD}
 use Rattle.terms.specs.declared.Row.{Row}
 use Rattle.terms.specs.Table.{rowsOf, rowAt, bitsOf, countKind}
-use Rattle.terms.specs.Places.{lowSource}
-use Rattle.forms.specs.Numbered.{Numbered}
+use Rattle.terms.specs.inner.Places.{lowSource}
+use Rattle.forms.specs.inner.Numbered.{Numbered}
 use Rattle.answers.specs.Pairs.{Pair, pairsOf}
 
 -- An accepted table, its widths, the variables before each row, and the source of each variable's low bit.

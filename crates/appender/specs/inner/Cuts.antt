@@ -9,10 +9,10 @@ use Rattle.terms.specs.Table.{rowsOf, widthOf, sourceOf, extract}
 use Rattle.terms.specs.Faults.{absent}
 use Rattle.forms.specs.declared.Piece.{Piece}
 use Rattle.forms.specs.Form.{fill, part}
-use Rattle.forms.specs.Numbered.{Numbered}
+use Rattle.forms.specs.inner.Numbered.{Numbered}
 use Rattle.appender.specs.declared.Cut.{Cut}
 use Rattle.appender.specs.declared.Part.{Part}
-use Rattle.appender.specs.Append.{Appended}
+use Rattle.appender.specs.inner.Append.{Appended}
 
 -- Whether a row of this kind names no other row: a variable or a constant.
 unfoldable pub isLeaf : ℕ → Bool

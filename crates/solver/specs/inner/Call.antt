@@ -11,11 +11,11 @@ use Rattle.terms.specs.declared.Fault.the-variants.{Accepted}
 use Rattle.terms.specs.Table.{rowsOf, bitsOf, widthOf, countKind}
 use Rattle.laws.specs.Lists.{countUp}
 use Rattle.terms.specs.Faults.{firstFault}
-use Rattle.terms.specs.Places.{sourceBefore}
+use Rattle.terms.specs.inner.Places.{sourceBefore}
 use Rattle.laws.specs.Buffers.{overwrite}
 use Rattle.answers.specs.Answer.{answerNumbers}
 use Rattle.answers.specs.Solve.{solvedRows, answerRecord}
-use Rattle.solver.specs.Equations.{EquationsTaken}
+use Rattle.solver.specs.inner.Equations.{EquationsTaken}
 
 -- Links that were undone: each source links to itself.
 abbrev pub Unlinks : List ℕ → List ℕ → Type 0

@@ -8,10 +8,9 @@ use Rattle.terms.specs.Table.{rowsOf, bitsOf}
 use Rattle.terms.specs.Faults.{firstFault}
 use Rattle.laws.specs.Buffers.{overwrite}
 use Rattle.answers.specs.Pairs.{Pair}
-use Rattle.answers.specs.Classes.{rep, inClass}
+use Rattle.answers.specs.inner.Classes.{rep, inClass, Represents}
 use Rattle.laws.specs.Lists.{tally}
 use Rattle.answers.specs.Answer.{variableWidths, appears, answerRows, answerNumbers}
-use Rattle.answers.proofs.Agreement.{Represents}
 
 -- The rows of an accepted table whose classes are these were written: how many, how many fresh pieces, and the answer table.
 pub record RowsPut (table classes answer answer′ : List ℕ) (pieces fresh : ℕ) : Type 0 where

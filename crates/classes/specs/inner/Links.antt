@@ -9,7 +9,7 @@ use lib.Dec.{eqb}
 use lib.ListN.{length, getD}
 use Rattle.laws.specs.Lists.{countUp}
 use Rattle.answers.specs.Pairs.{Pair}
-use Rattle.answers.specs.Classes.{rep, merge}
+use Rattle.answers.specs.inner.Classes.{rep, merge}
 use Rattle.classes.specs.declared.Pairing.{Pairing}
 use Rattle.classes.specs.declared.Pairing.the-variants.{Nothing, Tie, Conflict}
 

@@ -9,8 +9,8 @@ use Rattle.terms.specs.Table.{rowsOf, sourceOf}
 use Rattle.terms.specs.Faults.{absent}
 use Rattle.laws.specs.Buffers.{overwrite}
 use Rattle.forms.specs.declared.Piece.{Piece}
-use Rattle.pieces.specs.Pieces.{pieceAt}
-use Rattle.sides.specs.Sides.{Prepared}
+use Rattle.pieces.specs.inner.Pieces.{pieceAt}
+use Rattle.sides.specs.inner.Sides.{Prepared}
 
 -- x, x + step, x + 2 · step and so on, n numbers in 16 bits.
 unfoldable pub stepped : ℕ → ℕ → ℕ → List ℕ
