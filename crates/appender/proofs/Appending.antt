@@ -13,7 +13,7 @@ use Rattle.forms.specs.Form.{group, pieceOf, formFrom, numbersOf, pieceWidth, f
 use Rattle.appender.specs.inner.Append.{Has, Appended}
 use Rattle.pieces.specs.inner.Pieces.{pushedCount, pushedNumbers}
 use Rattle.forms.proofs.Maximal.{pushed, group-push}
-use Rattle.forms.proofs.PieceWidths.{Proper, AllProper, some}
+use Rattle.forms.specs.Proper.{Proper, AllProper, some}
 use Rattle.pieces.proofs.Pushing.{pushed-form}
 use Rattle.forms.proofs.Units.{form-proper, form-width, form-count}
 use Rattle.terms.specs.Table.{sourceOf}

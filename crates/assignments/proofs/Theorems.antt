@@ -31,6 +31,7 @@ use Rattle.assignments.specs.Form.{patternBits, rowsFine, hasForm}
 use Rattle.assignments.specs.Call.{wrongFresh, patternRecord, patternAfter}
 use Rattle.assignments.proofs.Places.{table-sized, table-variables, table-bits}
 use Rattle.assignments.proofs.FineRows.{answer-fine, answer-bits}
+use Rattle.assignments.specs.Made.{MadeFromSolved, Makes, patternOf}
 
 -- Rows written as numbers are read as they were.
 pub rows-back : (rows : List AnswerRow) → answerRowsOf (answerNumbers rows) ≡ rows
@@ -52,31 +53,6 @@ unfolding allBits
 bits-all done = refl
 bits-all (off a) = bits-all a
 bits-all (on a) = bits-all a
-
--- What the call leaves in a buffer with the old content.
-abbrev pub patternOf : List Row → List ℕ → List ℕ → List ℕ
-patternOf t f old = take (bitsOf t) (patternAfter (answerNumbers (solvedRows t)) f old)
-
--- The call with the answer of a solved table, fresh bytes f and a buffer with the old content: its record, what it writes, and that
--- this is an assignment that satisfies the table.
-pub record Makes (t : List Row) (f old : List ℕ) : Type 0 where
-  pub returns : patternRecord (answerNumbers (solvedRows t)) f (length old) ≡ completed 0 (bitsOf t)
-  pub writes : patternOf t f old ≡ instantiate (solvedRows t) f
-  pub keeps : patternAfter (answerNumbers (solvedRows t)) f old ≡ instantiate (solvedRows t) f ++ drop (bitsOf t) old
-  pub is-assignment : Assignment (bitsOf t) (patternOf t f old)
-  pub does-satisfy : satisfies t (patternOf t f old) ≡ true
-
--- The only fresh bytes that make an assignment, whatever the buffer holds.
-pub record OnlyFresh (t : List Row) (p : List ℕ) : Type 0 where
-  pub bytes : List ℕ
-  pub are-bits : Assignment (answerRecord t .free) bytes
-  pub make : (old : List ℕ) → bitsOf t ≤ length old → patternOf t bytes old ≡ p
-  pub no-other : (f old : List ℕ) → Assignment (answerRecord t .free) f → bitsOf t ≤ length old → patternOf t f old ≡ p → f ≡ bytes
-
--- From a solved table to its assignments: all fresh bytes make one, and each is made by exactly one list of them.
-pub record MadeFromSolved (t : List Row) : Type 0 where
-  pub every-fresh : (f old : List ℕ) → Assignment (answerRecord t .free) f → bitsOf t ≤ length old → Makes t f old
-  pub every-assignment : (p : List ℕ) → Assignment (bitsOf t) p → satisfies t p ≡ true → OnlyFresh t p
 
 module _ (table : List ℕ) (accepted : firstFault table ≡ Accepted) (solved : answerRecord (rowsOf table) .outcome ≡ 2) where
   abbrev t : List Row

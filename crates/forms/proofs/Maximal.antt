@@ -7,11 +7,7 @@ use Prim.Native.Nat.{_+_}
 use Rattle.forms.specs.declared.Piece.{Piece}
 use Rattle.forms.specs.Form.{meets, merged, add, addAll, group}
 use Rattle.forms.proofs.Grouping.{meets-right, meets-left, group-append}
-
-pub data Maximal : List Piece → Type 0 where
-  none : Maximal []
-  one : {p : Piece} → Maximal (p ∷ [])
-  more : {p q : Piece} {form : List Piece} → meets p q ≡ false → Maximal (q ∷ form) → Maximal (p ∷ q ∷ form)
+use Rattle.forms.specs.Proper.{Maximal, empty, one, more}
 
 merged-front : (p q : Piece) (form : List Piece) → meets p q ≡ true → Maximal (q ∷ form) → Maximal (merged p q ∷ form)
 merged-front p q form h one = one
@@ -29,7 +25,7 @@ add-front p (q ∷ form) m = go (meets p q) refl
 -- a grouped list is maximally connected
 pub group-maximal : (ps : List Piece) → Maximal (group ps)
 unfolding group addAll
-group-maximal [] = none
+group-maximal [] = empty
 group-maximal (p ∷ ps) = add-front p (group ps) (group-maximal ps)
 
 -- a piece behind a form, merged with the last one where they meet
@@ -50,7 +46,7 @@ apart-pushed p r (x ∷ form) q e = rw e
 
 pub push-all : (form : List Piece) (q : Piece) → Maximal form → addAll form (q ∷ []) ≡ pushed form q
 unfolding addAll pushed
-push-all form q none = refl
+push-all form q empty = refl
 push-all form q one = refl
 push-all form q (more {p = p} {q = r} {form = rest} e m) = ap (add p) (push-all (r ∷ rest) q m) ∙ apart-pushed p r rest q e
 

@@ -10,15 +10,7 @@ use Rattle.laws.proofs.Bools.{not-both}
 use Rattle.forms.specs.declared.Piece.{Piece}
 use Rattle.forms.specs.Form.{meets, merged, add, addAll, group, pieceWidth, formWidth}
 use Rattle.forms.proofs.Grouping.{Meeting, meeting}
-
--- a piece that can stand in a form: a fill ends at 0, and high is not below low
-pub record Proper (p : Piece) : Type 0 where
-  pub fill-low : ltb (p .kind) 2 ≡ true → p .low ≡ 0
-  pub in-order : p .low ≤ p .high
-
-pub data AllProper : List Piece → Type 0 where
-  none : AllProper []
-  some : {p : Piece} {form : List Piece} → Proper p → AllProper form → AllProper (p ∷ form)
+use Rattle.forms.specs.Proper.{Proper, AllProper, none, some}
 
 pub proper-width : (p : Piece) → Proper p → 1 ≤ pieceWidth p
 unfolding pieceWidth

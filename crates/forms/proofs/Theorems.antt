@@ -26,9 +26,9 @@ use Rattle.forms.specs.inner.Numbered.{Numbered}
 use Rattle.forms.proofs.FormNumbers.{numbers-length}
 use Rattle.forms.proofs.FormValues.{form-value}
 use Rattle.forms.proofs.Grouping.{group-append}
-use Rattle.forms.proofs.Maximal.{Maximal, group-maximal}
+use Rattle.forms.proofs.Maximal.{group-maximal}
+use Rattle.forms.specs.Proper.{Maximal, AllProper}
 use Rattle.forms.proofs.Numbered.{variablesIn, number-row}
-use Rattle.forms.proofs.PieceWidths.{AllProper}
 use Rattle.forms.proofs.RowForms.{variable-form, constant-cut}
 use Rattle.forms.proofs.Units.{form-proper, form-width, form-count}
 

@@ -12,7 +12,8 @@ use Rattle.terms.proofs.RowKinds.{by-variable}
 use Rattle.laws.proofs.Bools.{not-both}
 use Rattle.forms.specs.declared.Piece.{Piece}
 use Rattle.forms.specs.Form.{fill, part, bitsUp, placePieces, pieceOf, formFrom, pieceWidth, formWidth}
-use Rattle.forms.proofs.PieceWidths.{Proper, AllProper, none, some, group-proper, group-width, group-count}
+use Rattle.forms.proofs.PieceWidths.{group-proper, group-width, group-count}
+use Rattle.forms.specs.Proper.{Proper, AllProper, none, some}
 
 pub record Unit-bit (p : Piece) : Type 0 where
   pub proper : Proper p

@@ -1,3 +1,4 @@
 pub mod Form
 pub mod Call
+pub mod Proper
 pub mod inner

@@ -13,7 +13,8 @@ use Rattle.forms.specs.declared.Piece.{Piece}
 use Rattle.forms.specs.Form.{meets, merged, add, numbersOf, pieceWidth, formWidth}
 use Rattle.forms.proofs.Grouping.{Meeting, meeting}
 use Rattle.forms.proofs.Maximal.{pushed, pushed-last}
-use Rattle.forms.proofs.PieceWidths.{Proper, AllProper, last-width, last-proper}
+use Rattle.forms.proofs.PieceWidths.{last-width, last-proper}
+use Rattle.forms.specs.Proper.{Proper, AllProper}
 use Rattle.pieces.specs.inner.Pieces.{pieceAt, putPiece, mergedIn, meetsLast, pushedCount, pushedNumbers}
 use Rattle.pieces.proofs.Buffer.{last-read, last-put, next-put}
 
