@@ -4,3 +4,4 @@ pub mod Assignments
 pub mod Calls
 pub mod Value
 pub mod Places
+pub mod Acceptance
