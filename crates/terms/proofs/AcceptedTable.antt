@@ -1,20 +1,21 @@
 -- What an accepted table is: at most 512 whole rows, none of which breaks a rule.
 use mathlib.Core.Path.{_≡_, refl, ap}
-use mathlib.Core.Bool.{Bool, true, false, cond}
+use mathlib.Core.Bool.{true, false}
 use mathlib.Core.List.{List}
 use Prim.Native.Nat.{ℕ, _%_, _<_, _≤_}
 use native.Mathlib.Omega.{arith}
-use lib.Dec.{eqb, ltb}
+use lib.Dec.{eqb}
 use lib.ListN.{length}
-use borrow.Author.Tests.{ltb-false, eqb-true, not-false, lt-ltb, ne-eqb}
+use borrow.Author.Tests.{ne-eqb}
 use Rattle.terms.specs.declared.Row.{Row}
 use Rattle.terms.specs.declared.Fault.{Fault}
 use Rattle.terms.specs.declared.Fault.the-variants.{Accepted, Shape, Kind, Unused, Named, Width, Bounds, Count, Sides}
 use Rattle.terms.specs.Table.{rowsOf, rowAt}
 use Rattle.terms.specs.Calls.{faultNumber}
-use Rattle.terms.specs.Faults.{nonzero, breaks11, isAccepted, lowestFault, firstFault, notTerm, absent}
-use Rattle.laws.proofs.Bools.{not-both, or-first, or-second}
-use Rattle.terms.proofs.Faults.{passed-from, term, Term, term-named}
+use Rattle.terms.specs.Faults.{isAccepted, firstFault, absent}
+use Rattle.laws.proofs.Bools.{not-both}
+use Rattle.terms.proofs.Acceptance.{past-all, fault-exactly}
+use Rattle.terms.proofs.Faults.{term, Term, term-named}
 use Rattle.terms.proofs.Values.{Sound}
 
 pub fault-none : (f : Fault) → isAccepted f ≡ true → f ≡ Accepted
@@ -33,27 +34,14 @@ pub record Table (numbers : List ℕ) : Type 0 where
   pub whole : length numbers % 4 ≡ 0
   pub sound : Sound (rowsOf numbers)
 
-shaped : (numbers : List ℕ) → breaks11 numbers ≡ false → Sound (rowsOf numbers) → Table numbers
-unfolding breaks11
-shaped numbers b sound =
-    let odd = nonzero (length numbers % 4) in
-    let long = ltb 512 (length (rowsOf numbers)) in
-    record {
-      few = ltb-false 512 (length (rowsOf numbers)) (or-second odd long b);
-      whole = eqb-true (length numbers % 4) 0 (not-false (eqb (length numbers % 4) 0) (or-first odd long b));
-      sound = sound;
-    }
-
 pub accepted-table : (numbers : List ℕ) → firstFault numbers ≡ Accepted → Table numbers
-unfolding firstFault
-accepted-table numbers e = go (breaks11 numbers) refl e
-  where
-    n : ℕ
-    n = length (rowsOf numbers)
-
-    go : (b : Bool) → breaks11 numbers ≡ b → cond b Shape (lowestFault (rowsOf numbers) 0 n) ≡ Accepted → Table numbers
-    go true b f = absurd (not-both (ap isAccepted f) refl)
-    go false b f = shaped numbers b (λ r h. passed-from (rowsOf numbers) 0 n f r (omega arith) (omega arith))
+accepted-table numbers e =
+    let says = fault-exactly numbers Accepted .to e in
+    record {
+      few = says .0 .few;
+      whole = says .0 .whole;
+      sound = λ r h. ap isAccepted (past-all (rowsOf numbers) r (says .1 r h));
+    }
 
 -- a fault's number is 11 or more, and not 0
 pub fault-high : (f : Fault) → isAccepted f ≡ false → 11 ≤ faultNumber f

@@ -1,8 +1,8 @@
 -- What holds of a row that breaks no rule, and of a table in which no row breaks one.
-use mathlib.Core.Path.{_≡_, refl, sym, _∙_, ap}
+use mathlib.Core.Path.{_≡_, refl, _∙_}
 use mathlib.Core.Bool.{Bool, true, false, not, _||_}
 use mathlib.Core.List.{List, _∷_}
-use mathlib.Core.Logic.{_⊎_, ⊎-elim}
+use mathlib.Core.Logic.{⊎-elim}
 use Prim.Native.Nat.{ℕ, zero, suc, _+_, _-_, _<_, _≤_}
 use native.Mathlib.Omega.{arith}
 use lib.Dec.{eqb, ltb}
@@ -10,13 +10,13 @@ use lib.ListN.{length, take}
 use borrow.Author.Tests.{ltb-true, ltb-false, eqb-true, eqb-false, not-false, lt-ltb, le-ltb, ne-eqb}
 use Rattle.terms.specs.declared.Row.{Row}
 use Rattle.terms.specs.declared.Fault.{Fault}
-use Rattle.terms.specs.declared.Fault.the-variants.{Accepted, Kind, Unused, Named, Width, Bounds, Count, Sides}
+use Rattle.terms.specs.declared.Fault.the-variants.{Kind, Unused, Named, Width, Bounds, Count, Sides}
 use Rattle.terms.specs.Table.{rowAt, byKind, widthIn, widthOf, bitsOf, countKind}
 use Rattle.terms.specs.Faults.{breaks12, breaks13, breaks14, breaks15, breaks16, breaks17, breaks18, unusedColumn, notTerm, misnamed, outside, wrongWidth, wrongBounds, tooMany, unequalSides, firstRule, rulesAt, faultAt, isAccepted, lowestFault}
 use Rattle.terms.proofs.RowKinds.{else-kind, KindOf, is-variable, is-constant, is-concat, is-extract, is-equation, kind-of}
 use Rattle.laws.proofs.Bools.{not-both, or-first, or-second}
 use Rattle.terms.proofs.Widths.{width-row}
-use Rattle.laws.proofs.Numbers.{below-or-at, at-or-after}
+use Rattle.laws.proofs.Numbers.{below-or-at}
 
 -- ---- rules read from the top
 
@@ -227,18 +227,3 @@ lowest-past t r n h = rw h
 pub lowest-here : (t : List Row) (r n : ℕ) → isAccepted (faultAt t r) ≡ false → lowestFault t r (suc n) ≡ faultAt t r
 unfolding lowestFault
 lowest-here t r n h = rw h
-
-is-accepted : (f : Fault) → f ≡ Accepted → isAccepted f ≡ true
-is-accepted f e = ap isAccepted e
-
--- a table without a lowest fault has no row that breaks a rule
-pub passed-from : (t : List Row) (r n : ℕ) → lowestFault t r n ≡ Accepted → (i : ℕ) → r ≤ i → i < r + n → isAccepted (faultAt t i) ≡ true
-passed-from t r zero e i l h = absurd (omega arith)
-passed-from t r (suc n) e i l h = go (isAccepted (faultAt t r)) refl (passed-from t (suc r) n)
-  where
-    go : (b : Bool) → isAccepted (faultAt t r) ≡ b
-        → (lowestFault t (suc r) n ≡ Accepted → (i : ℕ) → suc r ≤ i → i < suc r + n → isAccepted (faultAt t i) ≡ true)
-        → isAccepted (faultAt t i) ≡ true
-    go true a later =
-        ⊎-elim (λ m. rw m a) (λ m. later (sym (lowest-past t r n a) ∙ e) i m (omega arith)) (at-or-after r i l)
-    go false a later = absurd (not-both (is-accepted (faultAt t r) (sym (lowest-here t r n a) ∙ e)) a)

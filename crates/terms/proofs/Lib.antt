@@ -2,7 +2,7 @@ pub mod Rows
 pub mod ByRows
 pub mod Widths
 pub mod Faults
-pub mod RuleOrder
+pub mod Acceptance
 pub mod Words
 pub mod Values
 pub mod Sources

@@ -3,4 +3,5 @@ pub mod Faults
 pub mod Assignments
 pub mod Calls
 pub mod Value
+pub mod Acceptance
 pub mod inner
