@@ -11,7 +11,7 @@ use Rattle.terms.specs.declared.Row.{Row}
 use Rattle.terms.specs.Table.{rowAt, bitsOf, ifEquation, bitOf, valuesOf, sourceOf, sameWord, sidesAgree, allRows, satisfies}
 use Rattle.terms.proofs.RowKinds.{Equation, equation-or-not, of-equation, of-term}
 use Rattle.terms.proofs.Faults.{kept, kept-names, kept-sides, equation-names}
-use Rattle.terms.proofs.Values.{Sound}
+use Rattle.terms.specs.Sound.{Sound}
 use Rattle.terms.proofs.Sources.{value-sources, source-length}
 use Rattle.answers.specs.Pairs.{Pair, paired, pairsOf, pairsIn, equationPairs, satisfiesPairs}
 use Rattle.answers.specs.Representatives.{satisfiesAll, allPairs}

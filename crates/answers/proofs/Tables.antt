@@ -17,7 +17,7 @@ use Rattle.terms.specs.Table.{rowsOf, rowAt, bitsOf, bitOf, satisfies}
 use Rattle.laws.specs.Lists.{countUp}
 use Rattle.terms.proofs.AcceptedTable.{accepted-table}
 use Rattle.terms.proofs.Assignments.{assignment-length, every-at, every-of, count-ext, count-none-of, count-all-of, count-all-at}
-use Rattle.terms.proofs.Values.{Sound}
+use Rattle.terms.specs.Sound.{Sound}
 use Rattle.answers.specs.Pairs.{Pair, pairsOf, pairsIn, equationPairs, satisfiesPairs, ties, equalUnder}
 use Rattle.answers.proofs.Conflicts.{unsatAt, tiesBefore}
 use Rattle.answers.specs.Representatives.{satisfiesAll, allPairs, noneSatisfies, Satisfiable}

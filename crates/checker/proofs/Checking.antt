@@ -23,7 +23,8 @@ use Rattle.laws.proofs.Bools.{not-both}
 use Rattle.terms.proofs.Rows.{rows-length}
 use Rattle.laws.proofs.Buffers.{overwrite-length, overwrite-read, overwrite-more}
 use Rattle.terms.proofs.Widths.{widths-count, width-row, width-early, widths-more, width-same, bits-more, count-more}
-use Rattle.terms.proofs.Faults.{Passed, kept, kept-names, rule-same, concat-names, extract-names, equation-names, widths-small, totals-small, lowest-past, lowest-here}
+use Rattle.terms.proofs.Faults.{kept, kept-names, rule-same, concat-names, extract-names, equation-names, widths-small, totals-small, lowest-past, lowest-here}
+use Rattle.terms.specs.Sound.{Passed}
 use Rattle.terms.proofs.AcceptedTable.{accepted-table}
 
 -- a table of the wrong shape, or too little room: nothing is written

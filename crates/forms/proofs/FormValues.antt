@@ -16,7 +16,7 @@ use Rattle.terms.proofs.RowKinds.{of-variable, of-other, bits-variable, bits-ot
 use Rattle.laws.proofs.Bools.{not-both}
 use Rattle.laws.proofs.Numbers.{lt-or-le}
 use Rattle.terms.proofs.Sources.{value-sources}
-use Rattle.terms.proofs.Values.{Sound}
+use Rattle.terms.specs.Sound.{Sound}
 use Rattle.terms.proofs.Words.{extract-join}
 use Rattle.forms.specs.declared.Piece.{Piece}
 use Rattle.forms.specs.Form.{fill, part, bitsUp, placePieces, pieceOf, meets, merged, add, addAll, group, formFrom, formOf, variableBits, pieceValue, piecesValue, formValue}

@@ -13,13 +13,14 @@ use Rattle.terms.specs.Faults.{firstFault}
 use Rattle.terms.specs.Assignments.{Assignment}
 use Rattle.terms.proofs.AcceptedTable.{accepted-table, term-present}
 use Rattle.terms.proofs.Assignments.{assignment-length}
-use Rattle.terms.proofs.Equations.{IsConcat, IsExtract, equation-1, equation-2, equation-3, equation-4, equation-7}
+use Rattle.terms.proofs.Equations.{equation-1, equation-2, equation-3, equation-4, equation-7}
 use Rattle.terms.proofs.Faults.{kept, kept-bounds, widths-small}
 use Rattle.laws.proofs.Lists.{map-append}
 use Rattle.terms.proofs.Separation.{same-sources}
 use Rattle.laws.proofs.CountUp.{count-up}
 use Rattle.terms.proofs.Sources.{source-length}
-use Rattle.terms.proofs.Values.{Sound, value-concat, value-extract, width-variable}
+use Rattle.terms.proofs.Values.{value-concat, value-extract, width-variable}
+use Rattle.terms.specs.Sound.{Sound, IsConcat, IsExtract}
 use Rattle.terms.proofs.Words.{extract-join, extract-whole}
 use Rattle.forms.specs.Form.{fill, part, pieceOf, addAll, group, formFrom, formOf, numbersOf, formWidth, formValue}
 use Rattle.forms.specs.inner.Numbered.{Numbered}

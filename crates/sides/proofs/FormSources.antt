@@ -17,7 +17,7 @@ use Rattle.terms.proofs.AcceptedTable.{Table, accepted-table, term-there}
 use Rattle.terms.proofs.Faults.{totals-small}
 use Rattle.terms.proofs.Sources.{value-sources}
 use Rattle.laws.proofs.CountUp.{count-up}
-use Rattle.terms.proofs.Values.{Sound}
+use Rattle.terms.specs.Sound.{Sound}
 use Rattle.forms.specs.declared.Piece.{Piece}
 use Rattle.forms.specs.Form.{fill, formOf, numbersOf}
 use Rattle.pieces.proofs.Buffer.{form-piece}

@@ -16,7 +16,8 @@ use Rattle.terms.specs.Faults.{breaks11, breaks12, breaks13, breaks14, breaks15
 use Rattle.laws.proofs.Numbers.{by-strong}
 use Rattle.terms.proofs.Widths.{width-row, width-early, width-same, widths-count}
 use Rattle.terms.proofs.Faults.{Kept, kept, unbroken, kept-names, concat-names, cut-keeps-13, cut-keeps-14, cut-keeps-15, cut-keeps-16, cut-keeps-18}
-use Rattle.terms.proofs.Values.{Sound, values-count, value-extract, value-same, width-extract}
+use Rattle.terms.proofs.Values.{values-count, value-extract, value-same, width-extract}
+use Rattle.terms.specs.Sound.{Sound}
 use Rattle.laws.proofs.CountUp.{count-up}
 use Rattle.answers.specs.Pairs.{equationPairs}
 use Rattle.answers.proofs.Equations.{pairs-same}

@@ -13,7 +13,8 @@ use Rattle.terms.specs.Table.{rowAt, noRow, widthOf, bitsOf, extract, valueOf}
 use Rattle.laws.proofs.Numbers.{by-strong}
 use Rattle.terms.proofs.ByRows.{rows-count, rows-early, rows-more, rows-at}
 use Rattle.terms.proofs.Faults.{Term, kept, kept-names, kept-bounds, extract-names}
-use Rattle.terms.proofs.Values.{Sound, value-extract, value-length, width-extract}
+use Rattle.terms.proofs.Values.{value-extract, value-length, width-extract}
+use Rattle.terms.specs.Sound.{Sound}
 use Rattle.terms.proofs.Words.{extract-extract}
 use Rattle.sides.specs.inner.Shortened.{shortRow, shortened}
 

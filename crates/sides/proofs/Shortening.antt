@@ -16,7 +16,7 @@ use Rattle.terms.specs.Table.{rowsOf, rowAt, widthOf, byRows}
 use Rattle.terms.specs.Faults.{firstFault}
 use Rattle.terms.proofs.AcceptedTable.{accepted-table}
 use Rattle.terms.proofs.Faults.{kept, kept-names, extract-names, widths-small}
-use Rattle.terms.proofs.Values.{Sound}
+use Rattle.terms.specs.Sound.{Sound}
 use Rattle.terms.proofs.Rows.{rows-length, row-columns}
 use Rattle.sides.specs.inner.Shortened.{shortRow, shortened, shortIn, storedRow, Shortens}
 use Rattle.sides.proofs.Shortened.{short-more, short-at, oneCut, row-cut, row-same-inner, row-same, CutOf, short-cut}

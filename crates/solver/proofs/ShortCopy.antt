@@ -12,7 +12,7 @@ use Rattle.terms.specs.Table.{rowsOf, bitsOf, widthsOf, widthOf, countKind}
 use Rattle.terms.specs.Faults.{firstFault}
 use Rattle.terms.specs.inner.Places.{lowSource}
 use Rattle.terms.proofs.AcceptedTable.{accepted-table}
-use Rattle.terms.proofs.Values.{Sound}
+use Rattle.terms.specs.Sound.{Sound}
 use Rattle.answers.specs.Pairs.{equationPairs}
 use Rattle.sides.specs.inner.Shortened.{shortened}
 use Rattle.sides.specs.inner.Sides.{Prepared}

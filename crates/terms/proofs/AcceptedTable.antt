@@ -16,7 +16,7 @@ use Rattle.terms.specs.Faults.{isAccepted, firstFault, absent}
 use Rattle.laws.proofs.Bools.{not-both}
 use Rattle.terms.proofs.Acceptance.{past-all, fault-exactly}
 use Rattle.terms.proofs.Faults.{term, Term, term-named}
-use Rattle.terms.proofs.Values.{Sound}
+use Rattle.terms.specs.Sound.{Sound}
 
 pub fault-none : (f : Fault) → isAccepted f ≡ true → f ≡ Accepted
 fault-none Accepted h = refl

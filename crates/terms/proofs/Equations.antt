@@ -9,23 +9,9 @@ use lib.ListN.{length}
 use Rattle.terms.specs.declared.Row.{Row}
 use Rattle.terms.specs.Table.{rowAt, widthOf, bitsOf, extract, valueOf}
 use Rattle.terms.proofs.Faults.{kept, kept-names, kept-bounds, concat-names, extract-names}
-use Rattle.terms.proofs.Values.{Sound, value-concat, value-extract, value-length, width-extract}
+use Rattle.terms.proofs.Values.{value-concat, value-extract, value-length, width-extract}
+use Rattle.terms.specs.Sound.{Sound, IsConcat, IsExtract}
 use Rattle.terms.proofs.Words.{extract-right, extract-left, extract-across, extract-whole, extract-join, extract-extract}
-
--- Row r of the table is the concatenation a ⊗ b.
-pub record IsConcat (t : List Row) (r a b : ℕ) : Type 0 where
-  pub in-table : r < length t
-  pub is-concat : rowAt t r .kind ≡ 2
-  pub left-is : rowAt t r .a ≡ a
-  pub right-is : rowAt t r .b ≡ b
-
--- Row r of the table is the extraction a ^ (high, low).
-pub record IsExtract (t : List Row) (r a high low : ℕ) : Type 0 where
-  pub in-table : r < length t
-  pub is-extract : rowAt t r .kind ≡ 3
-  pub word-is : rowAt t r .a ≡ a
-  pub high-is : rowAt t r .b ≡ high
-  pub low-is : rowAt t r .c ≡ low
 
 -- what row r as a ⊗ b says of values, and that its parts have their widths
 record Concat (t : List Row) (p : List ℕ) (r a b : ℕ) : Type 0 where

@@ -17,6 +17,7 @@ use Rattle.terms.proofs.RowKinds.{else-kind, KindOf, is-variable, is-co
 use Rattle.laws.proofs.Bools.{not-both, or-first, or-second}
 use Rattle.terms.proofs.Widths.{width-row}
 use Rattle.laws.proofs.Numbers.{below-or-at}
+use Rattle.terms.specs.Sound.{Passed}
 
 -- ---- rules read from the top
 
@@ -184,10 +185,6 @@ module _ (t : List Row) (r : ℕ) (k : Kept t r) where
   kept-sides l =
       eqb-true (widthOf t (rowAt t r .a)) (widthOf t (rowAt t r .b))
       (not-false (eqb (widthOf t (rowAt t r .a)) (widthOf t (rowAt t r .b))) (rw else-kind at (k .kept18)))
-
--- rows 0 to r - 1 break no rule
-abbrev pub Passed : List Row → ℕ → Type 0
-Passed t r = (i : ℕ) → i < r → isAccepted (faultAt t i) ≡ true
 
 -- a row that breaks no rule has a width of at most 1,024, where the rows before it have
 width-next : (t : List Row) (r : ℕ) → r < length t → Kept t r → ((i : ℕ) → i < r → widthOf t i ≤ 1024) → widthOf t r ≤ 1024

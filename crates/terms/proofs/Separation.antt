@@ -16,7 +16,8 @@ use Rattle.terms.proofs.RowKinds.{KindOf, is-variable, is-constant, is-
 use Rattle.laws.proofs.Numbers.{by-strong, lt-or-le, dec-eq}
 use Rattle.terms.proofs.Faults.{Kept, kept, kept-names, kept-bit, concat-names, extract-names}
 use Rattle.terms.proofs.Sources.{value-sources}
-use Rattle.terms.proofs.Values.{Sound, value-variable, value-constant, value-concat, value-extract, value-equation}
+use Rattle.terms.proofs.Values.{value-variable, value-constant, value-concat, value-extract, value-equation}
+use Rattle.terms.specs.Sound.{Sound}
 
 -- every number of a list is below a bound
 data AllBelow (n : ℕ) : List ℕ → Type 0 where

@@ -10,7 +10,8 @@ use Rattle.laws.specs.Lists.{countUp}
 use Rattle.terms.proofs.RowKinds.{KindOf, is-variable, is-constant, is-concat, is-extract, is-equation, kind-of}
 use Rattle.laws.proofs.Numbers.{by-strong}
 use Rattle.terms.proofs.Faults.{Kept, kept, kept-names, kept-bit, concat-names, extract-names}
-use Rattle.terms.proofs.Values.{Sound, value-length, value-variable, value-constant, value-concat, value-extract, value-equation}
+use Rattle.terms.proofs.Values.{value-length, value-variable, value-constant, value-concat, value-extract, value-equation}
+use Rattle.terms.specs.Sound.{Sound}
 use Rattle.laws.proofs.Lists.{map-append, map-take, map-drop, map-replicate, read-places}
 use Rattle.terms.proofs.Words.{extract-map}
 use Rattle.laws.proofs.CountUp.{count-up}

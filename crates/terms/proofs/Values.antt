@@ -12,7 +12,8 @@ use Rattle.terms.proofs.RowKinds.{bits-variable, else-kind, KindOf, is-
 use Rattle.laws.proofs.Numbers.{by-strong}
 use Rattle.terms.proofs.ByRows.{rows-count, rows-early, rows-at}
 use Rattle.terms.proofs.Widths.{width-row, width-early, bits-more}
-use Rattle.terms.proofs.Faults.{Kept, kept, Passed, kept-names, kept-bounds, concat-names, extract-names}
+use Rattle.terms.proofs.Faults.{Kept, kept, kept-names, kept-bounds, concat-names, extract-names}
+use Rattle.terms.specs.Sound.{Sound}
 use Rattle.terms.proofs.Words.{extract-length}
 
 pub values-count : (t : List Row) (p : List ℕ) → length (valuesOf t p) ≡ length t
@@ -115,10 +116,6 @@ value-same s t p r l h m k f n before = go (kind-of (rowAt t r .kind))
         ∙ ap (λ (w : List ℕ). extract w (row .b) (row .c)) (before (row .a) (named .earlier))
         ∙ sym (value-extract t p r h k e)
     go (is-equation e) = value-equation s p r l (rw f e) ∙ sym (value-equation t p r h e)
-
--- each row of an accepted table breaks no rule
-abbrev pub Sound : List Row → Type 0
-Sound t = Passed t (length t)
 
 -- the value of a row of an accepted table is as long as the row is wide
 pub value-length : (t : List Row) (p : List ℕ) → Sound t → length p ≡ bitsOf t → (r : ℕ) → r < length t → length (valueOf t p r) ≡ widthOf t r

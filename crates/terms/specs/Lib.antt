@@ -4,4 +4,5 @@ pub mod Assignments
 pub mod Calls
 pub mod Value
 pub mod Acceptance
+pub mod Sound
 pub mod inner
