@@ -17,16 +17,16 @@ use Rattle.terms.specs.Faults.{firstFault}
 use Rattle.terms.specs.Table.{rowsOf, bitsOf, satisfies}
 use Rattle.terms.proofs.Assignments.{assignment-length}
 use Rattle.laws.proofs.Buffers.{overwrite-fits}
-use Rattle.laws.specs.Lists.{allBits}
+use Rattle.laws.specs.Buffers.{overwrite}
+use Rattle.laws.specs.Lists.{allBits, distinct}
 use Rattle.answers.specs.declared.AnswerRow.{AnswerRow}
-use Rattle.answers.specs.Answer.{variableWidths, begins, answerNumbers, freeBits, instantiate}
+use Rattle.answers.specs.Answer.{variableWidths, begins, answerNumbers, answerRowsOf, freshNumbers, freshPieces, freshStart, freeBits, bitsOfRows, instantiate}
 use Rattle.answers.specs.Solve.{unsatisfiable, pairsTogether, solvedRows, answerRecord}
 use Rattle.answers.specs.Pairs.{equationPairs}
 use Rattle.answers.proofs.Variables.{widths-sum, begins-first, begins-behind}
 use Rattle.answers.proofs.Tables.{tableClasses, represent, apart-one, solved-rows}
 use Rattle.answers.proofs.Demands.{demand-2, demand-3}
 use Rattle.answers.proofs.OurSystem.{some-left}
-use Rattle.answers.specs.Answer.{answerRowsOf}
 use Rattle.assignments.specs.Form.{patternBits, rowsFine, hasForm}
 use Rattle.assignments.specs.Call.{wrongFresh, patternRecord, patternAfter}
 use Rattle.assignments.proofs.Places.{table-sized, table-variables, table-bits}
@@ -136,3 +136,12 @@ module _ (table : List ℕ) (accepted : firstFault table ≡ Accepted) (solved :
               no-other = λ f old c room e. F .only f (subst (λ (n : ℕ). Assignment n f) free-is c) (sym (pattern-is f old c room) ∙ e);
             };
       }
+
+-- An empty table with no fresh bytes gives an empty pattern, whatever the buffer, and leaves the buffer as it was.
+empty-returned : (room : ℕ) → patternRecord [] [] room ≡ completed 0 0
+unfolding patternRecord stopAt hasForm rowsFine answerRowsOf wrongFresh allBits freeBits freshPieces freshNumbers freshStart distinct patternBits
+empty-returned room = rw (le-ltb room 0 (omega arith)) refl
+
+pub empty-pattern : (old : List ℕ) → (patternRecord [] [] (length old) ≡ completed 0 0) × (patternAfter [] [] old ≡ old)
+unfolding patternAfter
+empty-pattern old = (empty-returned (length old), rw (empty-returned (length old)) (unfold answerRowsOf instantiate bitsOfRows overwrite in refl))
