@@ -3,6 +3,7 @@ pub mod ByClasses
 pub mod WorkedOut
 pub mod OneWord
 pub mod AnyWidth
+pub mod WidthBounds
 pub mod Worked
 pub mod SheetsSolved
 pub mod Program
