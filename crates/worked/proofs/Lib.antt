@@ -4,6 +4,7 @@ pub mod WorkedOut
 pub mod OneWord
 pub mod AnyWidth
 pub mod WidthBounds
+pub mod NoneLeft
 pub mod Worked
 pub mod SheetsSolved
 pub mod Program

@@ -29,7 +29,7 @@ abbrev rowOf : ℕ → ℕ → ℕ → AnswerRow
 rowOf kind width fresh = record { variable = 0; kind = kind; width = width; fresh = fresh }
 
 -- what fails at one number
-below-fails : (n : ℕ) (f : ℕ → Bool) (i : ℕ) → i < n → f i ≡ false → below n f ≡ false
+pub below-fails : (n : ℕ) (f : ℕ → Bool) (i : ℕ) → i < n → f i ≡ false → below n f ≡ false
 below-fails n f i l e = go (below n f) refl
   where
     go : (b : Bool) → below n f ≡ b → b ≡ false
@@ -146,7 +146,7 @@ piece-numbers zero = refl
 piece-numbers (suc n) = ap (λ (l : List ℕ). row 0 2 1 0 ++ l) (piece-numbers n)
 
 -- bits that are equal in every pattern that passes a test; bits that differ in one
-equal-in : (n : ℕ) (test : List ℕ → Bool) (s u : ℕ)
+pub equal-in : (n : ℕ) (test : List ℕ → Bool) (s u : ℕ)
     → ((p : List ℕ) → Assignment n p → test p ≡ true → bitOf p s ≡ bitOf p u) → equalUnder n test s u ≡ true
 unfolding equalUnder
 equal-in n test s u h = every-of n (λ p. not (test p) || eqb (bitOf p s) (bitOf p u)) (λ p a. go p a (test p) refl)
@@ -155,20 +155,20 @@ equal-in n test s u h = every-of n (λ p. not (test p) || eqb (bitOf p s) (bitOf
     go p a false e = refl
     go p a true e = eq-eqb (bitOf p s) (bitOf p u) (h p a e)
 
-unequal-at : (n : ℕ) (test : List ℕ → Bool) (s u : ℕ) (p : List ℕ)
+pub unequal-at : (n : ℕ) (test : List ℕ → Bool) (s u : ℕ) (p : List ℕ)
     → Assignment n p → test p ≡ true → bitOf p s ≢ bitOf p u → equalUnder n test s u ≡ false
 unfolding equalUnder
 unequal-at n test s u p a e d =
     every-fails n (λ p. not (test p) || eqb (bitOf p s) (bitOf p u)) p a (rw (e, ne-eqb (bitOf p s) (bitOf p u) d) refl)
 
 -- the pattern whose bits are all b, and each of its bits
-alike : (n b : ℕ) → b ≤ 1 → Assignment n (replicate n b)
+pub alike : (n b : ℕ) → b ≤ 1 → Assignment n (replicate n b)
 alike n b h = assignment-of n (replicate n b) (length-replicate n b) (λ i l. rw (getD-replicate n i b 0 l) h)
 
 pub all-alike : (n b i : ℕ) → i < n → getD (replicate n b) i 0 ≡ b
 all-alike n b i l = getD-replicate n i b 0 l
 
-false-of : (b : Bool) → (b ≡ true → ⊥) → b ≡ false
+pub false-of : (b : Bool) → (b ≡ true → ⊥) → b ≡ false
 false-of false h = refl
 false-of true h = absurd (h refl)
 
