@@ -5,6 +5,10 @@ pub mod OneWord
 pub mod AnyWidth
 pub mod WidthBounds
 pub mod NoneLeft
+pub mod Labels
+pub mod Overlaps
+pub mod OverlapRows
+pub mod OverlapCases
 pub mod Worked
 pub mod SheetsSolved
 pub mod Program

@@ -24,9 +24,14 @@ use Rattle.answers.proofs.Variables.{begins-first}
 use Rattle.worked.specs.Cases.{Solved, Holds, row, times, figures}
 use Rattle.worked.proofs.Holding.{every-fails, met-by-some, solved-case}
 
--- a row of variable 0
-abbrev rowOf : ℕ → ℕ → ℕ → AnswerRow
+-- a row of variable 0, and one that is put behind others
+abbrev pub rowOf : ℕ → ℕ → ℕ → AnswerRow
 rowOf kind width fresh = record { variable = 0; kind = kind; width = width; fresh = fresh }
+
+pub begun : (r : AnswerRow) (rows : List AnswerRow) → placed false r rows ≡ r ∷ rows
+unfolding placed
+begun r [] = refl
+begun r (s ∷ rows) = refl
 
 -- what fails at one number
 pub below-fails : (n : ℕ) (f : ℕ → Bool) (i : ℕ) → i < n → f i ≡ false → below n f ≡ false
@@ -38,11 +43,11 @@ below-fails n f i l e = go (below n f) refl
 
 -- The answer's rows of one variable, from which bits are equal.
 module _ (w : ℕ) (same : ℕ → ℕ → Bool) where
-  inside : (i : ℕ) → suc i < w → begins (w ∷ []) (suc i) ≡ false
+  pub inside : (i : ℕ) → suc i < w → begins (w ∷ []) (suc i) ≡ false
   unfolding begins
   inside i h = rw (lt-ltb (suc i) w h) (ne-eqb (suc i) 0 (λ e. omega arith))
 
-  variable-0 : (i : ℕ) → i < w → variableAt (w ∷ []) i ≡ 0
+  pub variable-0 : (i : ℕ) → i < w → variableAt (w ∷ []) i ≡ 0
   unfolding variableAt
   variable-0 i h = rw (lt-ltb i w h)
 
@@ -105,11 +110,7 @@ module _ (w : ℕ) (same : ℕ → ℕ → Bool) where
     tied-to : (i : ℕ) → i ≤ w → rowsTo w (w ∷ []) same i ≡ replicate i (rowOf 2 1 0)
     unfolding rowsTo
     tied-to zero h = refl
-    tied-to (suc i) h = rw (tied-on i h, tied-row i h, tied-to i (omega arith)) (in-front (replicate i (rowOf 2 1 0)))
-      where
-        in-front : (rows : List AnswerRow) → placed false (rowOf 2 1 0) rows ≡ rowOf 2 1 0 ∷ rows
-        in-front [] = unfold placed in refl
-        in-front (r ∷ rows) = unfold placed in refl
+    tied-to (suc i) h = rw (tied-on i h, tied-row i h, tied-to i (omega arith)) (begun (rowOf 2 1 0) (replicate i (rowOf 2 1 0)))
 
     one-piece : answerRows w (w ∷ []) same ≡ replicate w (rowOf 2 1 0)
     unfolding answerRows
@@ -175,12 +176,12 @@ false-of true h = absurd (h refl)
 -- A table with one variable.
 module _ (table : List ℕ) (w : ℕ) (least : 1 ≤ w) (accepted : firstFault table ≡ Accepted)
     (bits : bitsOf (rowsOf table) ≡ w) (widths : variableWidths (rowsOf table) ≡ w ∷ []) where
-  rows-are : solvedRows (rowsOf table) ≡ answerRows w (w ∷ []) (equalUnder w (satisfies (rowsOf table)))
+  pub rows-are : solvedRows (rowsOf table) ≡ answerRows w (w ∷ []) (equalUnder w (satisfies (rowsOf table)))
   unfolding solvedRows
   rows-are = rw (bits, widths) refl
 
   -- its record, from its answer's rows and from two patterns of which one meets it
-  record-is : (rows : List AnswerRow) → solvedRows (rowsOf table) ≡ rows → (p q : List ℕ) → Assignment w p → Assignment w q
+  pub record-is : (rows : List AnswerRow) → solvedRows (rowsOf table) ≡ rows → (p q : List ℕ) → Assignment w p → Assignment w q
       → satisfies (rowsOf table) p ≡ true → satisfies (rowsOf table) q ≡ false
       → answerRecord (rowsOf table) ≡ figures 2 (length rows) (freshPieces rows) (freeBits rows) (w - freeBits rows) 0
   record-is rows e p q a b met other =
