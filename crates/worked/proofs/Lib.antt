@@ -9,6 +9,7 @@ pub mod Labels
 pub mod Overlaps
 pub mod OverlapRows
 pub mod OverlapCases
+pub mod EveryWidth
 pub mod Worked
 pub mod SheetsSolved
 pub mod Program

@@ -1,14 +1,15 @@
 -- Case 5 at every width of 1 to 1,024: words u = v, v = 0, u = 1 of w bits. The ties of the first two equations are those of the table
 -- without the third, which fixes every bit. Assumes nothing.
-use mathlib.Core.Path.{_≡_, refl, sym, _∙_, ap, subst}
-use mathlib.Core.Bool.{Bool, true, false, not, _&&_, cond, and-true}
-use mathlib.Core.List.{List, [], _∷_, _++_, reverse, reverseAux}
+use mathlib.Core.Path.{_≡_, refl, sym, _∙_, ap}
+use mathlib.Core.Bool.{Bool, true, false, not, _&&_, cond}
+use mathlib.Core.List.{List, [], _∷_, _++_, reverseAux}
 use mathlib.Core.Logic.{_⊎_, inl, inr}
 use Prim.Native.Nat.{ℕ, zero, suc, _+_, _-_, _*_, _≤_, _<_}
 use native.Mathlib.Omega.{arith}
 use lib.ListN.{length, getD, take, drop, replicate, length-replicate, replicate-append-replicate}
 use lib.Seq.{take-all, take-at, drop-at, getD-take, getD-drop}
 use borrow.Author.Tests.{le-ltb, eq-eqb, ne-eqb}
+use Rattle.terms.specs.declared.Row.{Row}
 use Rattle.terms.specs.declared.Fault.the-variants.{Accepted}
 use Rattle.terms.specs.Assignments.{Assignment, every}
 use Rattle.terms.specs.Faults.{firstFault}
@@ -16,17 +17,18 @@ use Rattle.terms.specs.Table.{rowsOf, bitsOf, bitOf, sourcesOf, sameWord, satis
 use Rattle.terms.proofs.Assignments.{every-of}
 use Rattle.terms.proofs.Computed.{faultComputed, satisfiesComputed}
 use Rattle.terms.proofs.Satisfies.{same-word, word-same}
-use Rattle.laws.specs.Lists.{least, distinct}
+use Rattle.laws.specs.Lists.{distinct}
 use Rattle.laws.proofs.Bools.{and-parts}
 use Rattle.laws.proofs.Least.{least-is}
 use Rattle.laws.proofs.Numbers.{lt-or-le}
 use Rattle.answers.specs.declared.AnswerRow.{AnswerRow}
 use Rattle.answers.specs.Answer.{equalUnder, variableWidths, answerRows, fixedTo, goesOn, placeRow, placed, rowsTo, isFresh, freshNumbers, freshPieces, freshStart, freeBits}
 use Rattle.answers.specs.Pairs.{pairsOf, pairsIn}
-use Rattle.answers.specs.Solve.{valid, unsatisfiable, unsatRow, satisfiesTo, tiesTo, pairsTogether, solvedRows, neverRecord, answerRecord}
+use Rattle.answers.specs.Solve.{unsatisfiable, unsatRow, satisfiesTo, tiesTo, pairsTogether, solvedRows, neverRecord, answerRecord}
 use Rattle.answers.proofs.Demands.{solved-sum}
 use Rattle.answers.proofs.Tables.{not-valid}
-use Rattle.worked.specs.Cases.{Solved, Holds, row, figures}
+use Rattle.worked.specs.Cases.{Holds, row, figures}
+use Rattle.worked.specs.EveryWidth.{case5}
 use Rattle.worked.proofs.Holding.{every-fails, solved-case}
 use Rattle.worked.proofs.OneWord.{equal-in, alike, all-alike, false-of}
 
@@ -56,20 +58,26 @@ module _ (n : ℕ) (ws : List ℕ) (same : ℕ → ℕ → Bool) (zeros : (i : �
   none-to (suc i) l =
       one-more (goesOn n ws same i) (placeRow n ws same i) (rowsTo n ws same i) (rw (zeros i (omega arith)) refl) (none-to i (omega arith))
 
-  pub none-free : freeBits (answerRows n ws same) ≡ 0
+  none-free : freeBits (answerRows n ws same) ≡ 0
   unfolding answerRows freeBits freshPieces freshStart distinct freshNumbers
   none-free =
       let none : freshNumbers (answerRows n ws same) ≡ [] = fresh-turned (rowsTo n ws same n) [] ∙ rw (none-to n (omega arith)) refl in
       rw none refl
 
 -- u, v and the fills in rows 0 to 3, then u = v and v = 0; and u = 1 after them.
-abbrev pub twoEquations : ℕ → List ℕ
+abbrev twoEquations : ℕ → List ℕ
 twoEquations w = row 0 w 0 0 ++ row 0 w 0 0 ++ row 1 0 w 0 ++ row 1 1 w 0 ++ row 4 0 1 0 ++ row 4 1 2 0
 
-abbrev pub threeEquations : ℕ → List ℕ
+abbrev threeEquations : ℕ → List ℕ
 threeEquations w = row 0 w 0 0 ++ row 0 w 0 0 ++ row 1 0 w 0 ++ row 1 1 w 0 ++ row 4 0 1 0 ++ row 4 1 2 0 ++ row 4 0 3 0
 
 module _ (w : ℕ) (one : 1 ≤ w) (most : w ≤ 1024) where
+  abbrev first-two : List Row
+  first-two = rowsOf (twoEquations w)
+
+  abbrev all-three : List Row
+  all-three = rowsOf (threeEquations w)
+
   two-accepted : firstFault (twoEquations w) ≡ Accepted
   unfolding faultComputed
   two-accepted =
@@ -92,7 +100,8 @@ module _ (w : ℕ) (one : 1 ≤ w) (most : w ≤ 1024) where
         eq-eqb w w refl,
       )
 
-  ties-are : tiesTo (rowsOf (threeEquations w)) 6 ≡ tiesTo (rowsOf (twoEquations w)) 6
+  -- the ties of the equations before the third, in both
+  ties-are : tiesTo all-three 6 ≡ tiesTo first-two 6
   unfolding tiesTo pairsIn pairsOf pairsTogether sourcesOf satisfiesComputed
   ties-are = refl
 
@@ -125,8 +134,8 @@ module _ (w : ℕ) (one : 1 ≤ w) (most : w ≤ 1024) where
   v-zeros : v zeros ≡ zero-word
   v-zeros = ap (take w) (drop-at zero-word zero-word (w + 0) (omega (arith, size))) ∙ take-all w zero-word (omega (arith, size))
 
-  -- The pattern of zeros meets the first two equations, and each row up to them;
-  met-to : (r : ℕ) → r < 6 → satisfiesTo (rowsOf (threeEquations w)) r zeros ≡ true
+  -- The pattern of zeros meets each row before the third equation,
+  met-to : (r : ℕ) → r < 6 → satisfiesTo all-three r zeros ≡ true
   unfolding satisfiesTo satisfiesComputed
   met-to zero l = refl
   met-to (suc zero) l = refl
@@ -136,11 +145,11 @@ module _ (w : ℕ) (one : 1 ≤ w) (most : w ≤ 1024) where
   met-to (suc (suc (suc (suc (suc zero))))) l = rw (u-zeros, v-zeros, word-same zero-word)
   met-to (suc (suc (suc (suc (suc (suc r)))))) l = absurd (omega arith)
 
-  met-2 : satisfies (rowsOf (twoEquations w)) zeros ≡ true
+  met-two : satisfies first-two zeros ≡ true
   unfolding satisfiesComputed
-  met-2 = rw (u-zeros, v-zeros, word-same zero-word)
+  met-two = rw (u-zeros, v-zeros, word-same zero-word)
 
-  -- only it does
+  -- and no other meets the first two,
   both-zero : (p : List ℕ) (more : Bool) → sameWord (u p) (v p) && (sameWord (v p) zero-word && more) ≡ true
       → (u p ≡ zero-word) × (v p ≡ zero-word) × (more ≡ true)
   both-zero p more e =
@@ -149,7 +158,7 @@ module _ (w : ℕ) (one : 1 ≤ w) (most : w ≤ 1024) where
       let second = same-word (v p) zero-word (k .0) in
       (same-word (u p) (v p) (h .0) ∙ second, second, k .1)
 
-  only : (p : List ℕ) → satisfies (rowsOf (twoEquations w)) p ≡ true → (i : ℕ) → i < w + (w + 0) → getD p i 0 ≡ 0
+  only : (p : List ℕ) → satisfies first-two p ≡ true → (i : ℕ) → i < w + (w + 0) → getD p i 0 ≡ 0
   unfolding satisfiesComputed
   only p e i l = go (lt-or-le i w)
     where
@@ -164,53 +173,49 @@ module _ (w : ℕ) (one : 1 ≤ w) (most : w ≤ 1024) where
           ∙ ap (λ (word : List ℕ). getD word (i - w) 0) (both-zero p true e .1)
           ∙ all-alike w 0 (i - w) (omega arith)
 
-  -- so that they leave no bit free
-  none-left : freeBits (solvedRows (rowsOf (twoEquations w))) ≡ 0
+  -- so that these leave no bit free and every bit is a tie.
+  none-left : freeBits (solvedRows first-two) ≡ 0
   unfolding solvedRows satisfiesComputed bitOf
   none-left =
-      none-free (w + (w + 0)) (variableWidths (rowsOf (twoEquations w))) (equalUnder (w + (w + 0)) (satisfies (rowsOf (twoEquations w))))
-      (λ i l. equal-in (w + (w + 0)) (satisfies (rowsOf (twoEquations w))) (suc (suc i)) 0 (λ p a e. only p e i l))
+      none-free (w + (w + 0)) (variableWidths first-two) (equalUnder (w + (w + 0)) (satisfies first-two))
+      (λ i l. equal-in (w + (w + 0)) (satisfies first-two) (suc (suc i)) 0 (λ p a e. only p e i l))
 
-  some : unsatisfiable (rowsOf (twoEquations w)) ≡ false
+  some : unsatisfiable first-two ≡ false
   unfolding unsatisfiable satisfiesComputed
-  some = every-fails (w + (w + 0)) (λ p. not (satisfies (rowsOf (twoEquations w)) p)) zeros zeros-bits (ap not met-2)
+  some = every-fails (w + (w + 0)) (λ p. not (satisfies first-two p)) zeros zeros-bits (ap not met-two)
 
-  ties-2 : tiesTo (rowsOf (twoEquations w)) 6 ≡ w + (w + 0)
+  ties-two : tiesTo first-two 6 ≡ w + (w + 0)
   unfolding satisfiesComputed
-  ties-2 = omega (arith, none-left, solved-sum (twoEquations w) two-accepted some)
+  ties-two = omega (arith, none-left, solved-sum (twoEquations w) two-accepted some)
 
   -- No pattern meets all three.
-  none-meets : (p : List ℕ) → satisfies (rowsOf (threeEquations w)) p ≡ false
+  none-meets : (p : List ℕ) → satisfies all-three p ≡ false
   unfolding satisfiesComputed
   none-meets p =
-      false-of (satisfies (rowsOf (threeEquations w)) p)
+      false-of (satisfies all-three p)
       (λ e.
       let h = both-zero p (sameWord (u p) (replicate w 1) && true) e in
       let ones = same-word (u p) (replicate w 1) (and-parts (sameWord (u p) (replicate w 1)) true (h .2) .0) in
       omega (arith, ap (λ (word : List ℕ). getD word 0 0) (sym (h .0) ∙ ones), all-alike w 0 0 one, all-alike w 1 0 one))
 
-  never : unsatisfiable (rowsOf (threeEquations w)) ≡ true
+  never : unsatisfiable all-three ≡ true
   unfolding unsatisfiable
   never =
-      every-of (bitsOf (rowsOf (threeEquations w))) (λ p. not (satisfies (rowsOf (threeEquations w)) p)) (λ p a. ap not (none-meets p))
+      every-of (bitsOf all-three) (λ p. not (satisfies all-three p)) (λ p a. ap not (none-meets p))
 
-  row-6 : unsatRow (rowsOf (threeEquations w)) ≡ 6
+  row-6 : unsatRow all-three ≡ 6
   unfolding unsatRow satisfiesComputed
   row-6 =
-      least-is (λ r. every (w + (w + 0)) (λ p. not (satisfiesTo (rowsOf (threeEquations w)) r p))) 7 0 6 (omega arith) (omega arith)
+      least-is (λ r. every (w + (w + 0)) (λ p. not (satisfiesTo all-three r p))) 7 0 6 (omega arith) (omega arith)
       (unfold unsatisfiable satisfiesTo in never)
-      (λ r l. every-fails (w + (w + 0)) (λ p. not (satisfiesTo (rowsOf (threeEquations w)) r p)) zeros zeros-bits (ap not (met-to r l)))
+      (λ r l. every-fails (w + (w + 0)) (λ p. not (satisfiesTo all-three r p)) zeros zeros-bits (ap not (met-to r l)))
 
-  record-is : answerRecord (rowsOf (threeEquations w)) ≡ neverRecord (2 * w) 6
+  record-is : answerRecord all-three ≡ neverRecord (2 * w) 6
   unfolding answerRecord
   record-is =
-      let all : tiesTo (rowsOf (threeEquations w)) 6 ≡ 2 * w = omega (arith, ties-are, ties-2) in
+      let all : tiesTo all-three 6 ≡ 2 * w = omega (arith, ties-are, ties-two) in
       rw (not-valid (threeEquations w) three-accepted never, never, row-6, all) refl
 
-  -- Case 5: words of w bits.
-  pub none-left-any : Holds (Solved (threeEquations w) (figures 1 0 0 0 (2 * w) 6) [] 0)
+  -- Case 5.
+  pub none-left-any : Holds (case5 w)
   none-left-any = solved-case (threeEquations w) (figures 1 0 0 0 (2 * w) 6) three-accepted record-is [] refl
-
--- Document 01's case 5 is that of one-bit words.
-pub case-5 : Holds (Solved (threeEquations 1) (figures 1 0 0 0 2 6) [] 0)
-case-5 = none-left-any 1 (omega arith) (omega arith)

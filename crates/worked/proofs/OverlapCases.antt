@@ -1,12 +1,13 @@
 -- Case 1 at every width 2 m + 2 and case 2 at every width 2 m + 1, m from 2 on and the width at most 1,024: a variable with two cuts that
 -- overlap, equal to each other. Assumes nothing.
-use mathlib.Core.Path.{_≡_, refl, sym, _∙_, ap}
+use mathlib.Core.Path.{_≡_, refl, _∙_, ap}
 use mathlib.Core.Bool.{Bool, true, false}
 use mathlib.Core.List.{List, [], _∷_, _++_}
 use Prim.Native.Nat.{ℕ, zero, suc, _+_, _-_, _*_, _≤_, _<_}
 use native.Mathlib.Omega.{arith}
 use lib.Dec.{eqb}
 use lib.ListN.{length, getD}
+use Rattle.terms.specs.declared.Row.{Row}
 use Rattle.terms.specs.declared.Fault.the-variants.{Accepted}
 use Rattle.terms.specs.Assignments.{Assignment}
 use Rattle.terms.specs.Faults.{firstFault}
@@ -20,6 +21,7 @@ use Rattle.answers.specs.declared.AnswerRow.{AnswerRow}
 use Rattle.answers.specs.Answer.{equalUnder, variableWidths, answerRows, answerNumbers, freshNumbers, freshPieces, freshWidth, freshStart, freeBits, tied, fixedTo}
 use Rattle.answers.specs.Solve.{solvedRows}
 use Rattle.worked.specs.Cases.{Solved, Holds, row, times, figures}
+use Rattle.worked.specs.EveryWidth.{case1, case2}
 use Rattle.worked.proofs.Holding.{solved-case}
 use Rattle.worked.proofs.OneWord.{rowOf, rows-are, record-is, false-of}
 use Rattle.worked.proofs.Labels.{labelled, mark, labelled-bits, label-ties, label-open-0, label-open-1}
@@ -103,36 +105,37 @@ odd-free zero l = absurd (omega arith)
 odd-free (suc k) l = rw (odd-fresh (suc k) l, odd-last k) refl
 
 module _ (w : ℕ) (five : 5 ≤ w) (most : w ≤ 1024) where
-  abbrev table : List ℕ
-  table = overlapped w
+  abbrev t : List Row
+  t = rowsOf (overlapped w)
 
   abbrev same : ℕ → ℕ → Bool
-  same = equalUnder w (satisfies (rowsOf (overlapped w)))
+  same = equalUnder w (satisfies t)
 
-  bits-are : bitsOf (rowsOf (overlapped w)) ≡ w
+  bits-are : bitsOf t ≡ w
   unfolding satisfiesComputed
   bits-are = omega arith
 
-  widths-are : variableWidths (rowsOf (overlapped w)) ≡ w ∷ []
+  widths-are : variableWidths t ≡ w ∷ []
   unfolding satisfiesComputed variableWidths
   widths-are = refl
 
-  only : (p : List ℕ) → Assignment w p → satisfies (rowsOf (overlapped w)) p ≡ true
+  -- which patterns meet the table,
+  only : (p : List ℕ) → Assignment w p → satisfies t p ≡ true
       → (i j : ℕ) → i < w → j < w → label w i ≡ label w j → getD p i 0 ≡ getD p j 0
   only p a e = label-alike w five p (assignment-length a) e
 
-  met : (f : ℕ → ℕ) → ((c : ℕ) → f c ≤ 1) → satisfies (rowsOf (overlapped w)) (labelled w (label w) f) ≡ true
+  met : (f : ℕ → ℕ) → ((c : ℕ) → f c ≤ 1) → satisfies t (labelled w (label w) f) ≡ true
   met f h = label-meets w five f
 
-  -- so that the rows are those that the labels give
+  -- so that its places are tied by their labels, which gives its rows
   ties-are : (i j : ℕ) → i < w → j < w → tied same i j ≡ eqb (label w i) (label w j)
-  ties-are = label-ties w (label w) (satisfies (rowsOf (overlapped w))) only met
+  ties-are = label-ties w (label w) (satisfies t) only met
 
   open-0 : (i : ℕ) → i < w → fixedTo same i 0 ≡ false
-  open-0 = label-open-0 w (label w) (satisfies (rowsOf (overlapped w))) only met
+  open-0 = label-open-0 w (label w) (satisfies t) only met
 
   open-1 : (i : ℕ) → i < w → fixedTo same i 1 ≡ false
-  open-1 = label-open-1 w (label w) (satisfies (rowsOf (overlapped w))) only met
+  open-1 = label-open-1 w (label w) (satisfies t) only met
 
   even-are : (m : ℕ) → w ≡ 2 * m + 2 → answerRows w (w ∷ []) same ≡ evenRows m
   even-are m e = even-rows w five same ties-are open-0 open-1 m e
@@ -147,10 +150,10 @@ module _ (w : ℕ) (five : 5 ≤ w) (most : w ≤ 1024) where
   differs-bits : Assignment w differs
   differs-bits = labelled-bits w (λ i. i) (mark 1) (λ l. one-most (eqb l 1))
 
-  not-met : satisfies (rowsOf (overlapped w)) differs ≡ false
+  not-met : satisfies t differs ≡ false
   not-met =
       let alike : label w 1 ≡ label w 3 = omega (arith, label-odd w five 1 refl (omega arith), label-odd w five 3 refl (omega arith)) in
-      false-of (satisfies (rowsOf (overlapped w)) differs)
+      false-of (satisfies t differs)
       (λ e.
       omega (
         arith,
@@ -176,46 +179,23 @@ module _ (w : ℕ) (five : 5 ≤ w) (most : w ≤ 1024) where
       accepted : firstFault (overlapped w) ≡ Accepted
       accepted = overlapped-accepted w five most
 
-      rows-is : solvedRows (rowsOf (overlapped w)) ≡ rows
+      rows-is : solvedRows t ≡ rows
       rows-is = rows-are (overlapped w) w (omega arith) accepted bits-are widths-are ∙ e
 
--- Case 1, of width 2 m + 2.
-pub even-any : (m : ℕ) → 2 ≤ m → 2 * m + 2 ≤ 1024
-    → Holds (Solved
-    (row 0 (2 * m + 2) 0 0 ++ row 3 0 (2 * m) 3 ++ row 3 0 (2 * m - 2) 1 ++ row 4 1 2 0)
-    (figures 2 (m + 2) 3 4 (2 * m - 2) 0)
-    (row 0 2 1 0 ++ times m (row 0 2 2 1) ++ row 0 2 1 2)
-    16)
+-- Case 1.
+pub even-any : (m : ℕ) → 2 ≤ m → 2 * m + 2 ≤ 1024 → Holds (case1 m)
+unfolding answerNumbers
 even-any m l most =
     holds (2 * m + 2) (omega arith) most (evenRows m) (even-are (2 * m + 2) (omega arith) most m refl) (even-free m (omega arith))
     (2 * m) (2 * m - 2) (m + 2) 3 (row 0 2 1 0 ++ times m (row 0 2 2 1) ++ row 0 2 1 2)
     (omega arith) (omega arith) (omega (arith, even-length m)) (even-fresh m (omega arith))
-    (unfold answerNumbers in (ap (λ (l : List ℕ). row 0 2 1 0 ++ l) (even-numbers m)))
+    (ap (λ (l : List ℕ). row 0 2 1 0 ++ l) (even-numbers m))
 
--- Case 2, of width 2 m + 1.
-pub odd-any : (m : ℕ) → 2 ≤ m → 2 * m + 1 ≤ 1024
-    → Holds (Solved
-    (row 0 (2 * m + 1) 0 0 ++ row 3 0 (2 * m - 1) 3 ++ row 3 0 (2 * m - 3) 1 ++ row 4 1 2 0)
-    (figures 2 (2 * m + 1) 4 4 (2 * m - 3) 0)
-    (row 0 2 1 0 ++ times (m - 1) (row 0 2 1 1 ++ row 0 2 1 2) ++ row 0 2 1 1 ++ row 0 2 1 3)
-    16)
+-- Case 2.
+pub odd-any : (m : ℕ) → 2 ≤ m → 2 * m + 1 ≤ 1024 → Holds (case2 m)
+unfolding answerNumbers
 odd-any m l most =
     holds (2 * m + 1) (omega arith) most (oddRows (m - 1)) (odd-are (2 * m + 1) (omega arith) most (m - 1) (omega arith)) (odd-free (m - 1) (omega arith))
     (2 * m - 1) (2 * m - 3) (2 * m + 1) 4 (row 0 2 1 0 ++ times (m - 1) (row 0 2 1 1 ++ row 0 2 1 2) ++ row 0 2 1 1 ++ row 0 2 1 3)
     (omega arith) (omega arith) (omega (arith, odd-length (m - 1))) (odd-fresh (m - 1) (omega arith))
-    (unfold answerNumbers in (ap (λ (l : List ℕ). row 0 2 1 0 ++ l) (odd-numbers (m - 1))))
-
--- Document 01's case 1 is that of m = 3, and its case 2 that of m = 4.
-pub case-1 : Holds (Solved
-    (row 0 8 0 0 ++ row 3 0 6 3 ++ row 3 0 4 1 ++ row 4 1 2 0)
-    (figures 2 5 3 4 4 0)
-    (row 0 2 1 0 ++ row 0 2 2 1 ++ row 0 2 2 1 ++ row 0 2 2 1 ++ row 0 2 1 2)
-    16)
-case-1 = even-any 3 (omega arith) (omega arith)
-
-pub case-2 : Holds (Solved
-    (row 0 9 0 0 ++ row 3 0 7 3 ++ row 3 0 5 1 ++ row 4 1 2 0)
-    (figures 2 9 4 4 5 0)
-    (row 0 2 1 0 ++ row 0 2 1 1 ++ row 0 2 1 2 ++ row 0 2 1 1 ++ row 0 2 1 2 ++ row 0 2 1 1 ++ row 0 2 1 2 ++ row 0 2 1 1 ++ row 0 2 1 3)
-    16)
-case-2 = odd-any 4 (omega arith) (omega arith)
+    (ap (λ (l : List ℕ). row 0 2 1 0 ++ l) (odd-numbers (m - 1)))

@@ -1,21 +1,19 @@
 -- A variable of w bits with bits w - 2 to 3 equal to bits w - 4 to 1, so that between its first and its last bit each is equal to the next
--- but one: which of its places are tied, and which neighbours lie in one fresh piece. Cases 1 and 2 are such tables, of an even and of an
--- odd width. Assumes nothing.
+-- but one: case 1 where w is even, case 2 where it is odd. Its places get labels, and the patterns that meet the table are those whose
+-- bits are equal wherever their places have one label. Assumes nothing.
 use mathlib.Core.Path.{_≡_, refl, sym, _∙_, ap}
-use mathlib.Core.Bool.{Bool, true, false, not, _&&_, cond, and-true, and-false}
-use mathlib.Core.List.{List, [], _∷_, _++_}
+use mathlib.Core.Bool.{true, cond, and-true}
+use mathlib.Core.List.{List, _++_}
 use mathlib.Core.Logic.{_⊎_, inl, inr, _≢_}
-use Prim.Native.Nat.{ℕ, zero, suc, _+_, _-_, _%_, _≤_, _<_, pred}
+use Prim.Native.Nat.{ℕ, zero, suc, _+_, _-_, _%_, _≤_, _<_}
 use native.Mathlib.Omega.{arith}
 use lib.Dec.{eqb}
 use lib.ListN.{length, getD, take}
 use lib.Seq.{take-all, ext-getD}
 use borrow.Author.Tests.{le-ltb, lt-ltb, eq-eqb, ne-eqb}
 use Rattle.terms.specs.declared.Fault.the-variants.{Accepted}
-use Rattle.terms.specs.Assignments.{Assignment}
 use Rattle.terms.specs.Faults.{firstFault}
 use Rattle.terms.specs.Table.{rowsOf, extract, sameWord, satisfies}
-use Rattle.terms.proofs.Assignments.{assignment-length}
 use Rattle.terms.proofs.Computed.{faultComputed, satisfiesComputed}
 use Rattle.terms.proofs.Satisfies.{same-word, word-same}
 use Rattle.terms.proofs.Words.{extract-length, extract-bit}
@@ -41,6 +39,7 @@ pub data Stands (w i : ℕ) : Type 0 where
   last : suc i ≡ w → label w i ≡ 3 → Stands w i
   between : 1 ≤ i → suc i < w → label w i ≡ 2 - i % 2 → Stands w i
 
+-- the label of each place
 module _ (w : ℕ) (five : 5 ≤ w) where
   pub label-first : label w 0 ≡ 0
   unfolding label
@@ -68,6 +67,7 @@ module _ (w : ℕ) (five : 5 ≤ w) where
       go (inr d) (inl e) = last e (label-last i e)
       go (inr d) (inr k) = between (omega arith) (omega arith) (label-between i (omega arith) (omega arith))
 
+  -- no place before the first one with a label has it, and that one has
   pub home-least : (i : ℕ) → i < w → home w (label w i) ≤ i
   unfolding home
   home-least i l = go (stands i l)
@@ -88,23 +88,23 @@ module _ (w : ℕ) (five : 5 ≤ w) where
           let at : 2 - (2 - i % 2) % 2 ≡ 2 - i % 2 = omega arith in
           rw (k, ne-eqb (2 - i % 2) 3 (λ e. omega arith)) (label-between (2 - i % 2) (omega arith) (omega arith) ∙ at)
 
-  module _ (most : w ≤ 1024) where
-    pub overlapped-accepted : firstFault (overlapped w) ≡ Accepted
-    unfolding faultComputed
-    overlapped-accepted =
-        let sides : w - 2 + 1 - 3 ≡ w - 4 + 1 - 1 = omega arith in
-        rw (
-          ne-eqb w 0 (λ e. omega arith),
-          le-ltb 1024 w most,
-          le-ltb 4096 (w + 0) (omega arith),
-          lt-ltb (w - 2) w (omega arith),
-          le-ltb (w - 2) 3 (omega arith),
-          lt-ltb (w - 4) w (omega arith),
-          le-ltb (w - 4) 1 (omega arith),
-          eq-eqb (w - 2 + 1 - 3) (w - 4 + 1 - 1) sides,
-        )
+  -- The table breaks no rule.
+  pub overlapped-accepted : w ≤ 1024 → firstFault (overlapped w) ≡ Accepted
+  unfolding faultComputed
+  overlapped-accepted most =
+      let sides : w - 2 + 1 - 3 ≡ w - 4 + 1 - 1 = omega arith in
+      rw (
+        ne-eqb w 0 (λ e. omega arith),
+        le-ltb 1024 w most,
+        le-ltb 4096 (w + 0) (omega arith),
+        lt-ltb (w - 2) w (omega arith),
+        le-ltb (w - 2) 3 (omega arith),
+        lt-ltb (w - 4) w (omega arith),
+        le-ltb (w - 4) 1 (omega arith),
+        eq-eqb (w - 2 + 1 - 3) (w - 4 + 1 - 1) sides,
+      )
 
-  -- A pattern meets the table exactly if its bits from 1 on are its bits from 3 on, up to the last.
+  -- A pattern meets the table if each of its places from 1 on, up to the last but three, has the bit of the next place but one,
   module _ (p : List ℕ) (size : length p ≡ w) where
     overlapped-sides : satisfies (rowsOf (overlapped w)) p ≡ sameWord (extract p (w - 2) 3) (extract p (w - 4) 1)
     unfolding satisfiesComputed
@@ -129,6 +129,7 @@ module _ (w : ℕ) (five : 5 ≤ w) where
         ext-getD 0 (extract p (w - 2) 3) (extract p (w - 4) 1) (omega arith)
         (λ i l. left-bit i (omega arith) ∙ h i (omega arith) ∙ sym (right-bit i (omega arith)))
 
+    -- and only then,
     module _ (met : satisfies (rowsOf (overlapped w)) p ≡ true) where
       next-but-one : (i : ℕ) → i + 4 < w → getD p (suc (suc (suc i))) 0 ≡ getD p (suc i) 0
       next-but-one i l =
@@ -136,7 +137,7 @@ module _ (w : ℕ) (five : 5 ≤ w) where
           same-word (extract p (w - 2) 3) (extract p (w - 4) 1) (sym overlapped-sides ∙ met) in
           sym (right-bit i l) ∙ ap (λ (word : List ℕ). getD word i 0) (sym sides) ∙ left-bit i l
 
-      -- so that a bit between is equal to bit 1 or to bit 2
+      -- so that each place between has the bit of place 1 or of place 2,
       one-or-two : (i : ℕ) → 1 ≤ i → suc i < w → getD p i 0 ≡ getD p (2 - i % 2) 0
       one-or-two zero l h = absurd (omega arith)
       one-or-two (suc zero) l h = refl
@@ -145,6 +146,7 @@ module _ (w : ℕ) (five : 5 ≤ w) where
           let at : 2 - suc (suc (suc i)) % 2 ≡ 2 - suc i % 2 = omega arith in
           next-but-one i (omega arith) ∙ one-or-two (suc i) (omega arith) (omega arith) ∙ rw at refl
 
+      -- and every place that of the first one with its label.
       at-home : (i : ℕ) → i < w → getD p i 0 ≡ getD p (home w (label w i)) 0
       unfolding home
       at-home i l = go (stands i l)
@@ -157,6 +159,7 @@ module _ (w : ℕ) (five : 5 ≤ w) where
       pub label-alike : (i j : ℕ) → i < w → j < w → label w i ≡ label w j → getD p i 0 ≡ getD p j 0
       label-alike i j l m e = at-home i l ∙ rw e refl ∙ sym (at-home j m)
 
+  -- Bits given to the labels meet the table.
   pub label-meets : (f : ℕ → ℕ) → satisfies (rowsOf (overlapped w)) (labelled w (label w) f) ≡ true
   label-meets f =
       overlapped-sides p size
