@@ -3,6 +3,13 @@ pub mod ByClasses
 pub mod WorkedOut
 pub mod OneWord
 pub mod AnyWidth
+pub mod WidthBounds
+pub mod NoneLeft
+pub mod Labels
+pub mod Overlaps
+pub mod OverlapRows
+pub mod OverlapCases
+pub mod EveryWidth
 pub mod Worked
 pub mod SheetsSolved
 pub mod Program

@@ -25,12 +25,17 @@ use Rattle.answers.proofs.Variables.{begins-first}
 use Rattle.worked.specs.Cases.{Solved, Holds, row, times, figures}
 use Rattle.worked.proofs.Holding.{every-fails, met-by-some, solved-case}
 
--- a row of variable 0
-abbrev rowOf : ℕ → ℕ → ℕ → AnswerRow
+-- a row of variable 0, and one that is put behind others
+abbrev pub rowOf : ℕ → ℕ → ℕ → AnswerRow
 rowOf kind width fresh = record { variable = 0; kind = kind; width = width; fresh = fresh }
 
+pub begun : (r : AnswerRow) (rows : List AnswerRow) → placed false r rows ≡ r ∷ rows
+unfolding placed
+begun r [] = refl
+begun r (s ∷ rows) = refl
+
 -- what fails at one number
-below-fails : (n : ℕ) (f : ℕ → Bool) (i : ℕ) → i < n → f i ≡ false → below n f ≡ false
+pub below-fails : (n : ℕ) (f : ℕ → Bool) (i : ℕ) → i < n → f i ≡ false → below n f ≡ false
 below-fails n f i l e = go (below n f) refl
   where
     go : (b : Bool) → below n f ≡ b → b ≡ false
@@ -39,11 +44,11 @@ below-fails n f i l e = go (below n f) refl
 
 -- The answer's rows of one variable, from which bits are equal.
 module _ (w : ℕ) (same : ℕ → ℕ → Bool) where
-  inside : (i : ℕ) → suc i < w → begins (w ∷ []) (suc i) ≡ false
+  pub inside : (i : ℕ) → suc i < w → begins (w ∷ []) (suc i) ≡ false
   unfolding begins
   inside i h = rw (lt-ltb (suc i) w h) (ne-eqb (suc i) 0 (λ e. omega arith))
 
-  variable-0 : (i : ℕ) → i < w → variableAt (w ∷ []) i ≡ 0
+  pub variable-0 : (i : ℕ) → i < w → variableAt (w ∷ []) i ≡ 0
   unfolding variableAt
   variable-0 i h = rw (lt-ltb i w h)
 
@@ -106,11 +111,7 @@ module _ (w : ℕ) (same : ℕ → ℕ → Bool) where
     tied-to : (i : ℕ) → i ≤ w → rowsTo w (w ∷ []) same i ≡ replicate i (rowOf 2 1 0)
     unfolding rowsTo
     tied-to zero h = refl
-    tied-to (suc i) h = rw (tied-on i h, tied-row i h, tied-to i (omega arith)) (in-front (replicate i (rowOf 2 1 0)))
-      where
-        in-front : (rows : List AnswerRow) → placed false (rowOf 2 1 0) rows ≡ rowOf 2 1 0 ∷ rows
-        in-front [] = unfold placed in refl
-        in-front (r ∷ rows) = unfold placed in refl
+    tied-to (suc i) h = rw (tied-on i h, tied-row i h, tied-to i (omega arith)) (begun (rowOf 2 1 0) (replicate i (rowOf 2 1 0)))
 
     one-piece : answerRows w (w ∷ []) same ≡ replicate w (rowOf 2 1 0)
     unfolding answerRows
@@ -147,7 +148,7 @@ piece-numbers zero = refl
 piece-numbers (suc n) = ap (λ (l : List ℕ). row 0 2 1 0 ++ l) (piece-numbers n)
 
 -- bits that are equal in every pattern that passes a test; bits that differ in one
-equal-in : (n : ℕ) (test : List ℕ → Bool) (s u : ℕ)
+pub equal-in : (n : ℕ) (test : List ℕ → Bool) (s u : ℕ)
     → ((p : List ℕ) → Assignment n p → test p ≡ true → bitOf p s ≡ bitOf p u) → equalUnder n test s u ≡ true
 unfolding equalUnder
 equal-in n test s u h = every-of n (λ p. not (test p) || eqb (bitOf p s) (bitOf p u)) (λ p a. go p a (test p) refl)
@@ -156,32 +157,32 @@ equal-in n test s u h = every-of n (λ p. not (test p) || eqb (bitOf p s) (bitOf
     go p a false e = refl
     go p a true e = eq-eqb (bitOf p s) (bitOf p u) (h p a e)
 
-unequal-at : (n : ℕ) (test : List ℕ → Bool) (s u : ℕ) (p : List ℕ)
+pub unequal-at : (n : ℕ) (test : List ℕ → Bool) (s u : ℕ) (p : List ℕ)
     → Assignment n p → test p ≡ true → bitOf p s ≢ bitOf p u → equalUnder n test s u ≡ false
 unfolding equalUnder
 unequal-at n test s u p a e d =
     every-fails n (λ p. not (test p) || eqb (bitOf p s) (bitOf p u)) p a (rw (e, ne-eqb (bitOf p s) (bitOf p u) d) refl)
 
 -- the pattern whose bits are all b, and each of its bits
-alike : (n b : ℕ) → b ≤ 1 → Assignment n (replicate n b)
+pub alike : (n b : ℕ) → b ≤ 1 → Assignment n (replicate n b)
 alike n b h = assignment-of n (replicate n b) (length-replicate n b) (λ i l. rw (getD-replicate n i b 0 l) h)
 
 pub all-alike : (n b i : ℕ) → i < n → getD (replicate n b) i 0 ≡ b
 all-alike n b i l = getD-replicate n i b 0 l
 
-false-of : (b : Bool) → (b ≡ true → ⊥) → b ≡ false
+pub false-of : (b : Bool) → (b ≡ true → ⊥) → b ≡ false
 false-of false h = refl
 false-of true h = absurd (h refl)
 
 -- A table with one variable.
 module _ (table : List ℕ) (w : ℕ) (least : 1 ≤ w) (accepted : firstFault table ≡ Accepted)
     (bits : bitsOf (rowsOf table) ≡ w) (widths : variableWidths (rowsOf table) ≡ w ∷ []) where
-  rows-are : solvedRows (rowsOf table) ≡ answerRows w (w ∷ []) (equalUnder w (satisfies (rowsOf table)))
+  pub rows-are : solvedRows (rowsOf table) ≡ answerRows w (w ∷ []) (equalUnder w (satisfies (rowsOf table)))
   unfolding solvedRows
   rows-are = rw (bits, widths) refl
 
   -- its record, from its answer's rows and from two patterns of which one meets it
-  record-is : (rows : List AnswerRow) → solvedRows (rowsOf table) ≡ rows → (p q : List ℕ) → Assignment w p → Assignment w q
+  pub record-is : (rows : List AnswerRow) → solvedRows (rowsOf table) ≡ rows → (p q : List ℕ) → Assignment w p → Assignment w q
       → satisfies (rowsOf table) p ≡ true → satisfies (rowsOf table) q ≡ false
       → answerRecord (rowsOf table) ≡ figures 2 (length rows) (freshPieces rows) (freeBits rows) (w - freeBits rows) 0
   record-is rows e p q a b met other =
