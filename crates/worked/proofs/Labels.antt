@@ -15,7 +15,8 @@ use Rattle.terms.proofs.Assignments.{assignment-of}
 use Rattle.laws.proofs.Bools.{one-most}
 use Rattle.laws.proofs.Lists.{tab, tab-at, tab-length}
 use Rattle.laws.proofs.Numbers.{dec-eq}
-use Rattle.answers.specs.Answer.{equalUnder, tied, fixedTo}
+use Rattle.answers.specs.Answer.{tied, fixedTo}
+use Rattle.answers.specs.Pairs.{equalUnder}
 use Rattle.worked.proofs.OneWord.{equal-in, unequal-at}
 
 -- The bits that f gives to labels.

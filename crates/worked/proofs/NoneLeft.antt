@@ -22,8 +22,8 @@ use Rattle.laws.proofs.Bools.{and-parts}
 use Rattle.laws.proofs.Least.{least-is}
 use Rattle.laws.proofs.Numbers.{lt-or-le}
 use Rattle.answers.specs.declared.AnswerRow.{AnswerRow}
-use Rattle.answers.specs.Answer.{equalUnder, variableWidths, answerRows, fixedTo, goesOn, placeRow, placed, rowsTo, isFresh, freshNumbers, freshPieces, freshStart, freeBits}
-use Rattle.answers.specs.Pairs.{pairsOf, pairsIn}
+use Rattle.answers.specs.Answer.{variableWidths, answerRows, fixedTo, goesOn, placeRow, placed, rowsTo, isFresh, freshNumbers, freshPieces, freshStart, freeBits}
+use Rattle.answers.specs.Pairs.{pairsOf, pairsIn, equalUnder}
 use Rattle.answers.specs.Solve.{unsatisfiable, unsatRow, satisfiesTo, tiesTo, pairsTogether, solvedRows, neverRecord, answerRecord}
 use Rattle.answers.proofs.Demands.{solved-sum}
 use Rattle.answers.proofs.Tables.{not-valid}

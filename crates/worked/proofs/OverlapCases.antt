@@ -18,7 +18,8 @@ use Rattle.laws.specs.Lists.{distinct, member}
 use Rattle.laws.proofs.Bools.{one-most}
 use Rattle.laws.proofs.Lists.{tab-at}
 use Rattle.answers.specs.declared.AnswerRow.{AnswerRow}
-use Rattle.answers.specs.Answer.{equalUnder, variableWidths, answerRows, answerNumbers, freshNumbers, freshPieces, freshWidth, freshStart, freeBits, tied, fixedTo}
+use Rattle.answers.specs.Answer.{variableWidths, answerRows, answerNumbers, freshNumbers, freshPieces, freshWidth, freshStart, freeBits, tied, fixedTo}
+use Rattle.answers.specs.Pairs.{equalUnder}
 use Rattle.answers.specs.Solve.{solvedRows}
 use Rattle.worked.specs.Cases.{Solved, Holds, row, times, figures}
 use Rattle.worked.specs.EveryWidth.{case1, case2}
