@@ -1,6 +1,6 @@
 -- The call's refusals of a sheet by the writing alone (document 01, "Where a call stops"): 20 to 23, each with its row, whatever room the table has, and
 -- then 32. The number alone tells what the text is, and what the text is tells the whole record. Assumes nothing.
-use mathlib.Core.Path.{_≡_, refl, sym, _∙_, ap}
+use mathlib.Core.Path.{_≡_, refl, ap}
 use mathlib.Core.Bool.{Bool, true, false, cond}
 use mathlib.Core.List.{List}
 use Prim.Native.Nat.{ℕ, _<_, _≤_}
@@ -18,7 +18,7 @@ use Rattle.sheets.specs.Call.{sheetNumber, sheetRow, rowCount, sheetReco
 use Rattle.sheets.specs.Writing.{SheetOf}
 use Rattle.sheets.specs.Refused.{NamesOtherwise, WrongLineAt, LinesOver}
 use Rattle.sheets.proofs.Written.{found-exactly, read-exactly, sheet-found}
-use Rattle.sheets.proofs.SheetCall.{answerOf, found-numbered, number-told}
+use Rattle.sheets.proofs.SheetCall.{carried, answerOf, found-numbered, number-told}
 
 module _ (text : List ℕ) (room : ℕ) where
   -- the record of an answer, and the answer of a record's number
@@ -26,10 +26,7 @@ module _ (text : List ℕ) (room : ℕ) where
   unfolding sheetRecord
   record-of s e h = rw (e, ne-eqb (sheetNumber s) 0 h)
 
-  abbrev Answered : ℕ → Type 0
-  Answered n = sheetFound text ≡ answerOf n (sheetRow (sheetFound text)) (rowCount (sheetFound text))
-
-  answered : (n : ℕ) → (n ≡ 32 → ⊥) → sheetRecord text room .outcome ≡ n → Answered n
+  answered : (n : ℕ) → (n ≡ 32 → ⊥) → sheetRecord text room .outcome ≡ n → sheetFound text ≡ answerOf n (carried (sheetFound text))
   answered n h e = found-numbered text n (number-told text room n h e)
 
   pub refused-20 : (sheetRecord text room .outcome ≡ 20 → 16384 < length text) × (16384 < length text → sheetRecord text room ≡ refusal 20 0)
@@ -50,7 +47,7 @@ module _ (text : List ℕ) (room : ℕ) where
       × ((k : ℕ) → WrongLineAt k text → sheetRecord text room ≡ refusal 22 k)
   refused-22 short = (
     λ e.
-        let k = sheetRow (sheetFound text) in
+        let k = carried (sheetFound text) in
         let f : sheetFound text ≡ WrongLine k = answered 22 (omega arith) e in
         let same : sheetRecord text room .row ≡ k = ap (λ (r : Record). r .row) (record-of (WrongLine k) f (omega arith)) in
         rw same (found-exactly text (WrongLine k) .0 f .1),

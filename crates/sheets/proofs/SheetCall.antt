@@ -2,42 +2,46 @@
 use mathlib.Core.Path.{_≡_, refl, sym, _∙_, ap}
 use mathlib.Core.Bool.{Bool, true, false, cond}
 use mathlib.Core.List.{List, [], _∷_}
-use Prim.Native.Nat.{ℕ, zero, suc, _+_, _*_, _<_, _≤_}
+use Prim.Native.Nat.{ℕ, zero, suc, _*_, _<_, _≤_}
 use native.Mathlib.Omega.{arith}
 use lib.Dec.{eqb, ltb}
 use lib.ListN.{length, take, drop}
 use lib.Seq.{take-at}
 use borrow.Author.Tests.{lt-ltb, le-ltb, eq-eqb, ne-eqb, eqb-true}
 use Rattle.terms.specs.declared.Record.{Record}
-use Rattle.terms.specs.declared.Row.{Row}
 use Rattle.laws.specs.Buffers.{overwrite}
 use Rattle.terms.specs.Calls.{refusal, completed}
 use Rattle.laws.proofs.Buffers.{overwrite-fits}
-use Rattle.laws.proofs.Bools.{not-both}
 use Rattle.sheets.specs.declared.Order.{Order}
 use Rattle.sheets.specs.declared.Sheet.{Sheet}
 use Rattle.sheets.specs.declared.Sheet.the-variants.{TooLong, WrongNames, TooMany, WrongLine, Rows}
 use Rattle.sheets.specs.Text.{LineFound, Values, NoLine, NamesFound, InOrder, NoNames, lineAt, namesAt}
 use Rattle.terms.specs.Table.{rowNumbers}
-use Rattle.sheets.specs.Sheet.{byLine, byNames, foundFrom, rowsFrom, sheetFound, sheetRows}
+use Rattle.sheets.specs.Sheet.{byLine, byNames, rowsFrom, sheetFound, sheetRows}
 use Rattle.sheets.specs.Call.{sheetNumber, sheetRow, rowCount, sheetRecord, tableAfter}
 use Rattle.terms.proofs.RowNumbers.{row-numbers-length}
 use Rattle.sheets.proofs.Written.{sheet-found}
 
--- an answer by its number, with its row and its count of rows
-abbrev pub answerOf : ℕ → ℕ → ℕ → Sheet
-answerOf number row count =
-    cond (eqb number 20) TooLong (cond (eqb number 21) WrongNames (cond (eqb number 22) (WrongLine row) (cond (eqb number 23) TooMany (Rows count))))
+-- an answer by its number, and by the line or the count of rows that it has with it
+abbrev pub carried : Sheet → ℕ
+carried TooLong = 0
+carried WrongNames = 0
+carried TooMany = 0
+carried (WrongLine k) = k
+carried (Rows n) = n
 
-answer-is : (s : Sheet) → s ≡ answerOf (sheetNumber s) (sheetRow s) (rowCount s)
+abbrev pub answerOf : ℕ → ℕ → Sheet
+answerOf number k =
+    cond (eqb number 20) TooLong (cond (eqb number 21) WrongNames (cond (eqb number 22) (WrongLine k) (cond (eqb number 23) TooMany (Rows k))))
+
+answer-is : (s : Sheet) → s ≡ answerOf (sheetNumber s) (carried s)
 answer-is TooLong = refl
 answer-is WrongNames = refl
 answer-is TooMany = refl
 answer-is (WrongLine k) = refl
-answer-is (Rows k) = refl
+answer-is (Rows n) = refl
 
-pub found-numbered : (text : List ℕ) (n : ℕ) → sheetNumber (sheetFound text) ≡ n
-    → sheetFound text ≡ answerOf n (sheetRow (sheetFound text)) (rowCount (sheetFound text))
+pub found-numbered : (text : List ℕ) (n : ℕ) → sheetNumber (sheetFound text) ≡ n → sheetFound text ≡ answerOf n (carried (sheetFound text))
 found-numbered text n e = answer-is (sheetFound text) ∙ rw e
 
 -- the number in the record is the answer's, unless it is 32
@@ -54,7 +58,10 @@ number-told text room n h e = go (eqb (sheetNumber (sheetFound text)) 0) (ltb ro
 
 -- as many rows as were found
 sheet-counted : (text : List ℕ) → sheetNumber (sheetFound text) ≡ 0 → rowCount (sheetFound text) ≡ length (sheetRows text)
-sheet-counted text h = sym (sheet-found text (rowCount (sheetFound text)) (found-numbered text 0 h) .1)
+sheet-counted text h =
+    let n = carried (sheetFound text) in
+    let f : sheetFound text ≡ Rows n = found-numbered text 0 h in
+    ap rowCount f ∙ sym (sheet-found text n f .1)
 
 -- at most 512 rows
 rows-few : (m : ℕ) (text : List ℕ) (order : Order) (at : ℕ) → length (rowsFrom m text order at) ≤ m

@@ -10,7 +10,7 @@ use lib.Seq.{drop-cons}
 use Rattle.terms.specs.declared.Row.{Row}
 use Rattle.laws.proofs.Bools.{and-first, and-second}
 use Rattle.sheets.specs.declared.Order.{Order}
-use Rattle.sheets.specs.Text.{NumberFound, Value, NoNumber, NameFound, Column, NoName, NamesFound, InOrder, NoNames, LineFound, Values, NoLine, numberAt, sees, endedBy, fieldAt, placed, withNumber, lineAt, seesKind, columnAt, namedBy, nameAt, withName, allDifferent, namesAt}
+use Rattle.sheets.specs.Text.{NumberFound, Value, NoNumber, NameFound, Column, NoName, NamesFound, InOrder, NoNames, LineFound, Values, numberAt, sees, endedBy, fieldAt, placed, withNumber, lineAt, seesKind, columnAt, namedBy, nameAt, withName, allDifferent, namesAt}
 use Rattle.sheets.specs.Writing.{decimal, nameBytes, name, value, namesLine, valuesLine, IsOrder, SmallRow}
 use Rattle.sheets.proofs.Fields.{seen-within, seen-byte}
 use Rattle.sheets.proofs.Decimal.{number-written}

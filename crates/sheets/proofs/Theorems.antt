@@ -1,25 +1,20 @@
 -- The call and the sheets (demand 1 for sheets): with room for 512 rows, the call accepts a text exactly if it is a sheet, and
--- then its record counts the rows and its table has them; a 513th line is refused before it is read. Assumes nothing.
-use mathlib.Core.Path.{_≡_, refl, sym, _∙_, ap}
-use mathlib.Core.Bool.{cond}
-use mathlib.Core.List.{List, _++_}
+-- then its record counts the rows and its table has them. Assumes nothing.
+use mathlib.Core.Path.{_≡_, refl}
+use mathlib.Core.List.{List}
 use Prim.Native.Nat.{ℕ, _≤_}
 use native.Mathlib.Omega.{arith}
-use lib.Dec.{eqb, ltb}
 use lib.ListN.{length}
 use borrow.Author.Tests.{le-ltb}
 use Rattle.terms.specs.declared.Row.{Row}
-use Rattle.terms.specs.Calls.{refusal, completed}
+use Rattle.terms.specs.Calls.{completed}
 use Rattle.laws.specs.Buffers.{overwrite}
-use Rattle.sheets.specs.declared.Order.{Order}
-use Rattle.sheets.specs.declared.Sheet.{Sheet}
-use Rattle.sheets.specs.declared.Sheet.the-variants.{TooLong, WrongNames, TooMany, WrongLine, Rows}
 use Rattle.terms.specs.Table.{rowNumbers}
 use Rattle.sheets.specs.Sheet.{sheetFound, sheetRows}
-use Rattle.sheets.specs.Call.{sheetNumber, sheetRow, rowCount, sheetRecord, tableAfter}
+use Rattle.sheets.specs.Call.{sheetRecord, tableAfter}
 use Rattle.sheets.specs.Writing.{SheetOf}
 use Rattle.sheets.proofs.Written.{read-exactly, sheet-found}
-use Rattle.sheets.proofs.SheetCall.{found-numbered, number-told}
+use Rattle.sheets.proofs.SheetCall.{carried, found-numbered, number-told}
 
 pub sheet-accepted : (text old : List ℕ) (rows : List Row) → 2048 ≤ length old → SheetOf text rows
     → (sheetRecord text (length old) ≡ completed (length rows) 0) × (tableAfter text old ≡ overwrite (rowNumbers rows) old)
@@ -30,5 +25,4 @@ sheet-accepted text old rows h s =
 
 -- outcome 0 is for rows read alone
 pub sheet-only : (text : List ℕ) (room : ℕ) → sheetRecord text room .outcome ≡ 0 → SheetOf text (sheetRows text)
-sheet-only text room e =
-    sheet-found text (rowCount (sheetFound text)) (found-numbered text 0 (number-told text room 0 (λ z. absurd (omega arith)) e)) .0
+sheet-only text room e = sheet-found text (carried (sheetFound text)) (found-numbered text 0 (number-told text room 0 (omega arith) e)) .0

@@ -12,7 +12,7 @@ use lib.Seq.{drop-drop, drop-append-seam, getD-drop}
 use borrow.Author.Tests.{lt-ltb, le-ltb, eq-eqb}
 use Rattle.terms.specs.declared.Row.{Row}
 use Rattle.sheets.specs.declared.Order.{Order}
-use Rattle.sheets.specs.declared.Sheet.the-variants.{TooMany, Rows}
+use Rattle.sheets.specs.declared.Sheet.the-variants.{Rows}
 use Rattle.sheets.specs.Text.{Value, Column, InOrder, Values, digitOf, numberHere, sees, fieldAt, placed, lineAt, seesKind, columnAt, nameAt, namesAt}
 use Rattle.sheets.specs.Sheet.{foundFrom, rowsFrom, sheetFound, sheetRows}
 use Rattle.sheets.specs.Writing.{decimal, nameBytes, column, name, value, namesLine, valuesLine, linesText, sheetText, IsOrder, SmallRow, SmallRows, none, one}

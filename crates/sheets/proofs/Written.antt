@@ -1,7 +1,7 @@
 -- Every text is one of five by the writing alone: over 16,384 bytes, names otherwise, a line otherwise, a line too many, or a sheet; and reading
 -- finds just that. So a text is read as rows exactly if it is a sheet of them. Assumes nothing.
 use mathlib.Core.Path.{_≡_, refl, sym, _∙_, ap}
-use mathlib.Core.Bool.{Bool, true, false, cond}
+use mathlib.Core.Bool.{Bool, true, false}
 use mathlib.Core.List.{List, [], _∷_, _++_, append-assoc, append-nil}
 use Prim.Native.Nat.{ℕ, zero, suc, _+_, _<_, _≤_, _-_}
 use native.Mathlib.Omega.{arith}
@@ -15,7 +15,7 @@ use Rattle.sheets.specs.declared.Sheet.the-variants.{TooLong, WrongNames
 use Rattle.sheets.specs.Text.{NamesFound, InOrder, NoNames, LineFound, Values, NoLine, lineAt, namesAt}
 use Rattle.sheets.specs.Sheet.{foundFrom, sheetFound, sheetRows}
 use Rattle.sheets.specs.Writing.{namesLine, valuesLine, linesText, sheetText, IsOrder, SmallRow, SmallRows, none, one, SheetOf}
-use Rattle.sheets.specs.Refused.{Begins, NamesOtherwise, LineOtherwise, GoodLines, WrongLineAt, LinesOver, SheetOfLength, FoundAs, OneAnswer}
+use Rattle.sheets.specs.Refused.{NamesOtherwise, LineOtherwise, GoodLines, WrongLineAt, LinesOver, FoundAs, OneAnswer}
 use Rattle.sheets.proofs.Writing.{names-read, line-read, lines-end, read-to}
 use Rattle.sheets.proofs.Standing.{line-there, names-there}
 
@@ -176,7 +176,7 @@ given text = go (ltb 16384 (length text)) (namesAt text 0) refl refl
         lines-given text (ltb-false 16384 (length text) p) order (t .order-is) 512 [] none (omega arith) to
         (t .there ∙ ap (λ (l : List ℕ). l ++ drop to text) (sym (append-nil (namesLine order))))
 
--- Every text is one of the five, and of no two of them.
+-- Every text is one of the five, and only one.
 pub one-answer : (text : List ℕ) → OneAnswer text
 one-answer text =
     let g = given text in
