@@ -1,5 +1,5 @@
--- A sheet that was written is read back: a field, a line, the names, all lines, and one line too many. At each place the text is what is
--- written there and then the rest.
+-- What was written is read back: a field, a line, the names, and all lines up to what is left behind them. At each place the text is what is
+-- written there and then the rest. Assumes nothing.
 use mathlib.Core.Path.{_≡_, refl, sym, _∙_, ap}
 use mathlib.Core.Bool.{false}
 use mathlib.Core.List.{List, [], _∷_, _++_, append-assoc}
@@ -131,7 +131,7 @@ module _ (text : List ℕ) where
       omega (arith, length-append (x₁ ++ x₂ ++ x₃) x₄, length-append (x₁ ++ x₂) x₃, length-append x₁ x₂) in
       rw (f₁, f₂, f₃, f₄, is .different) (ap (λ (i : ℕ). InOrder order i) l)
 
-  -- all lines
+  -- a line is not empty
   line-long : (order : Order) (row : Row) → 1 ≤ length (valuesLine order row)
   unfolding valuesLine value
   line-long order row =
@@ -172,7 +172,7 @@ module _ (text : List ℕ) where
       let j : at + length x + length (linesText order rows) ≡ at + length (x ++ linesText order rows) = omega (arith, length-append x (linesText order rows)) in
       (rw (q, r) (later .0 ∙ rw (i, j)), rw (q, r) (ap (λ (l : List Row). row ∷ l) (later .1 ∙ rw j)))
 
--- The names and good lines are read, and then what is left.
+-- The names and the lines of these rows are read, and then what is left, where m more lines may stand.
 pub record ReadTo (text : List ℕ) (order : Order) (rows : List Row) (m : ℕ) (left : List ℕ) : Type 0 where
   pub to : ℕ
   pub there : drop to text ≡ left

@@ -37,12 +37,12 @@ module _ (text : List ℕ) where
   within : (at : ℕ) → 1 ≤ length (drop at text) → ltb at (length text) ≡ true
   within at h = lt-ltb at (length text) (omega (arith, length-drop at text))
 
-  -- where 512 lines were read, what is left is a line too many, whatever it is
+  -- where no further line may stand, what is left is a line too many, whatever it is
   over-told : (order : Order) (k at : ℕ) → 1 ≤ length (drop at text) → foundFrom 0 text order k at ≡ TooMany
   unfolding foundFrom
   over-told order k at h = rw (within at h)
 
-  -- before, what is left is told as a line otherwise, if no good line begins it
+  -- where one may stand, what is left is a wrong line, if no good line begins it
   otherwise-told : (order : Order) → IsOrder order → (m k at : ℕ) → 1 ≤ length (drop at text) → LineOtherwise order (drop at text)
       → foundFrom (suc m) text order k at ≡ WrongLine k
   unfolding foundFrom
@@ -54,7 +54,7 @@ module _ (text : List ℕ) where
           absurd (wrong row (t .small) (record { rest = drop to text; split = t .there }))
       go NoLine l = rw (within at h, l)
 
--- each answer is found of the texts that it is given for
+-- Each answer is found of the texts that it is given for.
 long-found : (text : List ℕ) → 16384 < length text → sheetFound text ≡ TooLong
 unfolding sheetFound
 long-found text h = rw (lt-ltb 16384 (length text) h)
@@ -113,7 +113,7 @@ small-last : {rows : List Row} {row : Row} → SmallRows rows → SmallRow row �
 small-last none s = one s none
 small-last (one r more) s = one r (small-last more s)
 
--- an answer is given for every text
+-- An answer is given for every text: the lines are gone through from the first to the last.
 record Given (text : List ℕ) : Type 0 where
   answer : Sheet
   given : FoundAs answer text

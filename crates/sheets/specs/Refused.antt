@@ -52,7 +52,7 @@ pub record SheetOfLength (n : ℕ) (text : List ℕ) : Type 0 where
   pub count : length rows ≡ n
   pub sheet : SheetOf text rows
 
--- The texts for which each answer is given.
+-- The texts for which each answer is given: 20, 21, 22 at row k, 23, or n rows read.
 abbrev pub FoundAs : Sheet → List ℕ → Type 0
 FoundAs TooLong text = 16384 < length text
 FoundAs WrongNames text = (length text ≤ 16384) × NamesOtherwise text
