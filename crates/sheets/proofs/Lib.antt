@@ -3,6 +3,7 @@ pub mod Fields
 pub mod Decimal
 pub mod Orders
 pub mod Writing
+pub mod Standing
 pub mod Written
 pub mod Theorems
 pub mod PrintedText
@@ -12,4 +13,5 @@ pub mod PrintFits
 pub mod Printed
 pub mod ProgramText
 pub mod SheetCall
+pub mod Refusals
 pub mod Solving

@@ -1,74 +1,67 @@
 -- How many rows an accepted sheet has; the reading call's record and table, for each way in which it ends.
-use mathlib.Core.Path.{_≡_, refl, _∙_, ap}
+use mathlib.Core.Path.{_≡_, refl, sym, _∙_, ap}
 use mathlib.Core.Bool.{Bool, true, false, cond}
 use mathlib.Core.List.{List, [], _∷_}
-use Prim.Native.Nat.{ℕ, zero, suc, _+_, _*_, _<_, _≤_}
+use Prim.Native.Nat.{ℕ, zero, suc, _*_, _<_, _≤_}
 use native.Mathlib.Omega.{arith}
 use lib.Dec.{eqb, ltb}
 use lib.ListN.{length, take, drop}
 use lib.Seq.{take-at}
-use borrow.Author.Tests.{lt-ltb, le-ltb, eq-eqb, ne-eqb}
+use borrow.Author.Tests.{lt-ltb, le-ltb, eq-eqb, ne-eqb, eqb-true}
 use Rattle.terms.specs.declared.Record.{Record}
-use Rattle.terms.specs.declared.Row.{Row}
 use Rattle.laws.specs.Buffers.{overwrite}
 use Rattle.terms.specs.Calls.{refusal, completed}
 use Rattle.laws.proofs.Buffers.{overwrite-fits}
-use Rattle.laws.proofs.Bools.{not-both}
 use Rattle.sheets.specs.declared.Order.{Order}
 use Rattle.sheets.specs.declared.Sheet.{Sheet}
 use Rattle.sheets.specs.declared.Sheet.the-variants.{TooLong, WrongNames, TooMany, WrongLine, Rows}
 use Rattle.sheets.specs.Text.{LineFound, Values, NoLine, NamesFound, InOrder, NoNames, lineAt, namesAt}
 use Rattle.terms.specs.Table.{rowNumbers}
-use Rattle.sheets.specs.Sheet.{byLine, byNames, foundFrom, rowsFrom, sheetFound, sheetRows}
+use Rattle.sheets.specs.Sheet.{byLine, byNames, rowsFrom, sheetFound, sheetRows}
 use Rattle.sheets.specs.Call.{sheetNumber, sheetRow, rowCount, sheetRecord, tableAfter}
 use Rattle.terms.proofs.RowNumbers.{row-numbers-length}
+use Rattle.sheets.proofs.Written.{sheet-found}
+
+-- an answer by its number, and by the line or the count of rows that it has with it
+abbrev pub carried : Sheet → ℕ
+carried TooLong = 0
+carried WrongNames = 0
+carried TooMany = 0
+carried (WrongLine k) = k
+carried (Rows n) = n
+
+abbrev pub answerOf : ℕ → ℕ → Sheet
+answerOf number k =
+    cond (eqb number 20) TooLong (cond (eqb number 21) WrongNames (cond (eqb number 22) (WrongLine k) (cond (eqb number 23) TooMany (Rows k))))
+
+answer-is : (s : Sheet) → s ≡ answerOf (sheetNumber s) (carried s)
+answer-is TooLong = refl
+answer-is WrongNames = refl
+answer-is TooMany = refl
+answer-is (WrongLine k) = refl
+answer-is (Rows n) = refl
+
+pub found-numbered : (text : List ℕ) (n : ℕ) → sheetNumber (sheetFound text) ≡ n → sheetFound text ≡ answerOf n (carried (sheetFound text))
+found-numbered text n e = answer-is (sheetFound text) ∙ rw e
+
+-- the number in the record is the answer's, unless it is 32
+pub number-told : (text : List ℕ) (room n : ℕ) → (n ≡ 32 → ⊥) → sheetRecord text room .outcome ≡ n → sheetNumber (sheetFound text) ≡ n
+unfolding sheetRecord
+number-told text room n h e = go (eqb (sheetNumber (sheetFound text)) 0) (ltb room 2048) refl e
+  where
+    go : (t u : Bool) → eqb (sheetNumber (sheetFound text)) 0 ≡ t
+        → (cond t (cond u (refusal 32 0) (completed (rowCount (sheetFound text)) 0)) (refusal (sheetNumber (sheetFound text)) (sheetRow (sheetFound text)))) .outcome ≡ n
+        → sheetNumber (sheetFound text) ≡ n
+    go true true p e = absurd (h (sym e))
+    go true false p e = eqb-true (sheetNumber (sheetFound text)) 0 p ∙ e
+    go false u p e = e
 
 -- as many rows as were found
-data IsRows : Sheet → ℕ → Type 0 where
-  rows-read : {n : ℕ} → IsRows (Rows n) n
-
-is-rows : (s : Sheet) → eqb (sheetNumber s) 0 ≡ true → IsRows s (rowCount s)
-is-rows TooLong h = absurd (not-both h refl)
-is-rows WrongNames h = absurd (not-both h refl)
-is-rows TooMany h = absurd (not-both h refl)
-is-rows (WrongLine k) h = absurd (not-both h refl)
-is-rows (Rows k) h = rows-read
-
--- either the lines end here, or there is one more
-rows-counted : (m : ℕ) (text : List ℕ) (order : Order) (k at : ℕ) → eqb (sheetNumber (foundFrom m text order k at)) 0 ≡ true
-    → rowCount (foundFrom m text order k at) ≡ k + length (rowsFrom m text order at)
-unfolding foundFrom rowsFrom
-rows-counted zero text order k at h = go (ltb at (length text)) h
-  where
-    go : (b : Bool) → eqb (sheetNumber (cond b TooMany (Rows k))) 0 ≡ true → rowCount (cond b TooMany (Rows k)) ≡ k + 0
-    go true h = absurd (not-both h refl)
-    go false h = omega arith
-rows-counted (suc m) text order k at h = go (ltb at (length text)) (lineAt text order at) h (rows-counted m text order (k + 1))
-  where
-    found : ℕ → Sheet
-    found next = foundFrom m text order (k + 1) next
-
-    rest : ℕ → List Row
-    rest next = rowsFrom m text order next
-
-    go : (b : Bool) (line : LineFound) → eqb (sheetNumber (cond b (byLine line (λ row next. found next) (WrongLine k)) (Rows k))) 0 ≡ true
-        → ((next : ℕ) → eqb (sheetNumber (found next)) 0 ≡ true → rowCount (found next) ≡ k + 1 + length (rest next))
-        → rowCount (cond b (byLine line (λ row next. found next) (WrongLine k)) (Rows k))
-        ≡ k + length (cond b (byLine line (λ row next. row ∷ rest next) []) [])
-    go true (Values row next) h later = let e = later next h in omega arith
-    go true NoLine h later = absurd (not-both h refl)
-    go false line h later = omega arith
-
-pub sheet-counted : (text : List ℕ) → eqb (sheetNumber (sheetFound text)) 0 ≡ true → rowCount (sheetFound text) ≡ length (sheetRows text)
-unfolding sheetFound sheetRows
-sheet-counted text h = go (ltb 16384 (length text)) (namesAt text 0) h
-  where
-    go : (b : Bool) (names : NamesFound) → eqb (sheetNumber (cond b TooLong (byNames names (λ order at. foundFrom 512 text order 0 at) WrongNames))) 0 ≡ true
-        → rowCount (cond b TooLong (byNames names (λ order at. foundFrom 512 text order 0 at) WrongNames))
-        ≡ length (cond b [] (byNames names (λ order at. rowsFrom 512 text order at) []))
-    go true names h = absurd (not-both h refl)
-    go false (InOrder order at) h = omega (arith, rows-counted 512 text order 0 at h)
-    go false NoNames h = absurd (not-both h refl)
+sheet-counted : (text : List ℕ) → sheetNumber (sheetFound text) ≡ 0 → rowCount (sheetFound text) ≡ length (sheetRows text)
+sheet-counted text h =
+    let n = carried (sheetFound text) in
+    let f : sheetFound text ≡ Rows n = found-numbered text 0 h in
+    ap rowCount f ∙ sym (sheet-found text n f .1)
 
 -- at most 512 rows
 rows-few : (m : ℕ) (text : List ℕ) (order : Order) (at : ℕ) → length (rowsFrom m text order at) ≤ m
@@ -113,7 +106,7 @@ module _ (text old : List ℕ) where
         → take (rowCount (sheetFound text) * 4) (overwrite (rowNumbers (sheetRows text)) base) ≡ rowNumbers (sheetRows text)
     taken base n =
         let rows = sheetRows text in
-        let c = sheet-counted text (eq-eqb (sheetNumber (sheetFound text)) 0 h) in
+        let c = sheet-counted text h in
         ap (take (rowCount (sheetFound text) * 4)) (overwrite-fits (rowNumbers rows) base (omega (arith, row-numbers-length rows, sheet-few text)))
         ∙ take-at (rowNumbers rows) (drop (length (rowNumbers rows)) base) (rowCount (sheetFound text) * 4) (omega (arith, row-numbers-length rows))
 

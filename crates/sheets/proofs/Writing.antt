@@ -1,5 +1,5 @@
--- A sheet that was written is read back: a field, a line, the names, all lines, and one line too many. At each place the text is what is
--- written there and then the rest.
+-- What was written is read back: a field, a line, the names, and all lines up to what is left behind them. At each place the text is what is
+-- written there and then the rest. Assumes nothing.
 use mathlib.Core.Path.{_≡_, refl, sym, _∙_, ap}
 use mathlib.Core.Bool.{false}
 use mathlib.Core.List.{List, [], _∷_, _++_, append-assoc}
@@ -12,7 +12,7 @@ use lib.Seq.{drop-drop, drop-append-seam, getD-drop}
 use borrow.Author.Tests.{lt-ltb, le-ltb, eq-eqb}
 use Rattle.terms.specs.declared.Row.{Row}
 use Rattle.sheets.specs.declared.Order.{Order}
-use Rattle.sheets.specs.declared.Sheet.the-variants.{TooMany, Rows}
+use Rattle.sheets.specs.declared.Sheet.the-variants.{Rows}
 use Rattle.sheets.specs.Text.{Value, Column, InOrder, Values, digitOf, numberHere, sees, fieldAt, placed, lineAt, seesKind, columnAt, nameAt, namesAt}
 use Rattle.sheets.specs.Sheet.{foundFrom, rowsFrom, sheetFound, sheetRows}
 use Rattle.sheets.specs.Writing.{decimal, nameBytes, column, name, value, namesLine, valuesLine, linesText, sheetText, IsOrder, SmallRow, SmallRows, none, one}
@@ -131,7 +131,7 @@ module _ (text : List ℕ) where
       omega (arith, length-append (x₁ ++ x₂ ++ x₃) x₄, length-append (x₁ ++ x₂) x₃, length-append x₁ x₂) in
       rw (f₁, f₂, f₃, f₄, is .different) (ap (λ (i : ℕ). InOrder order i) l)
 
-  -- all lines
+  -- a line is not empty
   line-long : (order : Order) (row : Row) → 1 ≤ length (valuesLine order row)
   unfolding valuesLine value
   line-long order row =
@@ -139,77 +139,61 @@ module _ (text : List ℕ) where
       let d = decimal (column row (order .fourth)) in
       omega (arith, length-append x (d ++ (10 ∷ [])), length-append d (10 ∷ []))
 
-  lines-end : (order : Order) (m k at : ℕ) → drop at text ≡ [] → (foundFrom m text order k at ≡ Rows (k + 0)) × (rowsFrom m text order at ≡ [])
+  -- nothing is left: the lines read are all
+  pub lines-end : (order : Order) (m k at : ℕ) → drop at text ≡ [] → (foundFrom m text order k at ≡ Rows k) × (rowsFrom m text order at ≡ [])
   unfolding foundFrom rowsFrom
   lines-end order m k at e =
       let l : length (drop at text) ≡ 0 = ap length e in
       let p : length text ≤ at = omega (arith, length-drop at text) in
       go m (le-ltb at (length text) p)
     where
-      go : (m : ℕ) → ltb at (length text) ≡ false → (foundFrom m text order k at ≡ Rows (k + 0)) × (rowsFrom m text order at ≡ [])
-      go zero q = (rw q (ap Rows (sym (add-zero k))), refl)
-      go (suc m) q = (rw q (ap Rows (sym (add-zero k))), rw q)
+      go : (m : ℕ) → ltb at (length text) ≡ false → (foundFrom m text order k at ≡ Rows k) × (rowsFrom m text order at ≡ [])
+      go zero q = (rw q, refl)
+      go (suc m) q = (rw q, rw q)
 
-  pub lines-read : (order : Order) (is : IsOrder order) {rows : List Row} → SmallRows rows → (m k at : ℕ) → length rows ≤ m → drop at text ≡ linesText order rows
-      → (foundFrom m text order k at ≡ Rows (k + length rows)) × (rowsFrom m text order at ≡ rows)
+  -- good lines are read, and then what stands behind them
+  lines-read : (order : Order) (is : IsOrder order) {rows : List Row} → SmallRows rows → (n m k at : ℕ) (rest : List ℕ) → n ≡ length rows + m
+      → drop at text ≡ linesText order rows ++ rest
+      → (foundFrom n text order k at ≡ foundFrom m text order (k + length rows) (at + length (linesText order rows)))
+      × (rowsFrom n text order at ≡ rows ++ rowsFrom m text order (at + length (linesText order rows)))
   unfolding foundFrom rowsFrom linesText
-  lines-read order is none m k at h e = lines-end order m k at e
-  lines-read order is (one {row} {rows} s more) zero k at h e = absurd (omega arith)
-  lines-read order is (one {row} {rows} s more) (suc m) k at h e =
+  lines-read order is none n m k at rest h e = let i : n ≡ m = omega arith in (rw (i, add-zero k, add-zero at), rw (i, add-zero at))
+  lines-read order is (one {row} {rows} s more) zero m k at rest h e = absurd (omega arith)
+  lines-read order is (one {row} {rows} s more) (suc n) m k at rest h e =
       let x = valuesLine order row in
-      let t = linesText order rows in
-      let l : length (drop at text) ≡ length (x ++ t) = ap length e in
-      let p : at < length text = omega (arith, length-drop at text, length-append x t, line-long order row) in
-      let q = lt-ltb at (length text) p in
-      let r = line-read order row at t is s e in
-      let later = lines-read order is more m (k + 1) (at + length x) (omega arith) (behind at x t e) in
-      (rw (q, r) (later .0 ∙ ap Rows (omega arith)), rw (q, r) (ap (λ (l : List Row). row ∷ l) (later .1)))
-
-  -- lines and more behind them, where no further line may stand: whatever stands there is a line too many
-  lines-over : (order : Order) (is : IsOrder order) {rows : List Row} → SmallRows rows → (more : List ℕ) → 1 ≤ length more → (k at : ℕ)
-      → drop at text ≡ linesText order rows ++ more → foundFrom (length rows) text order k at ≡ TooMany
-  unfolding foundFrom linesText
-  lines-over order is none more h k at e =
-      let l : length (drop at text) ≡ length more = ap length e in
-      rw (lt-ltb at (length text) (omega (arith, length-drop at text)))
-  lines-over order is (one {row} {rows} s later) more h k at e =
-      let x = valuesLine order row in
-      let t = linesText order rows ++ more in
-      let split : drop at text ≡ x ++ t = e ∙ append-assoc x (linesText order rows) more in
+      let t = linesText order rows ++ rest in
+      let split : drop at text ≡ x ++ t = e ∙ append-assoc x (linesText order rows) rest in
       let l : length (drop at text) ≡ length (x ++ t) = ap length split in
       let p : at < length text = omega (arith, length-drop at text, length-append x t, line-long order row) in
-      rw (lt-ltb at (length text) p, line-read order row at t is s split) (lines-over order is later more h (k + 1) (at + length x) (behind at x t split))
+      let q = lt-ltb at (length text) p in
+      let r = line-read order row at t is s split in
+      let later = lines-read order is more n m (k + 1) (at + length x) rest (omega arith) (behind at x t split) in
+      let i : k + 1 + length rows ≡ k + suc (length rows) = omega arith in
+      let j : at + length x + length (linesText order rows) ≡ at + length (x ++ linesText order rows) = omega (arith, length-append x (linesText order rows)) in
+      (rw (q, r) (later .0 ∙ rw (i, j)), rw (q, r) (ap (λ (l : List Row). row ∷ l) (later .1 ∙ rw j)))
 
-starts-whole : (order : Order) (rows : List Row) → drop 0 (sheetText order rows) ≡ namesLine order ++ linesText order rows
-unfolding sheetText
-starts-whole order rows = refl
+-- The names and the lines of these rows are read, and then what is left, where m more lines may stand.
+pub record ReadTo (text : List ℕ) (order : Order) (rows : List Row) (m : ℕ) (left : List ℕ) : Type 0 where
+  pub to : ℕ
+  pub there : drop to text ≡ left
+  pub found : sheetFound text ≡ foundFrom m text order (length rows) to
+  pub read : sheetRows text ≡ rows ++ rowsFrom m text order to
 
--- the whole sheet: what is written in an order of the names, of at most 512 rows of small numbers in at most 16,384 bytes,
--- is accepted, and read as those rows
-pub written-read : (order : Order) (rows : List Row) → IsOrder order → SmallRows rows → length rows ≤ 512 → length (sheetText order rows) ≤ 16384
-    → (sheetFound (sheetText order rows) ≡ Rows (length rows)) × (sheetRows (sheetText order rows) ≡ rows)
-unfolding sheetFound sheetRows
-written-read order rows is small few short =
-    let text = sheetText order rows in
+pub read-to : (text : List ℕ) (order : Order) (rows : List Row) (m : ℕ) (left : List ℕ) → IsOrder order → SmallRows rows → 512 ≡ length rows + m
+    → length text ≤ 16384 → text ≡ sheetText order rows ++ left → ReadTo text order rows m left
+unfolding sheetFound sheetRows sheetText
+read-to text order rows m left is small all short written =
     let q = le-ltb 16384 (length text) short in
-    let whole : drop 0 text ≡ namesLine order ++ linesText order rows = starts-whole order rows in
-    let n = names-read text order 0 (linesText order rows) is whole in
-    let at = 0 + length (namesLine order) in
-    let r = lines-read text order is small 512 0 at few (behind text 0 (namesLine order) (linesText order rows) whole) in
-    (rw (q, n) (r .0 ∙ ap Rows (omega arith)), rw (q, n) (r .1))
-
--- 512 rows, written, and more behind them: a line too many, whatever stands there
-starts-over : (order : Order) (rows : List Row) (more : List ℕ) → drop 0 (sheetText order rows ++ more) ≡ namesLine order ++ (linesText order rows ++ more)
-unfolding sheetText
-starts-over order rows more = append-assoc (namesLine order) (linesText order rows) more
-
-pub written-over : (order : Order) (rows : List Row) (more : List ℕ) → IsOrder order → SmallRows rows → length rows ≡ 512 → 1 ≤ length more
-    → length (sheetText order rows ++ more) ≤ 16384 → sheetFound (sheetText order rows ++ more) ≡ TooMany
-unfolding sheetFound
-written-over order rows more is small all h short =
-    let text = sheetText order rows ++ more in
-    let whole : drop 0 text ≡ namesLine order ++ (linesText order rows ++ more) = starts-over order rows more in
-    let n = names-read text order 0 (linesText order rows ++ more) is whole in
-    let at = 0 + length (namesLine order) in
-    let r = lines-over text order is small more h 0 at (behind text 0 (namesLine order) (linesText order rows ++ more) whole) in
-    rw (le-ltb 16384 (length text) short, n) (ap (λ (m : ℕ). foundFrom m text order 0 at) (sym all) ∙ r)
+    let x = namesLine order in
+    let t = linesText order rows in
+    let whole : drop 0 text ≡ x ++ (t ++ left) = written ∙ append-assoc x t left in
+    let n = names-read text order 0 (t ++ left) is whole in
+    let at = 0 + length x in
+    let lines : drop at text ≡ t ++ left = behind text 0 x (t ++ left) whole in
+    let r = lines-read text order is small 512 m 0 at left all lines in
+    record {
+      to = at + length t;
+      there = behind text at t left lines;
+      found = rw (q, n) (r .0 ∙ ap (λ (k : ℕ). foundFrom m text order k (at + length t)) (omega arith));
+      read = rw (q, n) (r .1);
+    }

@@ -1,362 +1,210 @@
--- A text that is accepted is a sheet as it is written: a field, a line, the names, all lines. At each place that is reached, what
--- was read stands there as it is written, and then what is left of the text.
+-- Every text is one of five by the writing alone: over 16,384 bytes, names otherwise, a line otherwise, a line too many, or a sheet; and reading
+-- finds just that. So a text is read as rows exactly if it is a sheet of them. Assumes nothing.
 use mathlib.Core.Path.{_≡_, refl, sym, _∙_, ap}
-use mathlib.Core.Bool.{Bool, true, false, _&&_, cond}
-use mathlib.Core.List.{List, [], _∷_, _++_, append-assoc}
-use Prim.Native.Nat.{ℕ, zero, suc, _+_, _<_, _≤_}
+use mathlib.Core.Bool.{Bool, true, false}
+use mathlib.Core.List.{List, [], _∷_, _++_, append-assoc, append-nil}
+use Prim.Native.Nat.{ℕ, zero, suc, _+_, _<_, _≤_, _-_}
 use native.Mathlib.Omega.{arith}
-use native.Mathlib.Numerals.{add-one}
 use lib.Dec.{ltb}
-use lib.ListN.{length, drop, drop-of-length-le}
-use lib.Seq.{drop-cons}
-use borrow.Author.Tests.{ltb-false}
+use lib.ListN.{length, drop, length-append, length-drop}
+use borrow.Author.Tests.{lt-ltb, le-ltb, ltb-true, ltb-false}
 use Rattle.terms.specs.declared.Row.{Row}
-use Rattle.laws.proofs.Bools.{and-first, and-second}
 use Rattle.sheets.specs.declared.Order.{Order}
+use Rattle.sheets.specs.declared.Sheet.{Sheet}
 use Rattle.sheets.specs.declared.Sheet.the-variants.{TooLong, WrongNames, TooMany, WrongLine, Rows}
-use Rattle.sheets.specs.Text.{NumberFound, Value, NoNumber, NameFound, Column, NoName, NamesFound, InOrder, NoNames, LineFound, Values, NoLine, numberAt, sees, endedBy, fieldAt, placed, withNumber, lineAt, seesKind, columnAt, namedBy, nameAt, withName, allDifferent, namesAt}
-use Rattle.sheets.specs.Sheet.{byLine, byNames, foundFrom, rowsFrom, sheetFound, sheetRows}
-use Rattle.sheets.specs.Writing.{decimal, nameBytes, column, name, value, namesLine, valuesLine, linesText, sheetText, IsOrder, SmallRow, SmallRows, none, one, SheetOf}
-use Rattle.sheets.proofs.Fields.{seen-within, seen-byte}
-use Rattle.sheets.proofs.Decimal.{number-written}
-use Rattle.sheets.proofs.Orders.{first-placed, second-placed, third-placed, fourth-placed, placed-small}
-use Rattle.sheets.proofs.Writing.{behind, written-read}
+use Rattle.sheets.specs.Text.{NamesFound, InOrder, NoNames, LineFound, Values, NoLine, lineAt, namesAt}
+use Rattle.sheets.specs.Sheet.{foundFrom, sheetFound, sheetRows}
+use Rattle.sheets.specs.Writing.{namesLine, valuesLine, linesText, sheetText, IsOrder, SmallRow, SmallRows, none, one, SheetOf}
+use Rattle.sheets.specs.Refused.{NamesOtherwise, LineOtherwise, GoodLines, WrongLineAt, LinesOver, FoundAs, OneAnswer}
+use Rattle.sheets.proofs.Writing.{names-read, line-read, lines-end, read-to}
+use Rattle.sheets.proofs.Standing.{line-there, names-there}
 
 module _ (text : List ℕ) where
-  seen : (at byte : ℕ) → sees text at byte ≡ true → drop at text ≡ byte ∷ drop (at + 1) text
-  seen at byte h =
-      drop-cons text at 0 (seen-within text at byte h)
-      ∙ ap (λ (b : ℕ). b ∷ drop (suc at) text) (seen-byte text at byte h)
-      ∙ ap (λ (i : ℕ). byte ∷ drop i text) (sym (add-one at))
+  -- the reader sees no names, and no line, where none begins
+  unseen-names : namesAt text 0 ≡ NoNames → NamesOtherwise text
+  unseen-names e order is b =
+      let r = names-read text order 0 (b .rest) is (b .split) in
+      let z : _≡_ {A = ℕ} 0 1 = cc in
+      absurd (omega arith)
 
-  -- a value with the byte behind it
-  record ValueThere (at byte v to : ℕ) : Type 0 where
-    small : v ≤ 65535
-    there : drop at text ≡ value v byte ++ drop to text
+  unseen-line : (order : Order) → IsOrder order → (at : ℕ) → lineAt text order at ≡ NoLine → LineOtherwise order (drop at text)
+  unseen-line order is at e row small b =
+      let r = line-read text order row at (b .rest) is small (b .split) in
+      let z : _≡_ {A = ℕ} 0 1 = cc in
+      absurd (omega arith)
 
-  value-there : (at byte v to : ℕ) → fieldAt text at byte ≡ Value v to → ValueThere at byte v to
-  unfolding fieldAt value
-  value-there at byte v to e = go (numberAt text at) refl e
+  -- something is left
+  within : (at : ℕ) → 1 ≤ length (drop at text) → ltb at (length text) ≡ true
+  within at h = lt-ltb at (length text) (omega (arith, length-drop at text))
+
+  -- where no further line may stand, what is left is a line too many, whatever it is
+  over-told : (order : Order) (k at : ℕ) → 1 ≤ length (drop at text) → foundFrom 0 text order k at ≡ TooMany
+  unfolding foundFrom
+  over-told order k at h = rw (within at h)
+
+  -- where one may stand, what is left is a wrong line, if no good line begins it
+  otherwise-told : (order : Order) → IsOrder order → (m k at : ℕ) → 1 ≤ length (drop at text) → LineOtherwise order (drop at text)
+      → foundFrom (suc m) text order k at ≡ WrongLine k
+  unfolding foundFrom
+  otherwise-told order is m k at h wrong = go (lineAt text order at) refl
     where
-      go₂ : (v′ to′ : ℕ) (t : Bool) → numberAt text at ≡ Value v′ to′ → sees text to′ byte ≡ t
-          → cond t (Value v′ (to′ + 1)) NoNumber ≡ Value v to → ValueThere at byte v to
-      go₂ v′ to′ true n s e =
-          let same : v′ ≡ v = cc in
-          let w = number-written at (drop at text) v′ to′ n in
-          let i : to′ + 1 ≡ to = cc in
-          let d : drop to′ text ≡ w .rest = ap (λ (k : ℕ). drop k text) (w .behind) ∙ behind text at (decimal v′) (w .rest) (w .split) in
-          let b : drop to′ text ≡ byte ∷ drop to text = seen to′ byte s ∙ ap (λ (k : ℕ). byte ∷ drop k text) i in
-          record {
-            small = omega (arith, w .small);
-            there =
-                w .split ∙ ap (λ (r : List ℕ). decimal v′ ++ r) (sym d ∙ b) ∙ ap (λ (x : ℕ). decimal x ++ (byte ∷ drop to text)) same
-                ∙ sym (append-assoc (decimal v) (byte ∷ []) (drop to text));
-          }
-      go₂ v′ to′ false n s e = let z : _≡_ {A = ℕ} 0 1 = cc in absurd (omega arith)
+      go : (line : LineFound) → lineAt text order at ≡ line → foundFrom (suc m) text order k at ≡ WrongLine k
+      go (Values row to) l =
+          let t = line-there text order is at row to l in
+          absurd (wrong row (t .small) (record { rest = drop to text; split = t .there }))
+      go NoLine l = rw (within at h, l)
 
-      go : (x : NumberFound) → numberAt text at ≡ x → endedBy text byte x ≡ Value v to → ValueThere at byte v to
-      go (Value v′ to′) n e = go₂ v′ to′ (sees text to′ byte) n refl e
-      go NoNumber n e = let z : _≡_ {A = ℕ} 0 1 = cc in absurd (omega arith)
-
-  -- a line of values
-  record Taken (x : NumberFound) (next : ℕ → ℕ → LineFound) (row : Row) (to : ℕ) : Type 0 where
-    v : ℕ
-    k : ℕ
-    is : x ≡ Value v k
-    goes : next v k ≡ Values row to
-
-  taken : (x : NumberFound) (next : ℕ → ℕ → LineFound) (row : Row) (to : ℕ) → withNumber x next ≡ Values row to → Taken x next row to
-  taken (Value v k) next row to e = record { v = v; k = k; is = refl; goes = e }
-  taken NoNumber next row to e = let z : _≡_ {A = ℕ} 0 1 = cc in absurd (omega arith)
-
-  abbrev after₃ : Order → ℕ → ℕ → ℕ → ℕ → ℕ → LineFound
-  after₃ order v₁ v₂ v₃ v₄ at₄ = Values (placed order v₁ v₂ v₃ v₄) at₄
-
-  abbrev after₂ : Order → ℕ → ℕ → ℕ → ℕ → LineFound
-  after₂ order v₁ v₂ v₃ at₃ = withNumber (fieldAt text at₃ 10) (after₃ order v₁ v₂ v₃)
-
-  abbrev after₁ : Order → ℕ → ℕ → ℕ → LineFound
-  after₁ order v₁ v₂ at₂ = withNumber (fieldAt text at₂ 32) (after₂ order v₁ v₂)
-
-  abbrev after₀ : Order → ℕ → ℕ → LineFound
-  after₀ order v₁ at₁ = withNumber (fieldAt text at₁ 32) (after₁ order v₁)
-
-  record LineThere (order : Order) (at : ℕ) (row : Row) (to : ℕ) : Type 0 where
-    small : SmallRow row
-    there : drop at text ≡ valuesLine order row ++ drop to text
-
-  -- the row that four values are stands there
-  row-there : (order : Order) → IsOrder order → (at v₁ v₂ v₃ v₄ k₁ k₂ k₃ k₄ : ℕ)
-      → ValueThere at 32 v₁ k₁ → ValueThere k₁ 32 v₂ k₂ → ValueThere k₂ 32 v₃ k₃ → ValueThere k₃ 10 v₄ k₄
-      → drop at text ≡ valuesLine order (placed order v₁ v₂ v₃ v₄) ++ drop k₄ text
-  unfolding valuesLine
-  row-there order is at v₁ v₂ v₃ v₄ k₁ k₂ k₃ k₄ f₁ f₂ f₃ f₄ =
-      f₁ .there
-      ∙ ap (λ (r : List ℕ). value v₁ 32 ++ r) (f₂ .there ∙ ap (λ (r : List ℕ). value v₂ 32 ++ r) (f₃ .there ∙ ap (λ (r : List ℕ). value v₃ 32 ++ r) (f₄ .there)))
-      ∙ rw (first-placed order is v₁ v₂ v₃ v₄, second-placed order is v₁ v₂ v₃ v₄, third-placed order is v₁ v₂ v₃ v₄, fourth-placed order is v₁ v₂ v₃ v₄)
-      (simp append-assoc)
-
-  line-made : (order : Order) → IsOrder order → (at v₁ v₂ v₃ v₄ k₁ k₂ k₃ k₄ : ℕ) (row : Row) (to : ℕ)
-      → ValueThere at 32 v₁ k₁ → ValueThere k₁ 32 v₂ k₂ → ValueThere k₂ 32 v₃ k₃ → ValueThere k₃ 10 v₄ k₄
-      → Values (placed order v₁ v₂ v₃ v₄) k₄ ≡ Values row to → LineThere order at row to
-  line-made order is at v₁ v₂ v₃ v₄ k₁ k₂ k₃ k₄ row to f₁ f₂ f₃ f₄ e =
-      let same : placed order v₁ v₂ v₃ v₄ ≡ row = cc in
-      let i : k₄ ≡ to = cc in
-      record {
-        small = rw same at (placed-small order v₁ v₂ v₃ v₄ (f₁ .small) (f₂ .small) (f₃ .small) (f₄ .small));
-        there =
-            row-there order is at v₁ v₂ v₃ v₄ k₁ k₂ k₃ k₄ f₁ f₂ f₃ f₄
-            ∙ ap (λ (r : Row). valuesLine order r ++ drop k₄ text) same ∙ ap (λ (j : ℕ). valuesLine order row ++ drop j text) i;
-      }
-
-  line-there : (order : Order) → IsOrder order → (at : ℕ) (row : Row) (to : ℕ) → lineAt text order at ≡ Values row to → LineThere order at row to
-  unfolding lineAt
-  line-there order is at row to e =
-      let t₁ = taken (fieldAt text at 32) (after₀ order) row to e in
-      let t₂ = taken (fieldAt text (t₁ .k) 32) (after₁ order (t₁ .v)) row to (t₁ .goes) in
-      let t₃ = taken (fieldAt text (t₂ .k) 32) (after₂ order (t₁ .v) (t₂ .v)) row to (t₂ .goes) in
-      let t₄ = taken (fieldAt text (t₃ .k) 10) (after₃ order (t₁ .v) (t₂ .v) (t₃ .v)) row to (t₃ .goes) in
-      line-made order is at (t₁ .v) (t₂ .v) (t₃ .v) (t₄ .v) (t₁ .k) (t₂ .k) (t₃ .k) (t₄ .k) row to
-      (value-there at 32 (t₁ .v) (t₁ .k) (t₁ .is))
-      (value-there (t₁ .k) 32 (t₂ .v) (t₂ .k) (t₂ .is))
-      (value-there (t₂ .k) 32 (t₃ .v) (t₃ .k) (t₃ .is))
-      (value-there (t₃ .k) 10 (t₄ .v) (t₄ .k) (t₄ .is))
-      (t₄ .goes)
-
-  -- a name, and with the byte behind it
-  record ColumnThere (at n to : ℕ) : Type 0 where
-    column : n < 4
-    there : drop at text ≡ nameBytes n ++ drop to text
-
-  column-made : (at m i n to : ℕ) → m < 4 → drop at text ≡ nameBytes m ++ drop i text → Column m i ≡ Column n to → ColumnThere at n to
-  column-made at m i n to h d e =
-      let same : m ≡ n = cc in
-      let j : i ≡ to = cc in
-      record { column = omega arith; there = d ∙ ap (λ (x : ℕ). nameBytes x ++ drop i text) same ∙ ap (λ (x : ℕ). nameBytes n ++ drop x text) j }
-
-  kind-seen : (at : ℕ) → seesKind text at ≡ true → drop at text ≡ nameBytes 0 ++ drop (at + 4) text
-  unfolding seesKind nameBytes
-  kind-seen at h =
-      let s₀ = sees text at 107 in
-      let s₁ = sees text (at + 1) 105 in
-      let s₂ = sees text (at + 2) 110 in
-      let s₃ = sees text (at + 3) 100 in
-      let h₁ : s₁ && (s₂ && s₃) ≡ true = and-second s₀ (s₁ && (s₂ && s₃)) h in
-      let h₂ : s₂ && s₃ ≡ true = and-second s₁ (s₂ && s₃) h₁ in
-      let next : (i j : ℕ) → i + 1 ≡ j → (x : ℕ) → sees text i x ≡ true → drop i text ≡ x ∷ drop j text =
-      λ i j e x s. seen i x s ∙ ap (λ (y : ℕ). x ∷ drop y text) e in
-      let e₀ : drop at text ≡ 107 ∷ drop (at + 1) text = next at (at + 1) refl 107 (and-first s₀ (s₁ && (s₂ && s₃)) h) in
-      let e₁ : drop (at + 1) text ≡ 105 ∷ drop (at + 2) text = next (at + 1) (at + 2) (omega arith) 105 (and-first s₁ (s₂ && s₃) h₁) in
-      let e₂ : drop (at + 2) text ≡ 110 ∷ drop (at + 3) text = next (at + 2) (at + 3) (omega arith) 110 (and-first s₂ s₃ h₂) in
-      let e₃ : drop (at + 3) text ≡ 100 ∷ drop (at + 4) text = next (at + 3) (at + 4) (omega arith) 100 (and-second s₂ s₃ h₂) in
-      cc
-
-  column-there : (at n to : ℕ) → columnAt text at ≡ Column n to → ColumnThere at n to
-  unfolding columnAt nameBytes
-  column-there at n to e = go (sees text at 97) (sees text at 98) (sees text at 99) (seesKind text at) refl refl refl refl e
-    where
-      go : (t₁ t₂ t₃ t₀ : Bool) → sees text at 97 ≡ t₁ → sees text at 98 ≡ t₂ → sees text at 99 ≡ t₃ → seesKind text at ≡ t₀
-          → cond t₁ (Column 1 (at + 1)) (cond t₂ (Column 2 (at + 1)) (cond t₃ (Column 3 (at + 1)) (cond t₀ (Column 0 (at + 4)) NoName)))
-          ≡ Column n to
-          → ColumnThere at n to
-      go true t₂ t₃ t₀ s₁ s₂ s₃ s₀ e = column-made at 1 (at + 1) n to (omega arith) (seen at 97 s₁) e
-      go false true t₃ t₀ s₁ s₂ s₃ s₀ e = column-made at 2 (at + 1) n to (omega arith) (seen at 98 s₂) e
-      go false false true t₀ s₁ s₂ s₃ s₀ e = column-made at 3 (at + 1) n to (omega arith) (seen at 99 s₃) e
-      go false false false true s₁ s₂ s₃ s₀ e = column-made at 0 (at + 4) n to (omega arith) (kind-seen at s₀) e
-      go false false false false s₁ s₂ s₃ s₀ e = let z : _≡_ {A = ℕ} 0 1 = cc in absurd (omega arith)
-
-  record NameThere (at byte n to : ℕ) : Type 0 where
-    column : n < 4
-    there : drop at text ≡ name n byte ++ drop to text
-
-  name-there : (at byte n to : ℕ) → nameAt text at byte ≡ Column n to → NameThere at byte n to
-  unfolding nameAt name
-  name-there at byte n to e = go (columnAt text at) refl e
-    where
-      go₂ : (n′ to′ : ℕ) (t : Bool) → columnAt text at ≡ Column n′ to′ → sees text to′ byte ≡ t
-          → cond t (Column n′ (to′ + 1)) NoName ≡ Column n to → NameThere at byte n to
-      go₂ n′ to′ true x s e =
-          let same : n′ ≡ n = cc in
-          let w = column-there at n′ to′ x in
-          let i : to′ + 1 ≡ to = cc in
-          let b : drop to′ text ≡ byte ∷ drop to text = seen to′ byte s ∙ ap (λ (k : ℕ). byte ∷ drop k text) i in
-          record {
-            column = omega (arith, w .column);
-            there =
-                w .there ∙ ap (λ (r : List ℕ). nameBytes n′ ++ r) b ∙ ap (λ (x : ℕ). nameBytes x ++ (byte ∷ drop to text)) same
-                ∙ sym (append-assoc (nameBytes n) (byte ∷ []) (drop to text));
-          }
-      go₂ n′ to′ false x s e = let z : _≡_ {A = ℕ} 0 1 = cc in absurd (omega arith)
-
-      go : (x : NameFound) → columnAt text at ≡ x → namedBy text byte x ≡ Column n to → NameThere at byte n to
-      go (Column n′ to′) x e = go₂ n′ to′ (sees text to′ byte) x refl e
-      go NoName x e = let z : _≡_ {A = ℕ} 0 1 = cc in absurd (omega arith)
-
-  -- the line of names
-  record Named (x : NameFound) (next : ℕ → ℕ → NamesFound) (order : Order) (to : ℕ) : Type 0 where
-    n : ℕ
-    k : ℕ
-    is : x ≡ Column n k
-    goes : next n k ≡ InOrder order to
-
-  named : (x : NameFound) (next : ℕ → ℕ → NamesFound) (order : Order) (to : ℕ) → withName x next ≡ InOrder order to → Named x next order to
-  named (Column n k) next order to e = record { n = n; k = k; is = refl; goes = e }
-  named NoName next order to e = let z : _≡_ {A = ℕ} 0 1 = cc in absurd (omega arith)
-
-  abbrev columns : ℕ → ℕ → ℕ → ℕ → Order
-  columns n₁ n₂ n₃ n₄ = record { first = n₁; second = n₂; third = n₃; fourth = n₄ }
-
-  abbrev behind₃ : ℕ → ℕ → ℕ → ℕ → ℕ → NamesFound
-  behind₃ n₁ n₂ n₃ n₄ at₄ = cond (allDifferent n₁ n₂ n₃ n₄) (InOrder (columns n₁ n₂ n₃ n₄) at₄) NoNames
-
-  abbrev behind₂ : ℕ → ℕ → ℕ → ℕ → NamesFound
-  behind₂ n₁ n₂ n₃ at₃ = withName (nameAt text at₃ 10) (behind₃ n₁ n₂ n₃)
-
-  abbrev behind₁ : ℕ → ℕ → ℕ → NamesFound
-  behind₁ n₁ n₂ at₂ = withName (nameAt text at₂ 32) (behind₂ n₁ n₂)
-
-  abbrev behind₀ : ℕ → ℕ → NamesFound
-  behind₀ n₁ at₁ = withName (nameAt text at₁ 32) (behind₁ n₁)
-
-  record NamesThere (at : ℕ) (order : Order) (to : ℕ) : Type 0 where
-    order-is : IsOrder order
-    there : drop at text ≡ namesLine order ++ drop to text
-
-  names-made : (at n₁ n₂ n₃ n₄ k₁ k₂ k₃ k₄ : ℕ) (order : Order) (to : ℕ)
-      → NameThere at 32 n₁ k₁ → NameThere k₁ 32 n₂ k₂ → NameThere k₂ 32 n₃ k₃ → NameThere k₃ 10 n₄ k₄
-      → behind₃ n₁ n₂ n₃ n₄ k₄ ≡ InOrder order to → NamesThere at order to
-  unfolding namesLine
-  names-made at n₁ n₂ n₃ n₄ k₁ k₂ k₃ k₄ order to f₁ f₂ f₃ f₄ e = go (allDifferent n₁ n₂ n₃ n₄) refl e
-    where
-      go : (t : Bool) → allDifferent n₁ n₂ n₃ n₄ ≡ t → cond t (InOrder (columns n₁ n₂ n₃ n₄) k₄) NoNames ≡ InOrder order to → NamesThere at order to
-      go true d e =
-          let same : columns n₁ n₂ n₃ n₄ ≡ order = cc in
-          let i : k₄ ≡ to = cc in
-          let o : IsOrder (columns n₁ n₂ n₃ n₄) =
-          record { first-is = f₁ .column; second-is = f₂ .column; third-is = f₃ .column; fourth-is = f₄ .column; different = d } in
-          let w : drop at text ≡ namesLine (columns n₁ n₂ n₃ n₄) ++ drop k₄ text =
-          f₁ .there
-          ∙ ap (λ (r : List ℕ). name n₁ 32 ++ r) (f₂ .there ∙ ap (λ (r : List ℕ). name n₂ 32 ++ r) (f₃ .there ∙ ap (λ (r : List ℕ). name n₃ 32 ++ r) (f₄ .there)))
-          ∙ simp append-assoc in
-          record {
-            order-is = rw same at o;
-            there = w ∙ ap (λ (r : Order). namesLine r ++ drop k₄ text) same ∙ ap (λ (j : ℕ). namesLine order ++ drop j text) i;
-          }
-      go false d e = let z : _≡_ {A = ℕ} 0 1 = cc in absurd (omega arith)
-
-  names-there : (at : ℕ) (order : Order) (to : ℕ) → namesAt text at ≡ InOrder order to → NamesThere at order to
-  unfolding namesAt
-  names-there at order to e =
-      let t₁ = named (nameAt text at 32) behind₀ order to e in
-      let t₂ = named (nameAt text (t₁ .k) 32) (behind₁ (t₁ .n)) order to (t₁ .goes) in
-      let t₃ = named (nameAt text (t₂ .k) 32) (behind₂ (t₁ .n) (t₂ .n)) order to (t₂ .goes) in
-      let t₄ = named (nameAt text (t₃ .k) 10) (behind₃ (t₁ .n) (t₂ .n) (t₃ .n)) order to (t₃ .goes) in
-      names-made at (t₁ .n) (t₂ .n) (t₃ .n) (t₄ .n) (t₁ .k) (t₂ .k) (t₃ .k) (t₄ .k) order to
-      (name-there at 32 (t₁ .n) (t₁ .k) (t₁ .is))
-      (name-there (t₁ .k) 32 (t₂ .n) (t₂ .k) (t₂ .is))
-      (name-there (t₂ .k) 32 (t₃ .n) (t₃ .k) (t₃ .is))
-      (name-there (t₃ .k) 10 (t₄ .n) (t₄ .k) (t₄ .is))
-      (t₄ .goes)
-
-  -- all lines
-  record LinesThere (order : Order) (at k n : ℕ) (rows : List Row) (m : ℕ) : Type 0 where
-    small : SmallRows rows
-    count : n ≡ k + length rows
-    few : length rows ≤ m
-    there : drop at text ≡ linesText order rows
-
-  lines-past : (order : Order) (at k n m : ℕ) → ltb at (length text) ≡ false → Rows k ≡ Rows n → LinesThere order at k n [] m
-  unfolding linesText
-  lines-past order at k n m p e =
-      let same : k ≡ n = cc in
-      record { small = none; count = omega arith; few = omega arith; there = drop-of-length-le text (ltb-false at (length text) p) }
-
-  lines-more : (order : Order) (at k n m : ℕ) (row : Row) (to : ℕ) (rows : List Row) → LineThere order at row to
-      → LinesThere order to (k + 1) n rows m → LinesThere order at k n (row ∷ rows) (suc m)
-  unfolding linesText
-  lines-more order at k n m row to rows f g =
-      record {
-        small = one (f .small) (g .small);
-        count = omega (arith, g .count);
-        few = omega (arith, g .few);
-        there = f .there ∙ ap (λ (r : List ℕ). valuesLine order row ++ r) (g .there);
-      }
-
-  lines-there : (order : Order) → IsOrder order → (m k at n : ℕ) → foundFrom m text order k at ≡ Rows n → LinesThere order at k n (rowsFrom m text order at) m
-  unfolding foundFrom rowsFrom
-  lines-there order is zero k at n e = go (ltb at (length text)) refl e
-    where
-      go : (t : Bool) → ltb at (length text) ≡ t → cond t TooMany (Rows k) ≡ Rows n → LinesThere order at k n [] 0
-      go true p e = let z : _≡_ {A = ℕ} 0 1 = cc in absurd (omega arith)
-      go false p e = lines-past order at k n 0 p e
-  lines-there order is (suc m) k at n e = go (ltb at (length text)) (lineAt text order at) refl refl e (λ next f. lines-there order is m (k + 1) next n f)
-    where
-      go : (t : Bool) (line : LineFound) → ltb at (length text) ≡ t → lineAt text order at ≡ line
-          → cond t (byLine line (λ row next. foundFrom m text order (k + 1) next) (WrongLine k)) (Rows k) ≡ Rows n
-          → ((next : ℕ) → foundFrom m text order (k + 1) next ≡ Rows n → LinesThere order next (k + 1) n (rowsFrom m text order next) m)
-          → LinesThere order at k n (cond t (byLine line (λ row next. row ∷ rowsFrom m text order next) []) []) (suc m)
-      go true (Values row to) p l e later = lines-more order at k n m row to (rowsFrom m text order to) (line-there order is at row to l) (later to e)
-      go true NoLine p l e later = let z : _≡_ {A = ℕ} 0 1 = cc in absurd (omega arith)
-      go false line p l e later = lines-past order at k n (suc m) p e
-
--- an accepted text is the writing of the rows that are read of it, in one of the 24 orders of the names
-pub record Accepted (text : List ℕ) (n : ℕ) : Type 0 where
-  pub order : Order
-  pub order-is : IsOrder order
-  pub small : SmallRows (sheetRows text)
-  pub count : length (sheetRows text) ≡ n
-  pub few : n ≤ 512
-  pub short : length text ≤ 16384
-  pub written : text ≡ sheetText order (sheetRows text)
-
-accepted : (text : List ℕ) (n : ℕ) (order : Order) (to : ℕ) → ltb 16384 (length text) ≡ false → namesAt text 0 ≡ InOrder order to
-    → NamesThere text 0 order to → LinesThere text order to 0 n (rowsFrom 512 text order to) 512 → Accepted text n
-unfolding sheetText sheetRows
-accepted text n order to p q f g =
-    let rows : sheetRows text ≡ rowsFrom 512 text order to = rw (p, q) in
-    record {
-      order = order;
-      order-is = f .order-is;
-      small = rw rows (g .small);
-      count = rw rows (omega (arith, g .count));
-      few = omega (arith, g .count, g .few);
-      short = ltb-false 16384 (length text) p;
-      written = f .there ∙ ap (λ (r : List ℕ). namesLine order ++ r) (g .there ∙ ap (linesText order) (sym rows));
-    }
-
-pub read-written : (text : List ℕ) (n : ℕ) → sheetFound text ≡ Rows n → Accepted text n
+-- Each answer is found of the texts that it is given for.
+long-found : (text : List ℕ) → 16384 < length text → sheetFound text ≡ TooLong
 unfolding sheetFound
-read-written text n e = go (ltb 16384 (length text)) (namesAt text 0) refl refl e
-  where
-    go : (t : Bool) (names : NamesFound) → ltb 16384 (length text) ≡ t → namesAt text 0 ≡ names
-        → cond t TooLong (byNames names (λ order at. foundFrom 512 text order 0 at) WrongNames) ≡ Rows n → Accepted text n
-    go true names p q e = let z : _≡_ {A = ℕ} 0 1 = cc in absurd (omega arith)
-    go false NoNames p q e = let z : _≡_ {A = ℕ} 0 1 = cc in absurd (omega arith)
-    go false (InOrder order to) p q e =
-        let f = names-there text 0 order to q in
-        let g = lines-there text order (f .order-is) 512 0 to n e in
-        accepted text n order to p q f g
+long-found text h = rw (lt-ltb 16384 (length text) h)
 
--- the theorem in one statement: a text is accepted, and read as these rows, exactly if it is a sheet of these rows
+names-found : (text : List ℕ) → length text ≤ 16384 → NamesOtherwise text → sheetFound text ≡ WrongNames
+unfolding sheetFound
+names-found text short wrong = go (namesAt text 0) refl
+  where
+    go : (names : NamesFound) → namesAt text 0 ≡ names → sheetFound text ≡ WrongNames
+    go (InOrder order to) n =
+        let t = names-there text 0 order to n in
+        absurd (wrong order (t .order-is) (record { rest = drop to text; split = t .there }))
+    go NoNames n = rw (le-ltb 16384 (length text) short, n)
+
+line-found : (text : List ℕ) (k : ℕ) → length text ≤ 16384 → WrongLineAt k text → sheetFound text ≡ WrongLine k
+line-found text k short w =
+    let g = w .lines in
+    let all : 512 ≡ length (g .rows) + suc (511 - k) = omega (arith, g .count, w .below) in
+    let r = read-to text (w .order) (g .rows) (suc (511 - k)) (w .left) (g .order-is) (g .small) all short (g .written) in
+    r .found
+    ∙ otherwise-told text (w .order) (g .order-is) (511 - k) (length (g .rows)) (r .to) (rw (r .there) (g .more)) (rw (r .there) (w .otherwise))
+    ∙ ap WrongLine (g .count)
+
+over-found : (text : List ℕ) → length text ≤ 16384 → LinesOver text → sheetFound text ≡ TooMany
+over-found text short w =
+    let g = w .lines in
+    let r = read-to text (w .order) (g .rows) 0 (w .left) (g .order-is) (g .small) (omega (arith, g .count)) short (g .written) in
+    r .found ∙ over-told text (w .order) (length (g .rows)) (r .to) (rw (r .there) (g .more))
+
 abbrev pub ReadAs : List ℕ → List Row → Type 0
 ReadAs text rows = (sheetFound text ≡ Rows (length rows)) × (sheetRows text ≡ rows)
 
-pub read-exactly : (text : List ℕ) (rows : List Row) → (SheetOf text rows → ReadAs text rows) × (ReadAs text rows → SheetOf text rows)
-read-exactly text rows = (there, back)
-  where
-    there : SheetOf text rows → ReadAs text rows
-    there s =
-        let r = written-read (s .order) rows (s .order-is) (s .small) (s .few) (rw (s .written) at (s .short)) in
-        rw (s .written) r
+rows-found : (text : List ℕ) (rows : List Row) → SheetOf text rows → ReadAs text rows
+rows-found text rows s =
+    let left = 512 - length rows in
+    let whole : text ≡ sheetText (s .order) rows ++ [] = s .written ∙ sym (append-nil (sheetText (s .order) rows)) in
+    let r = read-to text (s .order) rows left [] (s .order-is) (s .small) (omega (arith, s .few)) (s .short) whole in
+    let e = lines-end text (s .order) left (length rows) (r .to) (r .there) in
+    (r .found ∙ e .0, r .read ∙ ap (λ (l : List Row). rows ++ l) (e .1) ∙ append-nil rows)
 
+given-found : (text : List ℕ) (s : Sheet) → FoundAs s text → sheetFound text ≡ s
+given-found text TooLong g = long-found text g
+given-found text WrongNames g = names-found text (g .0) (g .1)
+given-found text (WrongLine k) g = line-found text k (g .0) (g .1)
+given-found text TooMany g = over-found text (g .0) (g .1)
+given-found text (Rows n) g = rows-found text (g .rows) (g .sheet) .0 ∙ ap Rows (g .count)
+
+-- one good line more
+lines-last : (order : Order) (rows : List Row) (row : Row) → linesText order (rows ++ (row ∷ [])) ≡ linesText order rows ++ valuesLine order row
+unfolding linesText
+lines-last order [] row = append-nil (valuesLine order row)
+lines-last order (r ∷ rows) row =
+    ap (λ (l : List ℕ). valuesLine order r ++ l) (lines-last order rows row) ∙ sym (append-assoc (valuesLine order r) (linesText order rows) (valuesLine order row))
+
+small-last : {rows : List Row} {row : Row} → SmallRows rows → SmallRow row → SmallRows (rows ++ (row ∷ []))
+small-last none s = one s none
+small-last (one r more) s = one r (small-last more s)
+
+-- An answer is given for every text: the lines are gone through from the first to the last.
+record Given (text : List ℕ) : Type 0 where
+  answer : Sheet
+  given : FoundAs answer text
+
+module _ (text : List ℕ) (short : length text ≤ 16384) (order : Order) (is : IsOrder order) where
+  -- at a place before which the names and these rows are written
+  module _ (rows : List Row) (small : SmallRows rows) (at : ℕ) (written : text ≡ sheetText order rows ++ drop at text) where
+    -- nothing is left; a line too many; a line otherwise; a good line
+    ended : length rows ≤ 512 → drop at text ≡ [] → Given text
+    ended few e =
+        let whole : text ≡ sheetText order rows = written ∙ ap (λ (l : List ℕ). sheetText order rows ++ l) e ∙ append-nil (sheetText order rows) in
+        let s : SheetOf text rows = record { order = order; order-is = is; small = small; few = few; short = short; written = whole } in
+        record { answer = Rows (length rows); given = record { rows = rows; count = refl; sheet = s } }
+
+    good : (k : ℕ) → length rows ≡ k → 1 ≤ length (drop at text) → GoodLines k order (drop at text) text
+    good k c h = record { order-is = is; rows = rows; small = small; count = c; more = h; written = written }
+
+    over : length rows ≡ 512 → 1 ≤ length (drop at text) → Given text
+    over all h = record { answer = TooMany; given = (short, record { order = order; left = drop at text; lines = good 512 all h }) }
+
+    otherwise : length rows < 512 → 1 ≤ length (drop at text) → lineAt text order at ≡ NoLine → Given text
+    otherwise few h l =
+        let w : WrongLineAt (length rows) text =
+        record { order = order; left = drop at text; lines = good (length rows) refl h; below = few; otherwise = unseen-line text order is at l } in
+        record { answer = WrongLine (length rows); given = (short, w) }
+
+    longer : (row : Row) (to : ℕ) → drop at text ≡ valuesLine order row ++ drop to text → text ≡ sheetText order (rows ++ (row ∷ [])) ++ drop to text
+    unfolding sheetText
+    longer row to there = written ∙ rw (there, lines-last order rows row) (simp append-assoc)
+
+  -- the lines from there on, where m more may stand
+  lines-given : (m : ℕ) (rows : List Row) → SmallRows rows → length rows + m ≡ 512 → (at : ℕ) → text ≡ sheetText order rows ++ drop at text → Given text
+  lines-given zero rows small all at written = go (drop at text) refl
+    where
+      go : (left : List ℕ) → drop at text ≡ left → Given text
+      go [] e = ended rows small at written (omega arith) e
+      go (x ∷ left) e = let l : length (drop at text) ≡ suc (length left) = ap length e in over rows small at written (omega arith) (omega arith)
+  lines-given (suc m) rows small all at written = go (drop at text) refl (lineAt text order at) refl (lines-given m)
+    where
+      go : (left : List ℕ) → drop at text ≡ left → (line : LineFound) → lineAt text order at ≡ line
+          → ((rows : List Row) → SmallRows rows → length rows + m ≡ 512 → (at : ℕ) → text ≡ sheetText order rows ++ drop at text → Given text)
+          → Given text
+      go [] e line l later = ended rows small at written (omega arith) e
+      go (x ∷ left) e NoLine l later =
+          let n : length (drop at text) ≡ suc (length left) = ap length e in otherwise rows small at written (omega arith) (omega arith) l
+      go (x ∷ left) e (Values row to) l later =
+          let t = line-there text order is at row to l in
+          later (rows ++ (row ∷ [])) (small-last small (t .small)) (omega (arith, length-append rows (row ∷ []))) to
+          (longer rows small at written row to (t .there))
+
+given : (text : List ℕ) → Given text
+unfolding sheetText linesText
+given text = go (ltb 16384 (length text)) (namesAt text 0) refl refl
+  where
+    go : (t : Bool) (names : NamesFound) → ltb 16384 (length text) ≡ t → namesAt text 0 ≡ names → Given text
+    go true names p n = record { answer = TooLong; given = ltb-true 16384 (length text) p }
+    go false NoNames p n = record { answer = WrongNames; given = (ltb-false 16384 (length text) p, unseen-names text n) }
+    go false (InOrder order to) p n =
+        let t = names-there text 0 order to n in
+        lines-given text (ltb-false 16384 (length text) p) order (t .order-is) 512 [] none (omega arith) to
+        (t .there ∙ ap (λ (l : List ℕ). l ++ drop to text) (sym (append-nil (namesLine order))))
+
+-- Every text is one of the five, and only one.
+pub one-answer : (text : List ℕ) → OneAnswer text
+one-answer text =
+    let g = given text in
+    record { answer = g .answer; given = g .given; only = λ other o. sym (given-found text other o) ∙ given-found text (g .answer) (g .given) }
+
+-- Reading finds an answer exactly of the texts that it is given for.
+pub found-exactly : (text : List ℕ) (s : Sheet) → (sheetFound text ≡ s → FoundAs s text) × (FoundAs s text → sheetFound text ≡ s)
+found-exactly text s = (there, given-found text s)
+  where
+    there : sheetFound text ≡ s → FoundAs s text
+    there e =
+        let g = given text in
+        let same : g .answer ≡ s = sym (given-found text (g .answer) (g .given)) ∙ e in
+        rw same at (g .given)
+
+-- A text is accepted, and read as these rows, exactly if it is a sheet of these rows.
+pub read-exactly : (text : List ℕ) (rows : List Row) → (SheetOf text rows → ReadAs text rows) × (ReadAs text rows → SheetOf text rows)
+read-exactly text rows = (rows-found text rows, back)
+  where
     back : ReadAs text rows → SheetOf text rows
     back r =
-        let a = read-written text (length rows) (r .0) in
-        record {
-          order = a .order;
-          order-is = a .order-is;
-          small = rw (r .1) at (a .small);
-          few = a .few;
-          short = a .short;
-          written = a .written ∙ ap (sheetText (a .order)) (r .1);
-        }
+        let f = found-exactly text (Rows (length rows)) .0 (r .0) in
+        let same : f .rows ≡ rows = sym (rows-found text (f .rows) (f .sheet) .1) ∙ r .1 in
+        rw same at (f .sheet)
+
+-- The rows that were read are those of a sheet, and as many as were found.
+pub sheet-found : (text : List ℕ) (n : ℕ) → sheetFound text ≡ Rows n → (SheetOf text (sheetRows text)) × (length (sheetRows text) ≡ n)
+sheet-found text n e =
+    let f = found-exactly text (Rows n) .0 e in
+    let same : sheetRows text ≡ f .rows = rows-found text (f .rows) (f .sheet) .1 in
+    (rw same (f .sheet), rw same (f .count))
