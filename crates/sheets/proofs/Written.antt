@@ -13,7 +13,7 @@ use Rattle.sheets.specs.declared.Order.{Order}
 use Rattle.sheets.specs.declared.Sheet.{Sheet}
 use Rattle.sheets.specs.declared.Sheet.the-variants.{TooLong, WrongNames, TooMany, WrongLine, Rows}
 use Rattle.sheets.specs.Text.{NamesFound, InOrder, NoNames, LineFound, Values, NoLine, lineAt, namesAt}
-use Rattle.sheets.specs.Sheet.{foundFrom, sheetFound, sheetRows}
+use Rattle.sheets.specs.Sheet.{foundFrom, sheetFound, sheetRows, ReadAs}
 use Rattle.sheets.specs.Writing.{namesLine, valuesLine, linesText, sheetText, IsOrder, SmallRow, SmallRows, none, one, SheetOf}
 use Rattle.sheets.specs.Refused.{NamesOtherwise, LineOtherwise, GoodLines, WrongLineAt, LinesOver, FoundAs, OneAnswer}
 use Rattle.sheets.proofs.Writing.{names-read, line-read, lines-end, read-to}
@@ -83,9 +83,6 @@ over-found text short w =
     let g = w .lines in
     let r = read-to text (w .order) (g .rows) 0 (w .left) (g .order-is) (g .small) (omega (arith, g .count)) short (g .written) in
     r .found ∙ over-told text (w .order) (length (g .rows)) (r .to) (rw (r .there) (g .more))
-
-abbrev pub ReadAs : List ℕ → List Row → Type 0
-ReadAs text rows = (sheetFound text ≡ Rows (length rows)) × (sheetRows text ≡ rows)
 
 rows-found : (text : List ℕ) (rows : List Row) → SheetOf text rows → ReadAs text rows
 rows-found text rows s =

@@ -1,4 +1,5 @@
 -- What a sheet is (document 01, "Sheet and program"): a line of names, then at most 512 lines of values.
+use mathlib.Core.Path.{_≡_}
 use mathlib.Core.Bool.{cond}
 use mathlib.Core.List.{List, [], _∷_}
 use Prim.Native.Nat.{ℕ, zero, suc, _+_}
@@ -41,3 +42,7 @@ unfoldable pub sheetRows : List ℕ → List Row
 sheetRows text =
     cond (ltb 16384 (length text)) []
     (byNames (namesAt text 0) (λ order at. rowsFrom 512 text order at) [])
+
+-- A text is accepted, and read as these rows.
+abbrev pub ReadAs : List ℕ → List Row → Type 0
+ReadAs text rows = (sheetFound text ≡ Rows (length rows)) × (sheetRows text ≡ rows)
