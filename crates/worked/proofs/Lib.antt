@@ -1,8 +1,9 @@
 pub mod Holding
 pub mod ByClasses
+pub mod Program
 pub mod WorkedOut
 pub mod OneWord
 pub mod AnyWidth
 pub mod Worked
 pub mod SheetsSolved
-pub mod Program
+pub mod FirstSheet
