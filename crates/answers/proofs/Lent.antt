@@ -1,6 +1,8 @@
 -- The call on lent buffers: with room, an accepted table is never refused and its record is the table's; for outcome 2 the rows stand
--- at the beginning of the answer table. So demands 2 and 3 are about the call. Assumes nothing.
+-- at the beginning of the answer table. So demands 2 and 3 are about the call; and outcomes 0 to 2 are for accepted tables alone. Assumes
+-- nothing.
 use mathlib.Core.Path.{_≡_, refl, sym, _∙_, ap}
+use mathlib.Core.Bool.{Bool, true, false}
 use mathlib.Core.List.{List, [], _∷_}
 use Prim.Native.Nat.{ℕ, _*_, _≤_}
 use native.Mathlib.Omega.{arith}
@@ -8,10 +10,11 @@ use lib.ListN.{length, take, drop, replicate}
 use lib.Seq.{take-at, take-length}
 use borrow.Author.Tests.{le-ltb, lt-ltb}
 use Rattle.terms.specs.declared.Fault.the-variants.{Accepted}
-use Rattle.terms.specs.Calls.{stopAt}
-use Rattle.terms.specs.Faults.{firstFault}
+use Rattle.terms.specs.Acceptance.{Exactly}
+use Rattle.terms.specs.Calls.{faultNumber, stopAt}
+use Rattle.terms.specs.Faults.{firstFault, isAccepted}
 use Rattle.terms.specs.Table.{rowsOf, bitsOf, satisfies}
-use Rattle.terms.proofs.AcceptedTable.{accepted-table}
+use Rattle.terms.proofs.AcceptedTable.{accepted-table, fault-none, fault-high}
 use Rattle.laws.proofs.Buffers.{overwrite-fits}
 use Rattle.terms.proofs.Faults.{totals-small}
 use Rattle.answers.specs.declared.AnswerRow.{AnswerRow}
@@ -53,3 +56,19 @@ module _ (table : List ℕ) (accepted : firstFault table ≡ Accepted) (old work
       rw (call-record, e)
       (ap (λ (l : List ℕ). take (answerRecord (rowsOf table) .pieces * 4) l) (overwrite-fits (answerNumbers (solvedRows (rowsOf table))) old few-numbers)
       ∙ take-at (answerNumbers (solvedRows (rowsOf table))) (drop (length (answerNumbers (solvedRows (rowsOf table)))) old) (answerRecord (rowsOf table) .pieces * 4) (sym count))
+
+-- A solve with room ends with outcome 0, 1 or 2 exactly if the table is accepted.
+pub solve-accepts : (table : List ℕ) (answerRoom workRoom : ℕ) → 16384 ≤ answerRoom → 16384 ≤ workRoom
+    → Exactly (solveRecord table answerRoom workRoom .outcome ≤ 2) (firstFault table ≡ Accepted)
+unfolding solveRecord stopAt
+solve-accepts table answerRoom workRoom room memory =
+    record {
+      to = λ l. fault-none (firstFault table) (go (isAccepted (firstFault table)) refl l);
+      of = λ e. rw (le-ltb answerRoom 16384 room, le-ltb workRoom 16384 memory, e) (demand-3 table e .one-of-three);
+    }
+  where
+    go : (b : Bool) → isAccepted (firstFault table) ≡ b → solveRecord table answerRoom workRoom .outcome ≤ 2 → b ≡ true
+    go true h l = refl
+    go false h l =
+        let high : faultNumber (firstFault table) ≤ 2 = rw (le-ltb answerRoom 16384 room, le-ltb workRoom 16384 memory, h) at l in
+        absurd (omega (arith, fault-high (firstFault table) h))

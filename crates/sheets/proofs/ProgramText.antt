@@ -15,13 +15,14 @@ use Rattle.sheets.specs.Writing.{SheetOf}
 use Rattle.terms.specs.Table.{rowNumbers}
 use Rattle.sheets.specs.Call.{sheetRecord}
 use Rattle.sheets.specs.Print.{recordText, answerText}
+use Rattle.terms.proofs.AcceptedTable.{fault-high}
 use Rattle.terms.proofs.RowNumbers.{rows-written}
 use Rattle.sheets.proofs.Written.{read-exactly}
 use Rattle.answers.specs.Answer.{answerNumbers}
 use Rattle.answers.specs.Solve.{solvedRows, answerRecord, solveRecord}
 use Rattle.answers.proofs.Lent.{call-record}
 use Rattle.sheets.specs.Program.{textRecord, programRecord, programText}
-use Rattle.sheets.proofs.Solving.{sheet-not-2, fault-not-2}
+use Rattle.sheets.proofs.Solving.{sheet-not-2}
 
 -- no sheet: the reader's refusal
 pub prints-refusal : (text : List ℕ) → (sheetRecord text 2048 .outcome ≡ 0 → ⊥) → programText text ≡ recordText (sheetRecord text 2048)
@@ -40,7 +41,8 @@ module _ (text : List ℕ) (rows : List Row) (sheet : SheetOf text rows) where
   unfolding programText solveRecord stopAt
   prints-fault h =
       let f : programRecord text ≡ faultRecord (firstFault (rowNumbers rows)) = sheet-record ∙ rw h refl in
-      rw (f, ne-eqb (faultRecord (firstFault (rowNumbers rows)) .outcome) 2 (fault-not-2 (firstFault (rowNumbers rows))), append-nil) refl
+      let high = fault-high (firstFault (rowNumbers rows)) h in
+      rw (f, ne-eqb (faultRecord (firstFault (rowNumbers rows)) .outcome) 2 (λ e. omega (arith, e)), append-nil) refl
 
   -- a sheet whose table is accepted: its answer
   pub prints-answer : firstFault (rowNumbers rows) ≡ Accepted

@@ -1,7 +1,7 @@
 -- What the record and the answer table of a text are, for each way in which solving it ends; how many rows the program's answer has.
 -- Assumes nothing.
 use mathlib.Core.Path.{_≡_, refl, sym, _∙_, ap, ap₂}
-use mathlib.Core.Bool.{Bool, true, false, not, cond}
+use mathlib.Core.Bool.{Bool, true, false, cond}
 use mathlib.Core.List.{List}
 use Prim.Native.Nat.{ℕ, _*_, _≤_}
 use native.Mathlib.Omega.{arith}
@@ -11,12 +11,11 @@ use lib.Seq.{take-length}
 use borrow.Author.Tests.{eq-eqb, ne-eqb, eqb-true}
 use Rattle.terms.specs.declared.Record.{Record}
 use Rattle.terms.specs.declared.Row.{Row}
-use Rattle.terms.specs.declared.Fault.{Fault}
-use Rattle.terms.specs.declared.Fault.the-variants.{Accepted, Shape, Kind, Unused, Named, Width, Bounds, Count, Sides}
+use Rattle.terms.specs.declared.Fault.the-variants.{Accepted}
 use Rattle.terms.specs.Table.{rowsOf, bitsOf, satisfies}
-use Rattle.terms.specs.Faults.{isAccepted, firstFault}
-use Rattle.terms.specs.Calls.{refusal, completed, faultNumber, faultRecord, stopAt}
-use Rattle.terms.proofs.AcceptedTable.{accepted-table, fault-none}
+use Rattle.terms.specs.Faults.{firstFault}
+use Rattle.terms.specs.Calls.{refusal, completed}
+use Rattle.terms.proofs.AcceptedTable.{accepted-table}
 use Rattle.terms.proofs.Faults.{totals-small}
 use Rattle.sheets.specs.declared.Sheet.{Sheet}
 use Rattle.sheets.specs.declared.Sheet.the-variants.{TooLong, WrongNames, TooMany, WrongLine, Rows}
@@ -28,7 +27,7 @@ use Rattle.answers.specs.Answer.{variableWidths, answerNumbers}
 use Rattle.answers.specs.Pairs.{equalUnder}
 use Rattle.answers.specs.Solve.{solvedRows, answerRecord, solveRecord, answerAfter}
 use Rattle.answers.proofs.Demands.{demand-3}
-use Rattle.answers.proofs.Lent.{call-record, call-answer}
+use Rattle.answers.proofs.Lent.{call-record, call-answer, solve-accepts}
 use Rattle.answers.proofs.Tables.{rows-few}
 use Rattle.sheets.specs.Program.{textRecord, textAnswer, programRecord}
 
@@ -76,26 +75,6 @@ module _ (text : List ℕ) (accepted : sheetRecord text 2048 .outcome ≡ 0) whe
       ap (λ (l : List ℕ). solveRecord l (length old) 16384) t ∙ sym (text-solves (length old)) in
       (e ∙ same, o ∙ rw (same, rows) refl)
 
--- no fault of a table is outcome 2
-pub fault-not-2 : (f : Fault) → faultNumber f ≡ 2 → ⊥
-fault-not-2 Accepted e = omega (arith, e)
-fault-not-2 Shape e = omega (arith, e)
-fault-not-2 (Kind r) e = omega (arith, e)
-fault-not-2 (Unused r) e = omega (arith, e)
-fault-not-2 (Named r) e = omega (arith, e)
-fault-not-2 (Width r) e = omega (arith, e)
-fault-not-2 (Bounds r) e = omega (arith, e)
-fault-not-2 (Count r) e = omega (arith, e)
-fault-not-2 (Sides r) e = omega (arith, e)
-
-table-accepted : (table : List ℕ) → solveRecord table 16384 16384 .outcome ≡ 2 → firstFault table ≡ Accepted
-unfolding solveRecord stopAt
-table-accepted table e = fault-none _ (go (isAccepted (firstFault table)) e)
-  where
-    go : (b : Bool) → (cond (not b) (faultRecord (firstFault table)) (answerRecord (rowsOf table))) .outcome ≡ 2 → b ≡ true
-    go true e = refl
-    go false e = absurd (fault-not-2 (firstFault table) e)
-
 sheet-read : (text : List ℕ) → programRecord text .outcome ≡ 2 → sheetRecord text 2048 .outcome ≡ 0
 unfolding programRecord textRecord
 sheet-read text e = go (eqb (sheetRecord text 2048 .outcome) 0) refl e
@@ -121,7 +100,9 @@ module _ (text old : List ℕ) (room : length old ≡ 16384) (two : programRecor
   is-solved = text-solves text (sheet-read text two) 16384
 
   accepted-2 : firstFault numbers ≡ Accepted
-  accepted-2 = table-accepted numbers (ap (λ (r : Record). r .outcome) (sym is-solved) ∙ two)
+  accepted-2 =
+      let e : solveRecord numbers 16384 16384 .outcome ≡ 2 = ap (λ (r : Record). r .outcome) (sym is-solved) ∙ two in
+      solve-accepts numbers 16384 16384 (omega arith) (omega arith) .to (omega arith)
 
   is-record : programRecord text ≡ answerRecord (rowsOf numbers)
   is-record =

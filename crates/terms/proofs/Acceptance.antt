@@ -1,5 +1,5 @@
--- Acceptance both ways: the first fault of a table is the one that says what is so (specs/Acceptance.antt). A row's rules are followed from
--- the top, in document 01's order, and the rows from the first on. Assumes nothing.
+-- Acceptance both ways: the first fault of a table is the one that says what is so (specs/Acceptance.antt). The rows are followed from the
+-- first on, and a row's rules from the top, in document 01's order. Assumes nothing.
 use mathlib.Core.Path.{_≡_, refl, sym, _∙_, ap, ap₂, subst}
 use mathlib.Core.Bool.{Bool, true, false, cond}
 use mathlib.Core.List.{List}
@@ -7,55 +7,21 @@ use mathlib.Core.Logic.{⊎-elim}
 use Prim.Native.Nat.{ℕ, zero, suc, _+_, _-_, _%_, _<_}
 use native.Mathlib.Omega.{arith}
 use lib.Dec.{eqb, ltb}
-use lib.ListN.{length, drop}
+use lib.ListN.{length}
 use borrow.Author.Tests.{ltb-false, eqb-true, not-false, le-ltb, eq-eqb}
 use Rattle.terms.specs.declared.Row.{Row}
 use Rattle.terms.specs.declared.Fault.{Fault}
 use Rattle.terms.specs.declared.Fault.the-variants.{Accepted, Shape, Kind, Unused, Named, Width, Bounds, Count, Sides}
 use Rattle.terms.specs.Table.{rowsOf}
 use Rattle.terms.specs.Calls.{faultNumber, faultRow}
-use Rattle.terms.specs.Faults.{nonzero, breaks11, breaks12, breaks13, breaks14, breaks15, breaks16, breaks17, breaks18, firstRule, rulesAt, faultAt, isAccepted, lowestFault, firstFault}
-use Rattle.terms.specs.Acceptance.{Exactly, WholeRows, Keeps12, Keeps13, Keeps14, Keeps15, Keeps16, Keeps17, KeepsAll, Reaches, Says, Tells, Acceptance}
-use Rattle.terms.proofs.Faults.{kept}
+use Rattle.terms.specs.Faults.{nonzero, breaks11, breaks12, breaks13, breaks14, breaks15, breaks16, breaks17, breaks18, faultAt, isAccepted, lowestFault, firstFault}
+use Rattle.terms.specs.Acceptance.{Exactly, WholeRows, KeepsAll, Reaches, Says, Tells, Acceptance}
+use Rattle.terms.proofs.RuleOrder.{told-12, told-13, told-14, told-15, told-16, told-17, told-18, told-none}
+use Rattle.terms.proofs.Faults.{all-kept, kept, lowest-here, lowest-past}
 use Rattle.laws.proofs.Bools.{not-both, or-first, or-second}
 use Rattle.laws.proofs.Numbers.{below-or-at}
 
--- ---- one row
-
-module _ (t : List Row) (r : ℕ) where
-  -- the fault of the rules that are left where the first n are kept
-  left : ℕ → Fault
-  left n = firstRule (drop n (rulesAt t r))
-
-  past-12 : Keeps12 t r → faultAt t r ≡ left 1
-  unfolding faultAt left rulesAt firstRule
-  past-12 k = rw k
-
-  past-13 : Keeps13 t r → faultAt t r ≡ left 2
-  unfolding left rulesAt firstRule
-  past-13 k = past-12 (k .0) ∙ rw (k .1)
-
-  past-14 : Keeps14 t r → faultAt t r ≡ left 3
-  unfolding left rulesAt firstRule
-  past-14 k = past-13 (k .0) ∙ rw (k .1)
-
-  past-15 : Keeps15 t r → faultAt t r ≡ left 4
-  unfolding left rulesAt firstRule
-  past-15 k = past-14 (k .0) ∙ rw (k .1)
-
-  past-16 : Keeps16 t r → faultAt t r ≡ left 5
-  unfolding left rulesAt firstRule
-  past-16 k = past-15 (k .0) ∙ rw (k .1)
-
-  past-17 : Keeps17 t r → faultAt t r ≡ left 6
-  unfolding left rulesAt firstRule
-  past-17 k = past-16 (k .0) ∙ rw (k .1)
-
-  pub past-all : KeepsAll t r → faultAt t r ≡ Accepted
-  unfolding left rulesAt firstRule
-  past-all k = past-17 (k .0) ∙ rw (k .1)
-
--- ---- a table
+-- ---- by faults
 
 -- rule 11
 pub whole-rows : (numbers : List ℕ) → Exactly (breaks11 numbers ≡ false) (WholeRows numbers)
@@ -76,21 +42,20 @@ module _ (numbers : List ℕ) where
   abbrev t : List Row
   t = rowsOf numbers
 
-  -- what a row's fault says, where the row is reached: the rules from the top
+  -- what a row's fault says, where the row is reached: its rules from the top
   row-says : (r : ℕ) → Reaches numbers r → isAccepted (faultAt t r) ≡ false → Says (faultAt t r) numbers
-  unfolding faultAt left rulesAt firstRule
   row-says r reach fault =
-      first (breaks12 t r) (λ h. says (Kind r) (rw h) (reach, h)) λ k.
-      next k (breaks13 t r) (λ h. says (Unused r) (past-12 t r k ∙ rw h) (reach, k, h)) λ k.
-      next k (breaks14 t r) (λ h. says (Named r) (past-13 t r k ∙ rw h) (reach, k, h)) λ k.
-      next k (breaks15 t r) (λ h. says (Width r) (past-14 t r k ∙ rw h) (reach, k, h)) λ k.
-      next k (breaks16 t r) (λ h. says (Bounds r) (past-15 t r k ∙ rw h) (reach, k, h)) λ k.
-      next k (breaks17 t r) (λ h. says (Count r) (past-16 t r k ∙ rw h) (reach, k, h)) λ k.
-      next k (breaks18 t r) (λ h. says (Sides r) (past-17 t r k ∙ rw h) (reach, k, h)) λ k.
-      absurd (not-both (ap isAccepted (past-all t r k)) fault)
+      first (breaks12 t r) (λ h. says (told-12 t r h) (reach, h)) λ k.
+      next k (breaks13 t r) (λ h. says (told-13 t r k h) (reach, k, h)) λ k.
+      next k (breaks14 t r) (λ h. says (told-14 t r k h) (reach, k, h)) λ k.
+      next k (breaks15 t r) (λ h. says (told-15 t r k h) (reach, k, h)) λ k.
+      next k (breaks16 t r) (λ h. says (told-16 t r k h) (reach, k, h)) λ k.
+      next k (breaks17 t r) (λ h. says (told-17 t r k h) (reach, k, h)) λ k.
+      next k (breaks18 t r) (λ h. says (told-18 t r k h) (reach, k, h)) λ k.
+      absurd (not-both (ap isAccepted (told-none t r k)) fault)
     where
-      says : (f : Fault) → faultAt t r ≡ f → Says f numbers → Says (faultAt t r) numbers
-      says f e s = subst (λ (f : Fault). Says f numbers) (sym e) s
+      says : {f : Fault} → faultAt t r ≡ f → Says f numbers → Says (faultAt t r) numbers
+      says e s = subst (λ (f : Fault). Says f numbers) (sym e) s
 
       first : {A : Type 0} (b : Bool) → (b ≡ true → A) → (b ≡ false → A) → A
       first true broken kept = broken refl
@@ -98,11 +63,6 @@ module _ (numbers : List ℕ) where
 
       next : {A K : Type 0} → K → (b : Bool) → (b ≡ true → A) → (K × (b ≡ false) → A) → A
       next k b broken kept = first b broken (λ h. kept (k, h))
-
-  keeps-all : (r : ℕ) → isAccepted (faultAt t r) ≡ true → KeepsAll t r
-  keeps-all r a =
-      let k = kept t r a in
-      ((((((k .kept12, k .kept13), k .kept14), k .kept15), k .kept16), k .kept17), k .kept18)
 
   -- what the lowest fault of m rows from row r on says, where they are the last ones and none before them breaks a rule
   rows-say : WholeRows numbers → (m r : ℕ) → r + m ≡ length t → ((i : ℕ) → i < r → KeepsAll t i) → Says (lowestFault t r m) numbers
@@ -112,7 +72,7 @@ module _ (numbers : List ℕ) where
     where
       go : (b : Bool) → isAccepted (faultAt t r) ≡ b → (((i : ℕ) → i < suc r → KeepsAll t i) → Says (lowestFault t (suc r) m) numbers)
           → Says (cond b (lowestFault t (suc r) m) (faultAt t r)) numbers
-      go true a later = later (λ i h. ⊎-elim (λ l. before i l) (λ e. rw e (keeps-all r a)) (below-or-at i r h))
+      go true a later = later (λ i h. ⊎-elim (λ l. before i l) (λ e. rw e (all-kept t r (kept t r a))) (below-or-at i r h))
       go false a later = row-says r (record { rows = rows; there = omega arith; before = before }) a
 
   table-says : Says (firstFault numbers) numbers
@@ -125,50 +85,51 @@ module _ (numbers : List ℕ) where
 
   -- the search for the first fault comes to row r where no row before it breaks a rule, and ends there if that row does
   comes-to : WholeRows numbers → (r m : ℕ) → r + m ≡ length t → ((i : ℕ) → i < r → KeepsAll t i) → firstFault numbers ≡ lowestFault t r m
-  unfolding firstFault lowestFault
+  unfolding firstFault
   comes-to rows zero m end before = let all : length t ≡ m = omega arith in rw (whole-rows numbers .of rows, all) refl
   comes-to rows (suc r) m end before =
-      comes-to rows r (suc m) (omega arith) (λ i l. before i (omega arith)) ∙ rw (past-all t r (before r (omega arith))) refl
+      comes-to rows r (suc m) (omega arith) (λ i l. before i (omega arith))
+      ∙ lowest-past t r m (ap isAccepted (told-none t r (before r (omega arith))))
 
   ends-at : (r : ℕ) → Reaches numbers r → (f : Fault) → isAccepted f ≡ false → faultAt t r ≡ f → firstFault numbers ≡ f
-  unfolding lowestFault
   ends-at r reach f fault e =
       let there = reach .there in
-      comes-to (reach .rows) r (suc (length t - suc r)) (omega arith) (reach .before) ∙ rw (e, fault) refl
+      let rest = length t - suc r in
+      comes-to (reach .rows) r (suc rest) (omega arith) (reach .before) ∙ lowest-here t r rest (ap isAccepted e ∙ fault) ∙ e
 
   -- so the first fault is the one that says what is so
   said : (f : Fault) → Says f numbers → firstFault numbers ≡ f
-  unfolding firstFault lowestFault faultAt left rulesAt firstRule
+  unfolding firstFault lowestFault
   said Accepted s = comes-to (s .0) (length t) 0 (omega arith) (s .1)
   said Shape s = go (breaks11 numbers) refl
     where
       go : (b : Bool) → breaks11 numbers ≡ b → cond b Shape (lowestFault t 0 (length t)) ≡ Shape
       go true h = refl
       go false h = absurd (s (whole-rows numbers .to h))
-  said (Kind r) s = ends-at r (s .0) (Kind r) refl (rw (s .1))
-  said (Unused r) s = ends-at r (s .0) (Unused r) refl (past-12 t r (s .1) ∙ rw (s .2))
-  said (Named r) s = ends-at r (s .0) (Named r) refl (past-13 t r (s .1) ∙ rw (s .2))
-  said (Width r) s = ends-at r (s .0) (Width r) refl (past-14 t r (s .1) ∙ rw (s .2))
-  said (Bounds r) s = ends-at r (s .0) (Bounds r) refl (past-15 t r (s .1) ∙ rw (s .2))
-  said (Count r) s = ends-at r (s .0) (Count r) refl (past-16 t r (s .1) ∙ rw (s .2))
-  said (Sides r) s = ends-at r (s .0) (Sides r) refl (past-17 t r (s .1) ∙ rw (s .2))
+  said (Kind r) s = ends-at r (s .0) (Kind r) refl (told-12 t r (s .1))
+  said (Unused r) s = ends-at r (s .0) (Unused r) refl (told-13 t r (s .1) (s .2))
+  said (Named r) s = ends-at r (s .0) (Named r) refl (told-14 t r (s .1) (s .2))
+  said (Width r) s = ends-at r (s .0) (Width r) refl (told-15 t r (s .1) (s .2))
+  said (Bounds r) s = ends-at r (s .0) (Bounds r) refl (told-16 t r (s .1) (s .2))
+  said (Count r) s = ends-at r (s .0) (Count r) refl (told-17 t r (s .1) (s .2))
+  said (Sides r) s = ends-at r (s .0) (Sides r) refl (told-18 t r (s .1) (s .2))
 
   pub fault-exactly : (f : Fault) → Exactly (firstFault numbers ≡ f) (Says f numbers)
   fault-exactly f = record { to = λ e. subst (λ (f : Fault). Says f numbers) e table-says; of = said f }
 
 -- ---- by numbers
 
--- the fault that has a number and a row
+-- the fault that has a number and a row: no two faults have the same
 numbered : ℕ → ℕ → Fault
 numbered n r =
-    cond (eqb n 11) Shape
-    (cond (eqb n 12) (Kind r)
-    (cond (eqb n 13) (Unused r)
-    (cond (eqb n 14) (Named r)
-    (cond (eqb n 15) (Width r)
-    (cond (eqb n 16) (Bounds r)
-    (cond (eqb n 17) (Count r)
-    (cond (eqb n 18) (Sides r)
+    cond (eqb n (faultNumber Shape)) Shape
+    (cond (eqb n (faultNumber (Kind r))) (Kind r)
+    (cond (eqb n (faultNumber (Unused r))) (Unused r)
+    (cond (eqb n (faultNumber (Named r))) (Named r)
+    (cond (eqb n (faultNumber (Width r))) (Width r)
+    (cond (eqb n (faultNumber (Bounds r))) (Bounds r)
+    (cond (eqb n (faultNumber (Count r))) (Count r)
+    (cond (eqb n (faultNumber (Sides r))) (Sides r)
     Accepted)))))))
 
 numbered-is : (f : Fault) → numbered (faultNumber f) (faultRow f) ≡ f

@@ -14,7 +14,8 @@ use Rattle.terms.specs.Table.{rowsOf, rowAt}
 use Rattle.terms.specs.Calls.{faultNumber}
 use Rattle.terms.specs.Faults.{isAccepted, firstFault, absent}
 use Rattle.laws.proofs.Bools.{not-both}
-use Rattle.terms.proofs.Acceptance.{past-all, fault-exactly}
+use Rattle.terms.proofs.RuleOrder.{told-none}
+use Rattle.terms.proofs.Acceptance.{fault-exactly}
 use Rattle.terms.proofs.Faults.{term, Term, term-named}
 use Rattle.terms.specs.Sound.{Sound}
 
@@ -40,7 +41,7 @@ accepted-table numbers e =
     record {
       few = says .0 .few;
       whole = says .0 .whole;
-      sound = λ r h. ap isAccepted (past-all (rowsOf numbers) r (says .1 r h));
+      sound = λ r h. ap isAccepted (told-none (rowsOf numbers) r (says .1 r h));
     }
 
 -- a fault's number is 11 or more, and not 0

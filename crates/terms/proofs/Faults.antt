@@ -1,5 +1,5 @@
 -- What holds of a row that breaks no rule, and of a table in which no row breaks one.
-use mathlib.Core.Path.{_≡_, refl, _∙_}
+use mathlib.Core.Path.{_≡_, refl, _∙_, ap}
 use mathlib.Core.Bool.{Bool, true, false, not, _||_}
 use mathlib.Core.List.{List, _∷_}
 use mathlib.Core.Logic.{⊎-elim}
@@ -13,6 +13,8 @@ use Rattle.terms.specs.declared.Fault.{Fault}
 use Rattle.terms.specs.declared.Fault.the-variants.{Kind, Unused, Named, Width, Bounds, Count, Sides}
 use Rattle.terms.specs.Table.{rowAt, byKind, widthIn, widthOf, bitsOf, countKind}
 use Rattle.terms.specs.Faults.{breaks12, breaks13, breaks14, breaks15, breaks16, breaks17, breaks18, unusedColumn, notTerm, misnamed, outside, wrongWidth, wrongBounds, tooMany, unequalSides, firstRule, rulesAt, faultAt, isAccepted, lowestFault}
+use Rattle.terms.specs.Acceptance.{KeepsAll}
+use Rattle.terms.proofs.RuleOrder.{told-none}
 use Rattle.terms.proofs.RowKinds.{else-kind, KindOf, is-variable, is-constant, is-concat, is-extract, is-equation, kind-of}
 use Rattle.laws.proofs.Bools.{not-both, or-first, or-second}
 use Rattle.terms.proofs.Widths.{width-row}
@@ -106,6 +108,9 @@ pub record Kept (t : List Row) (r : ℕ) : Type 0 where
   pub kept17 : breaks17 t r ≡ false
   pub kept18 : breaks18 t r ≡ false
 
+pub all-kept : (t : List Row) (r : ℕ) → Kept t r → KeepsAll t r
+all-kept t r k = ((((((k .kept12, k .kept13), k .kept14), k .kept15), k .kept16), k .kept17), k .kept18)
+
 pub kept : (t : List Row) (r : ℕ) → isAccepted (faultAt t r) ≡ true → Kept t r
 unfolding faultAt rulesAt
 kept t r h =
@@ -120,8 +125,7 @@ kept t r h =
 
 -- and a row that breaks none is accepted
 pub unbroken : (t : List Row) (r : ℕ) → Kept t r → isAccepted (faultAt t r) ≡ true
-unfolding faultAt rulesAt firstRule
-unbroken t r k = rw (k .kept12, k .kept13, k .kept14, k .kept15, k .kept16, k .kept17, k .kept18)
+unbroken t r k = ap isAccepted (told-none t r (all-kept t r k))
 
 module _ (t : List Row) (r : ℕ) (k : Kept t r) where
   pub kept-kind : rowAt t r .kind ≤ 4
@@ -216,11 +220,11 @@ unfolding countKind bitsOf
 totals-small t zero p = (omega arith, omega arith, omega arith)
 totals-small t (suc r) p = kept-totals t r (kept t r (p r (omega arith)))
 
--- the search for the lowest fault goes on past a row that breaks no rule, and ends at one that does
-pub lowest-past : (t : List Row) (r n : ℕ) → isAccepted (faultAt t r) ≡ true → lowestFault t r (suc n) ≡ lowestFault t (suc r) n
-unfolding lowestFault
-lowest-past t r n h = rw h
-
+-- the search for the lowest fault ends at a row that breaks a rule, and goes on past one that breaks none
 pub lowest-here : (t : List Row) (r n : ℕ) → isAccepted (faultAt t r) ≡ false → lowestFault t r (suc n) ≡ faultAt t r
 unfolding lowestFault
 lowest-here t r n h = rw h
+
+pub lowest-past : (t : List Row) (r n : ℕ) → isAccepted (faultAt t r) ≡ true → lowestFault t r (suc n) ≡ lowestFault t (suc r) n
+unfolding lowestFault
+lowest-past t r n h = rw h

@@ -1,14 +1,15 @@
 pub mod Rows
 pub mod ByRows
 pub mod Widths
+pub mod RuleOrder
 pub mod Faults
-pub mod Acceptance
 pub mod Words
 pub mod Values
 pub mod Sources
 pub mod Assignments
 pub mod Computed
 pub mod Bounds
+pub mod Acceptance
 pub mod AcceptedTable
 pub mod Equations
 pub mod Satisfies

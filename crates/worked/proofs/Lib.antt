@@ -1,5 +1,6 @@
 pub mod Holding
 pub mod ByClasses
+pub mod Program
 pub mod WorkedOut
 pub mod OneWord
 pub mod AnyWidth
@@ -12,4 +13,4 @@ pub mod OverlapCases
 pub mod EveryWidth
 pub mod Worked
 pub mod SheetsSolved
-pub mod Program
+pub mod FirstSheet

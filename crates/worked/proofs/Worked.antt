@@ -31,4 +31,4 @@ all-cases =
     -- 9
     refl tested
     -- 10
-    refl tested nothing
+    refl tested refl tested nothing

@@ -1,13 +1,12 @@
--- Cases are worked out: what a case states of its table, row, sheet or record is computed anew. What is worked out holds, whatever the
+-- Cases are worked out: what a case states of its table, row, sheet or text is computed anew. What is worked out holds, whatever the
 -- case. So a case holds if working it out gives that case again. Assumes nothing.
 use mathlib.Core.Path.{_≡_, refl, subst}
 use mathlib.Core.Bool.{Bool, true, false, cond}
-use mathlib.Core.List.{List, [], _∷_, _++_}
+use mathlib.Core.List.{List, [], _∷_}
 use Prim.Native.Nat.{ℕ, _^_}
 use lib.Dec.{eqb}
 use lib.ListN.{length}
 use borrow.Author.Tests.{le-ltb}
-use Rattle.terms.specs.declared.Record.{Record}
 use Rattle.terms.specs.Calls.{faultRecord, stopAt}
 use Rattle.terms.specs.Faults.{firstFault, isAccepted}
 use Rattle.terms.specs.Table.{rowsOf, rowNumbers, sourcesOf, extract}
@@ -29,6 +28,7 @@ use Rattle.answers.specs.Solve.{pairsTogether}
 use Rattle.worked.specs.Cases.{Case, Solved, Refused, Form, Sheet, Printed, Holds, AllHold, _and_}
 use Rattle.worked.proofs.Holding.{written, solved-case, refused-case}
 use Rattle.worked.proofs.ByClasses.{conflictRow, linksTo, classRows, classRecord, classAnswer, by-classes}
+use Rattle.worked.proofs.Program.{answerPrint, tablePrint, textPrint, text-printed}
 
 -- A table, worked out.
 unfoldable pub tableOut : List ℕ → Case
@@ -49,9 +49,9 @@ sheetOut text =
     let found = sheetRecord text 2048 in
     Sheet text found (cond (eqb (found .outcome) 0) (rowNumbers (sheetRows text)) [])
 
--- A print.
-unfoldable pub printOut : Record → List ℕ → List ℕ
-printOut found answer = recordText found ++ cond (eqb (found .outcome) 2) (answerText answer) []
+-- What the program prints for a text.
+unfoldable pub printOut : List ℕ → Case
+printOut text = Printed text (textPrint text)
 
 -- A case.
 unfoldable pub workedOut : Case → Case
@@ -59,7 +59,7 @@ workedOut (Solved table found answer patterns) = tableOut table
 workedOut (Refused table found) = tableOut table
 workedOut (Form table r found form) = formOut table r
 workedOut (Sheet sheet found table) = sheetOut sheet
-workedOut (Printed found answer print) = Printed found answer (printOut found answer)
+workedOut (Printed text print) = printOut text
 
 -- What is worked out holds.
 table-holds : (table : List ℕ) → Holds (tableOut table)
@@ -93,7 +93,7 @@ out-holds (Solved table found answer patterns) = table-holds table
 out-holds (Refused table found) = table-holds table
 out-holds (Form table r found form) = form-holds table r
 out-holds (Sheet sheet found table) = sheet-holds sheet
-out-holds (Printed found answer print) = refl
+out-holds (Printed text print) = text-printed text
 
 -- A case that is worked out to itself holds; the others of a list stand behind it.
 infixr 40 _tested_
@@ -115,10 +115,10 @@ unfoldable pub sheetComputed : List ℕ → Case
 unfolding digitOf moreDigits afterZero numberHere sees fieldAt valueFor placed lineAt seesKind columnAt nameAt allDifferent namesAt foundFrom rowsFrom sheetFound sheetRows sheetRecord rowNumbers sheetOut
 sheetComputed text = sheetOut text
 
--- a print;
-unfoldable pub printComputed : Record → List ℕ → List ℕ
-unfolding digits field recordValues recordText answerValues rowLines answerRowsOf answerLines answerText printOut
-printComputed found answer = printOut found answer
+-- what is printed;
+unfoldable pub printComputed : List ℕ → Case
+unfolding tableComputed sheetComputed digits field recordValues recordText answerValues rowLines answerRowsOf answerLines answerText answerPrint tablePrint textPrint printOut
+printComputed text = printOut text
 
 -- a case.
 unfoldable pub caseComputed : Case → Case

@@ -1,12 +1,10 @@
 -- Document 01's cases 1 to 10 ("Worked by hand") as one list, and what it means that a case holds. A case is about the definitions that
 -- the calls' contracts name.
 use mathlib.Core.Path.{_≡_}
-use mathlib.Core.Bool.{cond}
 use mathlib.Core.List.{List, [], _∷_, _++_}
 use Prim.Native.Nat.{ℕ, zero, suc, _^_, _≤_}
 use Prim.Native.Char.{code}
 use Prim.Native.String as text
-use lib.Dec.{eqb}
 use lib.ListN.{length}
 use Rattle.terms.specs.declared.Record.{Record}
 use Rattle.terms.specs.Assignments.{count}
@@ -15,7 +13,7 @@ use Rattle.terms.specs.Table.{rowsOf, bitsOf, satisfies}
 use Rattle.terms.specs.Value.{valueRecord}
 use Rattle.forms.specs.Call.{formRecord, formAfter}
 use Rattle.sheets.specs.Call.{sheetRecord, tableAfter}
-use Rattle.sheets.specs.Print.{recordText, answerText}
+use Rattle.sheets.specs.Program.{programText}
 use Rattle.answers.specs.Solve.{solveRecord, answerAfter}
 
 -- A case, by its kind.
@@ -28,8 +26,8 @@ pub data Case : Type 0 where
   Form : List ℕ → ℕ → Record → List ℕ → Case
   -- a sheet; the record of reading it; the table that is read, empty where none is
   Sheet : List ℕ → Record → List ℕ → Case
-  -- a record and an answer table; what is printed of them
-  Printed : Record → List ℕ → List ℕ → Case
+  -- a text; what the program prints for it
+  Printed : List ℕ → List ℕ → Case
 
 -- A solve of the table gives the record and leaves the answer at the beginning of the answer table lent; what follows keeps its content.
 -- So it is whatever is lent, with room for 16,384 numbers in both.
@@ -51,7 +49,7 @@ Holds (Form table r found form) =
     (old : List ℕ) → 4096 ≤ length old → (formRecord table r (length old) ≡ found) × (formAfter table r old ≡ overwrite form old)
 Holds (Sheet sheet found table) =
     (old : List ℕ) → 2048 ≤ length old → (sheetRecord sheet (length old) ≡ found) × (tableAfter sheet old ≡ overwrite table old)
-Holds (Printed found answer print) = recordText found ++ cond (eqb (found .outcome) 2) (answerText answer) [] ≡ print
+Holds (Printed text print) = programText text ≡ print
 
 -- Every case of a list holds.
 infixr 40 _and_
@@ -89,8 +87,7 @@ cases =
     (row 0 2 1 0 ++ row 0 2 2 1 ++ row 0 2 2 1 ++ row 0 2 2 1 ++ row 0 2 1 2)
     16
     ∷ Printed
-    (figures 2 5 3 4 4 0)
-    (row 0 2 1 0 ++ row 0 2 2 1 ++ row 0 2 2 1 ++ row 0 2 2 1 ++ row 0 2 1 2)
+    (line "kind a b c" ++ line "0 8 0 0" ++ line "3 0 6 3" ++ line "3 0 4 1" ++ line "4 1 2 0")
     (line "outcome pieces fresh free ties row" ++ line "2 5 3 4 4 0"
     ++ line "variable kind width fresh" ++ line "0 2 1 0" ++ line "0 2 2 1" ++ line "0 2 2 1" ++ line "0 2 2 1" ++ line "0 2 1 2")
     -- 2. Variable of 9, bits 7 to 3 equal to 5 to 1: 9 pieces, widths all 1, fresh 4, free 4, ties 5.
@@ -127,4 +124,5 @@ cases =
     ∷ Form (row 0 8 0 0 ++ row 3 0 7 4 ++ row 3 0 3 0 ++ row 2 1 2 0) 3 (figures 0 1 0 8 0 0) (row 2 0 7 0)
     -- 10. Empty sheet: 21.
     ∷ Sheet [] (figures 21 0 0 0 0 0) []
+    ∷ Printed [] (line "outcome pieces fresh free ties row" ++ line "21 0 0 0 0 0")
     ∷ []

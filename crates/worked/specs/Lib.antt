@@ -1,2 +1,3 @@
 pub mod Cases
 pub mod EveryWidth
+pub mod FromSheet
