@@ -1,6 +1,8 @@
 // The text cursor (document 01, "Lines are read from the first to the last"): a place in a text, passed by value. Each method says what it
 // found there and gives the cursor behind it.
 ghost use mathlib.Core.Path.{_≡_};
+ghost use lib.Dec.{leb};
+ghost use lib.ListN.{length};
 ghost use Rattle.sheets.specs.Text.{numberAt, fieldAt, lineAt, columnAt, nameAt, namesAt};
 ghost use Rattle.cursor.specs.inner.Found.{numberFound, nameFound, namesFound, lineFound};
 use sheets::Order;
@@ -36,6 +38,14 @@ pub enum Line {
 }
 
 impl Cursor {
+    // Whether nothing is left of the text.
+    pub fn ended(self, text: &[u8]) -> bool
+        ensures { λ r. ⌜ r ≡ leb (length (now (text .entry))) (self .at) ⌝ }
+    {
+        let at = self.at;
+        text.len() <= at
+    }
+
     // A decimal number up to 65,535 without leading zeros.
     pub fn number(self, text: &[u8]) -> Number
         ensures { λ r. ⌜ numberFound r ≡ numberAt (now (text .entry)) (self .at) ⌝ }

@@ -21,26 +21,25 @@ fn put_row(table: &mut [u16], k: u16, row: Row)
     numbers::store_four(table, numbers::wide(k) * 4, row.kind, row.a, row.b, row.c);
 }
 
-// The lines of values from a place on. Their rows are written to the beginning of a table.
-fn read_lines(text: &[u8], order: Order, from: usize, table: &mut [u16]) -> Sheet
-    ensures found { λ r. ⌜ r ≡ foundFrom 512 (now (text .entry)) order 0 from ⌝ }
-    ensures rows { λ r. ⌜ now (table .exit) ≡ overwrite (rowNumbers (rowsFrom 512 (now (text .entry)) order from)) (now (table .entry)) ⌝ }
+// The lines of values from a cursor on. Their rows are written to the beginning of a table.
+fn read_lines(text: &[u8], order: Order, start: Cursor, table: &mut [u16]) -> Sheet
+    ensures found { λ r. ⌜ r ≡ foundFrom 512 (now (text .entry)) order 0 (start .at) ⌝ }
+    ensures rows { λ r. ⌜ now (table .exit) ≡ overwrite (rowNumbers (rowsFrom 512 (now (text .entry)) order (start .at))) (now (table .entry)) ⌝ }
 {
-    let mut at = from;
+    let mut cursor = start;
     let mut k: u16 = 0;
     while k < 512 {
-        if text.len() <= at {
+        if cursor.ended(text) {
             return Sheet::Rows(k);
         }
-        let cursor = Cursor { at: at };
         let Line::Values(row, next) = cursor.line(text, order) else {
             return Sheet::WrongLine(k);
         };
         put_row(table, k, row);
-        at = next.at;
+        cursor = next;
         k += 1;
     }
-    if text.len() <= at {
+    if cursor.ended(text) {
         return Sheet::Rows(k);
     }
     Sheet::TooMany
@@ -58,8 +57,7 @@ fn read_rows(text: &[u8], table: &mut [u16]) -> Sheet
     let Names::InOrder(order, behind) = start.names(text) else {
         return Sheet::WrongNames;
     };
-    let from = behind.at;
-    read_lines(text, order, from, table)
+    read_lines(text, order, behind, table)
 }
 
 // Document 01's number of a refusal, 0 for rows read, and its row.

@@ -1,6 +1,7 @@
 -- `read_lines` meets its contract: the invariant is `Reading`, of proofs/Reading.antt. Assumes nothing.
 use Rattle.reader.proofs.Reading.{Reading, reading-first, reading-length, reading-ends, reading-over, reading-wrong, reading-more}
 use borrow.Author.Needs.{needs}
+use borrow.Author.Tests.{leb-true, leb-false}
 use native.Mathlib.Omega.{arith}
 use Prim.Native.Nat.{_-_}
 use mathlib.Core.Path.{sym, _∙_, ap}
@@ -9,19 +10,24 @@ use Rattle.reader.proofs.read_lines.Statement.{statement}
 use Rattle.reader.proofs.read_lines.Tie as tie
 
 abbrev Inv-loop : tie.InvT-loop
-Inv-loop text order from table₀ at₀ k₀ table at k = Reading text order from table₀ table at k
+Inv-loop text order table₀ cursor₀ k₀ table cursor k = Reading text order (cursor₀ .at) table₀ table (cursor .at) k
 
 abbrev μ-loop : tie.MeasureT-loop
-μ-loop text order from table₀ at₀ k₀ table at k = 512 - k
+μ-loop text order table₀ cursor₀ k₀ table cursor k = 512 - k
 
 loop-holds : tie.Need-loop-holds Inv-loop μ-loop
 loop-holds c = reading-first _ _ _ _
 
+ended-requires : tie.Need-ended-requires Inv-loop μ-loop
+ended-requires c κs = tt
+
 same-length : tie.Need-same-length Inv-loop μ-loop
-same-length c = reading-length _ _ _ _ _ _ _ (c .before .before .loop .inv)
+same-length c = reading-length _ _ _ _ _ _ _ (c .before .before .before .loop .inv)
 
 returns : tie.Need-returns Inv-loop μ-loop
-returns c = reading-ends _ _ _ _ _ _ _ (c .before .before .loop .inv) (c .if1 .taken)
+returns c =
+    let ended = c .before in
+    reading-ends _ _ _ _ _ _ _ (ended .before .before .loop .inv) (leb-true _ _ (sym (ended .ended .ensures) ∙ c .if1 .taken))
 
 line-requires : tie.Need-line-requires Inv-loop μ-loop
 line-requires c κs = tt
@@ -33,34 +39,53 @@ enum-told : tie.Need-enum-told Inv-loop μ-loop
 enum-told c = search needs
 
 same-length-2 : tie.Need-same-length-2 Inv-loop μ-loop
-same-length-2 c = reading-length _ _ _ _ _ _ _ (c .before .before .before .before .before .loop .inv)
+same-length-2 c = reading-length _ _ _ _ _ _ _ (c .before .before .before .before .before .before .loop .inv)
 
 returns-2 : tie.Need-returns-2 Inv-loop μ-loop
-returns-2 c = reading-wrong _ _ _ _ _ _ _ (c .before .before .before .before .before .loop .inv) (c .before .before .before .before .loop-test .taken) (c .before .before .before .if1 .left) (sym (c .before .before .line .ensures) ∙ ap lineFound (c .enum-told .given .1))
+returns-2 c =
+    let line = c .before .before in
+    let ended = line .before .before in
+    let turn = ended .before in
+    reading-wrong _ _ _ _ _ _ _ (turn .before .loop .inv) (turn .loop-test .taken) (leb-false _ _ (sym (ended .ended .ensures) ∙ line .before .if1 .left))
+    (sym (line .line .ensures) ∙ ap lineFound (c .enum-told .given .1))
 
 put-row-requires : tie.Need-put-row-requires Inv-loop μ-loop
 put-row-requires c κs = tt
 
 add-k : tie.Need-add-k Inv-loop μ-loop
-add-k c = omega (arith, c .before .before .before .before .before .before .before .before .before .loop-test .taken)
+add-k c = omega (arith, c .before .before .before .before .before .before .before .before .before .before .loop-test .taken)
 
 loop-less : tie.Need-loop-less Inv-loop μ-loop
-loop-less c = omega (arith, c .before .before .before .before .before .before .before .before .before .loop-test .taken)
+loop-less c = omega (arith, c .before .before .before .before .before .before .before .before .before .before .loop-test .taken)
 
 loop-again : tie.Need-loop-again Inv-loop μ-loop
-loop-again c = reading-more _ _ _ _ _ _ _ (c .before .before .before .before .before .before .before .before .before .before .loop .inv) (c .before .before .before .before .before .before .before .before .before .loop-test .taken) (c .before .before .before .before .before .before .before .before .if1 .left) _ _ _ (sym (c .before .before .before .before .before .before .before .line .ensures) ∙ ap lineFound (c .before .before .before .before .before .row .given .1)) (c .before .before .put-row .ensures)
+loop-again c =
+    let put = c .before .before in
+    let told = put .before .before .before in
+    let line = told .before .before in
+    let ended = line .before .before in
+    let turn = ended .before in
+    reading-more _ _ _ _ _ _ _ (turn .before .loop .inv) (turn .loop-test .taken) (leb-false _ _ (sym (ended .ended .ensures) ∙ line .before .if1 .left)) _ _ _
+    (sym (line .line .ensures) ∙ ap lineFound (told .row .given .1)) (put .put-row .ensures)
+
+ended-requires-2 : tie.Need-ended-requires-2 Inv-loop μ-loop
+ended-requires-2 c κs = tt
 
 same-length-3 : tie.Need-same-length-3 Inv-loop μ-loop
-same-length-3 c = reading-length _ _ _ _ _ _ _ (c .before .before .loop .inv)
+same-length-3 c = reading-length _ _ _ _ _ _ _ (c .before .before .before .loop .inv)
 
 returns-3 : tie.Need-returns-3 Inv-loop μ-loop
-returns-3 c = reading-ends _ _ _ _ _ _ _ (c .before .before .loop .inv) (c .if2 .taken)
+returns-3 c =
+    let ended = c .before in
+    reading-ends _ _ _ _ _ _ _ (ended .before .before .loop .inv) (leb-true _ _ (sym (ended .ended2 .ensures) ∙ c .if2 .taken))
 
 same-length-4 : tie.Need-same-length-4 Inv-loop μ-loop
-same-length-4 c = reading-length _ _ _ _ _ _ _ (c .before .before .loop .inv)
+same-length-4 c = reading-length _ _ _ _ _ _ _ (c .before .before .before .loop .inv)
 
 returns-4 : tie.Need-returns-4 Inv-loop μ-loop
-returns-4 c = reading-over _ _ _ _ _ _ _ (c .before .before .loop .inv) (c .before .loop-test .left) (c .if2 .left)
+returns-4 c =
+    let ended = c .before in
+    reading-over _ _ _ _ _ _ _ (ended .before .before .loop .inv) (ended .before .loop-test .left) (leb-false _ _ (sym (ended .ended2 .ensures) ∙ c .if2 .left))
 
 pub read-lines-spec : {M : Type 1} → statement M
 read-lines-spec =
@@ -69,6 +94,7 @@ read-lines-spec =
     Inv-loop
     μ-loop
     loop-holds
+    ended-requires
     same-length
     returns
     line-requires
@@ -80,6 +106,7 @@ read-lines-spec =
     add-k
     loop-less
     loop-again
+    ended-requires-2
     same-length-3
     returns-3
     same-length-4
