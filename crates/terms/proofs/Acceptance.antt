@@ -15,7 +15,7 @@ use Rattle.terms.specs.declared.Fault.the-variants.{Accepted, Shape, Kin
 use Rattle.terms.specs.Table.{rowsOf}
 use Rattle.terms.specs.Calls.{faultNumber, faultRow}
 use Rattle.terms.specs.Faults.{nonzero, breaks11, breaks12, breaks13, breaks14, breaks15, breaks16, breaks17, breaks18, faultAt, isAccepted, lowestFault, firstFault}
-use Rattle.terms.specs.Acceptance.{Exactly, WholeRows, KeepsAll, Reaches, Says, Tells, Acceptance}
+use Rattle.terms.specs.Acceptance.{Exactly, WholeRows, KeepsAll, Reaches, Says, Refused, Acceptance}
 use Rattle.terms.proofs.RuleOrder.{told-12, told-13, told-14, told-15, told-16, told-17, told-18, told-none}
 use Rattle.terms.proofs.Faults.{all-kept, kept, lowest-here, lowest-past}
 use Rattle.laws.proofs.Bools.{not-both, or-first, or-second}
@@ -144,8 +144,8 @@ numbered-is (Bounds r) = refl
 numbered-is (Count r) = refl
 numbered-is (Sides r) = refl
 
-pub told-exactly : (numbers : List ℕ) (f : Fault) → Exactly (Tells numbers (faultNumber f) (faultRow f)) (Says f numbers)
-told-exactly numbers f =
+pub number-exactly : (numbers : List ℕ) (f : Fault) → Exactly (Refused numbers (faultNumber f) (faultRow f)) (Says f numbers)
+number-exactly numbers f =
     record {
       to = λ e. fault-exactly numbers f .to (sym (numbered-is (firstFault numbers)) ∙ ap₂ numbered (e .0) (e .1) ∙ numbered-is f);
       of = λ s. let e = fault-exactly numbers f .of s in (ap faultNumber e, ap faultRow e);
@@ -156,12 +156,12 @@ pub acceptance : (numbers : List ℕ) → Acceptance numbers
 acceptance numbers =
     record {
       accepted = fault-exactly numbers Accepted;
-      told-11 = told-exactly numbers Shape;
-      told-12 = λ r. told-exactly numbers (Kind r);
-      told-13 = λ r. told-exactly numbers (Unused r);
-      told-14 = λ r. told-exactly numbers (Named r);
-      told-15 = λ r. told-exactly numbers (Width r);
-      told-16 = λ r. told-exactly numbers (Bounds r);
-      told-17 = λ r. told-exactly numbers (Count r);
-      told-18 = λ r. told-exactly numbers (Sides r);
+      refused-11 = number-exactly numbers Shape;
+      refused-12 = λ r. number-exactly numbers (Kind r);
+      refused-13 = λ r. number-exactly numbers (Unused r);
+      refused-14 = λ r. number-exactly numbers (Named r);
+      refused-15 = λ r. number-exactly numbers (Width r);
+      refused-16 = λ r. number-exactly numbers (Bounds r);
+      refused-17 = λ r. number-exactly numbers (Count r);
+      refused-18 = λ r. number-exactly numbers (Sides r);
     }

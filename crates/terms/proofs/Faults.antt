@@ -108,6 +108,7 @@ pub record Kept (t : List Row) (r : ℕ) : Type 0 where
   pub kept17 : breaks17 t r ≡ false
   pub kept18 : breaks18 t r ≡ false
 
+-- the same as one product
 pub all-kept : (t : List Row) (r : ℕ) → Kept t r → KeepsAll t r
 all-kept t r k = ((((((k .kept12, k .kept13), k .kept14), k .kept15), k .kept16), k .kept17), k .kept18)
 

@@ -51,8 +51,8 @@ pub record Reaches (numbers : List ℕ) (r : ℕ) : Type 0 where
   pub there : r < length (rowsOf numbers)
   pub before : (i : ℕ) → i < r → KeepsAll (rowsOf numbers) i
 
--- What each fault says of a table. Accepted: at most 512 whole rows, none of which breaks a rule. A fault of row r: that no row before it
--- breaks a rule, and that the fault's rule is the first, in document 01's order, that row r breaks.
+-- What each fault says of a table. Accepted: it is at most 512 whole rows, and none of them breaks a rule. Shape: it is not at most 512
+-- whole rows. A fault of row r: no row before r breaks a rule, and the fault's rule is the first, in document 01's order, that r breaks.
 abbrev pub Says : Fault → List ℕ → Type 0
 Says Accepted numbers = WholeRows numbers × ((r : ℕ) → r < length (rowsOf numbers) → KeepsAll (rowsOf numbers) r)
 Says Shape numbers = WholeRows numbers → ⊥
@@ -64,18 +64,18 @@ Says (Bounds r) numbers = Reaches numbers r × Keeps15 (rowsOf numbers) r × (br
 Says (Count r) numbers = Reaches numbers r × Keeps16 (rowsOf numbers) r × (breaks17 (rowsOf numbers) r ≡ true)
 Says (Sides r) numbers = Reaches numbers r × Keeps17 (rowsOf numbers) r × (breaks18 (rowsOf numbers) r ≡ true)
 
--- The first fault of a table has this number and this row.
-abbrev pub Tells : List ℕ → ℕ → ℕ → Type 0
-Tells numbers number row = (faultNumber (firstFault numbers) ≡ number) × (faultRow (firstFault numbers) ≡ row)
+-- A table is refused with this number and this row.
+abbrev pub Refused : List ℕ → ℕ → ℕ → Type 0
+Refused numbers number row = (faultNumber (firstFault numbers) ≡ number) × (faultRow (firstFault numbers) ≡ row)
 
 -- Acceptance and each number of document 01's table, both ways.
 pub record Acceptance (numbers : List ℕ) : Type 0 where
   pub accepted : Exactly (firstFault numbers ≡ Accepted) (Says Accepted numbers)
-  pub told-11 : Exactly (Tells numbers 11 512) (Says Shape numbers)
-  pub told-12 : (r : ℕ) → Exactly (Tells numbers 12 r) (Says (Kind r) numbers)
-  pub told-13 : (r : ℕ) → Exactly (Tells numbers 13 r) (Says (Unused r) numbers)
-  pub told-14 : (r : ℕ) → Exactly (Tells numbers 14 r) (Says (Named r) numbers)
-  pub told-15 : (r : ℕ) → Exactly (Tells numbers 15 r) (Says (Width r) numbers)
-  pub told-16 : (r : ℕ) → Exactly (Tells numbers 16 r) (Says (Bounds r) numbers)
-  pub told-17 : (r : ℕ) → Exactly (Tells numbers 17 r) (Says (Count r) numbers)
-  pub told-18 : (r : ℕ) → Exactly (Tells numbers 18 r) (Says (Sides r) numbers)
+  pub refused-11 : Exactly (Refused numbers 11 512) (Says Shape numbers)
+  pub refused-12 : (r : ℕ) → Exactly (Refused numbers 12 r) (Says (Kind r) numbers)
+  pub refused-13 : (r : ℕ) → Exactly (Refused numbers 13 r) (Says (Unused r) numbers)
+  pub refused-14 : (r : ℕ) → Exactly (Refused numbers 14 r) (Says (Named r) numbers)
+  pub refused-15 : (r : ℕ) → Exactly (Refused numbers 15 r) (Says (Width r) numbers)
+  pub refused-16 : (r : ℕ) → Exactly (Refused numbers 16 r) (Says (Bounds r) numbers)
+  pub refused-17 : (r : ℕ) → Exactly (Refused numbers 17 r) (Says (Count r) numbers)
+  pub refused-18 : (r : ℕ) → Exactly (Refused numbers 18 r) (Says (Sides r) numbers)
