@@ -1,17 +1,18 @@
--- The call on lent buffers: with room, an accepted table is never refused and its record is the table's; for outcome 2 the rows stand
--- at the beginning of the answer table. So demands 2 and 3 are about the call; and outcomes 0 to 2 are for accepted tables alone. Assumes
--- nothing.
+-- The call on lent buffers: without room it is refused 10; with room, an accepted table is never refused and its record is the table's;
+-- for outcome 2 the rows stand at the beginning of the answer table. So demands 2 and 3 are about the call; and outcomes 0 to 2 are for
+-- accepted tables alone. Assumes nothing.
 use mathlib.Core.Path.{_≡_, refl, sym, _∙_, ap}
-use mathlib.Core.Bool.{Bool, true, false}
+use mathlib.Core.Bool.{Bool, true, false, or-true}
 use mathlib.Core.List.{List, [], _∷_}
-use Prim.Native.Nat.{ℕ, _*_, _≤_}
+use Prim.Native.Nat.{ℕ, _*_, _≤_, _<_}
 use native.Mathlib.Omega.{arith}
+use lib.Dec.{ltb}
 use lib.ListN.{length, take, drop, replicate}
 use lib.Seq.{take-at, take-length}
 use borrow.Author.Tests.{le-ltb, lt-ltb}
 use Rattle.terms.specs.declared.Fault.the-variants.{Accepted}
 use Rattle.terms.specs.Acceptance.{Exactly}
-use Rattle.terms.specs.Calls.{faultNumber, stopAt}
+use Rattle.terms.specs.Calls.{faultNumber, refusal, stopAt}
 use Rattle.terms.specs.Faults.{firstFault, isAccepted}
 use Rattle.terms.specs.Table.{rowsOf, bitsOf, satisfies}
 use Rattle.terms.proofs.AcceptedTable.{accepted-table, fault-none, fault-high}
@@ -28,6 +29,15 @@ numbers-length : (rows : List AnswerRow) → length (answerNumbers rows) ≡ len
 unfolding answerNumbers
 numbers-length [] = refl
 numbers-length (r ∷ rows) = omega (arith, numbers-length rows)
+
+-- A call whose answer table, or work area, is below 16,384 numbers is refused 10, whatever its table.
+pub no-answer-room : (table : List ℕ) (answerRoom workRoom : ℕ) → answerRoom < 16384 → solveRecord table answerRoom workRoom ≡ refusal 10 0
+unfolding solveRecord stopAt
+no-answer-room table answerRoom workRoom l = rw (lt-ltb answerRoom 16384 l) refl
+
+pub no-work-room : (table : List ℕ) (answerRoom workRoom : ℕ) → workRoom < 16384 → solveRecord table answerRoom workRoom ≡ refusal 10 0
+unfolding solveRecord stopAt
+no-work-room table answerRoom workRoom l = rw (lt-ltb workRoom 16384 l, or-true (ltb answerRoom 16384)) refl
 
 module _ (table : List ℕ) (accepted : firstFault table ≡ Accepted) (old work : List ℕ) (room : 16384 ≤ length old) (memory : 16384 ≤ length work) where
   -- A call with room is refused only for a fault of its table.

@@ -29,3 +29,24 @@ least-at f k (suc d) zero l h g = let e : k + 0 ≡ k = omega arith in rw (e, rw
 least-at f k (suc d) (suc j) l h g =
     let e : k + suc j ≡ suc k + j = omega arith in
     rw (g k (omega arith) (omega arith)) (least-at f (suc k) d j (omega arith) (λ q. ap f (sym e) ∙ h (omega arith)) (λ m a b. g m (omega arith) (omega arith)) ∙ sym e)
+
+-- what is found is not below the first and not above the last; what is passed on the way fails
+pub least-within : (f : ℕ → Bool) (k d : ℕ) → (k ≤ least f k d) × (least f k d ≤ k + d)
+unfolding least
+least-within f k zero = (omega arith, omega arith)
+least-within f k (suc d) = go (f k) (least-within f (suc k) d)
+  where
+    go : (b : Bool) → (suc k ≤ least f (suc k) d) × (least f (suc k) d ≤ suc k + d)
+        → (k ≤ cond b k (least f (suc k) d)) × (cond b k (least f (suc k) d) ≤ k + suc d)
+    go true h = (omega arith, omega arith)
+    go false h = (omega (arith, h .0), omega (arith, h .1))
+
+pub least-passed : (f : ℕ → Bool) (k d m : ℕ) → k ≤ m → m < least f k d → f m ≡ false
+unfolding least
+least-passed f k zero m a b = absurd (omega arith)
+least-passed f k (suc d) m a b = go (f k) refl (dec-eq k m) b (λ (l : suc k ≤ m). least-passed f (suc k) d m l)
+  where
+    go : (t : Bool) → f k ≡ t → (k ≡ m) ⊎ (k ≢ m) → m < cond t k (least f (suc k) d) → (suc k ≤ m → m < least f (suc k) d → f m ≡ false) → f m ≡ false
+    go true e w l r = absurd (omega arith)
+    go false e (inl w) l r = ap f (sym w) ∙ e
+    go false e (inr w) l r = r (omega arith) l

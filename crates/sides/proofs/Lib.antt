@@ -2,6 +2,7 @@ pub mod Spelling
 pub mod FormSources
 pub mod Writing
 pub mod EquationPairs
+pub mod NextEquation
 pub mod Shortened
 pub mod Alike
 pub mod ShortTable

@@ -4,7 +4,8 @@ ghost use mathlib.Core.Path.{_≡_};
 ghost use Prim.Native.Nat.{_≤_, min};
 ghost use lib.ListN.{length};
 ghost use Rattle.laws.specs.Buffers.{Behind};
-ghost use Rattle.sides.specs.inner.Sides.{ReadsSides};
+ghost use Rattle.terms.specs.Table.{rowsOf};
+ghost use Rattle.sides.specs.inner.Sides.{nextEquation, ReadsSides};
 ghost use Rattle.sides.specs.inner.Spread.{stepped, sourcesIn, Spells, ReadsSide};
 ghost use Rattle.sides.specs.inner.Shortened.{shortIn, storedRow, Shortens};
 use forms::Piece;
@@ -101,6 +102,22 @@ pub fn equation_pairs(
         right,
     );
     numbers::wide(numbers::load(widths, a))
+}
+
+// The first equation from row `from` on, of the first so many rows; the row behind them, if there is none.
+pub fn next_equation(table: &[u16], from: usize, rows: usize) -> usize
+    ensures { λ r. ⌜ r ≡ nextEquation (rowsOf (now (table .entry))) from rows ⌝ }
+{
+    let mut r = from;
+    while r < rows {
+        let row = rows::row_at(table, r);
+        let kind = row.kind;
+        if kind == terms::EQUATION {
+            return r;
+        }
+        r += 1;
+    }
+    r
 }
 
 // A row, from the row that it names first: a cut of a cut is made one cut.

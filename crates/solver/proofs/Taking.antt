@@ -22,7 +22,8 @@ use Rattle.classes.specs.inner.Links.{Low, rootsOf, pair, linked, PairTaken}
 use Rattle.classes.proofs.Links.{Canon, canon-merge, merge-len, merge-is}
 use Rattle.classes.proofs.Roots.{roots-settled}
 use Rattle.classes.proofs.Taking.{tie-or-not, no-conflict, a-conflict}
-use Rattle.sides.specs.inner.Sides.{pairsFrom}
+use Rattle.sides.specs.inner.Sides.{pairsFrom, SidesRead}
+use Rattle.sides.proofs.NextEquation.{Passed}
 use Rattle.solver.specs.inner.Equations.{EquationsTaken}
 
 -- ---- one pair more at the end of those taken
@@ -209,7 +210,7 @@ module _ (t : List Row) where
         }
 
     -- two different fixed bits met
-    pub between-conflict : rep (run (rootsOf h) (pairsOf t (rowAt t row))) 1 ≡ 0 → (h′ : List ℕ) → ties ≤ 524288 → EquationsTaken t h′ row ties
+    pub between-conflict : rep (run (rootsOf h) (pairsOf t (rowAt t row))) 1 ≡ 0 → (h′ : List ℕ) → ties ≤ 1000000 → EquationsTaken t h′ row ties
     between-conflict z h′ few =
         let n : eqb (rep (run c ps) 1) 0 ≡ true = eq-eqb (rep (run c ps) 1) 0 z in
         record {
@@ -220,7 +221,24 @@ module _ (t : List Row) where
           classes-are = λ e. absurd (omega arith);
         }
 
-  pub between-done : (h : List ℕ) (ties row : ℕ) → Between h ties row → length t ≤ row → ties ≤ 524288 → EquationsTaken t h row ties
+  -- rows were passed that have no bit pairs
+  between-past : (d : ℕ) (h : List ℕ) (ties row : ℕ) → Between h ties row → row + d ≤ length t
+      → ((i : ℕ) → row ≤ i → i < row + d → SidesRead t i [] [] 0) → Between h ties (row + d)
+  between-past zero h ties row b g none = let e : row ≡ row + 0 = omega arith in subst (Between h ties) e b
+  between-past (suc d) h ties row b g none =
+      let m : Between h (ties + 0) (row + 1) =
+      between-more h ties row b (omega arith) [] [] h 0 0 (taking-first [] [] _ h (b .canon) (b .low) refl (sym (b .roots-len)) (b .one)) (none row (omega arith) (omega arith) .pairs) in
+      let z : ties + 0 ≡ ties = omega arith in
+      let e : row + 1 + d ≡ row + suc d = omega arith in
+      subst (Between h ties) e
+      (between-past d h ties (row + 1) (subst (λ (n : ℕ). Between h n (row + 1)) z m) (omega arith) (λ i a l. none i (omega arith) (omega arith)))
+
+  pub between-next : (h : List ℕ) (ties row n : ℕ) → Between h ties row → Passed t row n → Between h ties n
+  between-next h ties row n b p =
+      let e : row + (n - row) ≡ n = omega (arith, p .forth) in
+      subst (Between h ties) e (between-past (n - row) h ties row b (omega (arith, p .forth, p .most)) (λ i a l. p .none i a (omega (arith, p .forth))))
+
+  pub between-done : (h : List ℕ) (ties row : ℕ) → Between h ties row → length t ≤ row → ties ≤ 1000000 → EquationsTaken t h row ties
   unfolding conflictAt linksBefore runAll
   between-done h ties row b g few =
       let z : drop row es ≡ [] = pairs-past t row g in

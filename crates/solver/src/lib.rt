@@ -31,7 +31,7 @@ fn take_equations(
 {
     let rows = numbers::lesser(table.len() / 4, terms::MAX_ROWS);
     let mut ties: usize = 0;
-    let mut r: usize = 0;
+    let mut r = sides::next_equation(table, 0, rows);
     'solve: while r < rows {
         let pairs = sides::equation_pairs(table, widths, variables, lows, r, form, left, right);
         let width = numbers::lesser(pairs, terms::MAX_WIDTH);
@@ -50,7 +50,7 @@ fn take_equations(
             k += 1;
         }
         ties += found;
-        r += 1;
+        r = sides::next_equation(table, r + 1, rows);
     }
     Taken { row: r, ties: ties }
 }

@@ -1,8 +1,10 @@
--- What the functions promise of an equation's sides: their bits as sources, read from normal forms.
+-- What the functions promise of equations: which row is the next one, and the bits of its sides as sources, read from normal forms.
 use mathlib.Core.Path.{_≡_}
 use mathlib.Core.List.{List, [], _∷_}
-use Prim.Native.Nat.{ℕ, zero, suc, _+_, _≤_, _<_}
+use Prim.Native.Nat.{ℕ, zero, suc, _+_, _-_, _≤_, _<_}
+use lib.Dec.{eqb}
 use lib.ListN.{length, getD}
+use Rattle.laws.specs.Lists.{least}
 use Rattle.terms.specs.declared.Row.{Row}
 use Rattle.terms.specs.Table.{rowsOf, rowAt, bitsOf, countKind}
 use Rattle.terms.specs.inner.Places.{lowSource}
@@ -13,6 +15,10 @@ use Rattle.answers.specs.Pairs.{Pair, pairsOf}
 pub record Prepared (table widths variables lows : List ℕ) : Type 0 where
   pub numbered : Numbered table widths variables
   pub lows-are : (v : ℕ) → v < countKind 0 (rowsOf table) → getD lows v 0 ≡ lowSource (rowsOf table) v
+
+-- The first equation of a table from row `from` on, of its first so many rows; the row behind them, if there is none.
+unfoldable pub nextEquation : List Row → ℕ → ℕ → ℕ
+nextEquation t from rows = least (λ r. eqb (rowAt t r .kind) 4) from (rows - from)
 
 -- w pairs of two lists of sources, from number k on.
 unfoldable pub pairsFrom : List ℕ → List ℕ → ℕ → ℕ → List Pair

@@ -3,7 +3,7 @@ use borrow.Author.Needs.{needs}
 use mathlib.Core.Logic.{⊎-elim, _≢_}
 use mathlib.Core.Path.{_≡_, refl, sym, ap, _∙_, subst}
 use mathlib.Core.List.{List}
-use Prim.Native.Nat.{ℕ, _<_, _≤_, _-_, _+_, _*_}
+use Prim.Native.Nat.{ℕ, _<_, _≤_, _-_, _+_, _*_, _/_, min}
 use native.Mathlib.Omega.{arith}
 use lib.ListN.{length, getD}
 use denote.Ref.{now}
@@ -14,8 +14,9 @@ use Rattle.answers.specs.Pairs.{Pair}
 use Rattle.answers.specs.inner.Classes.{rep, run}
 use Rattle.classes.specs.inner.Links.{numberOf, rootsOf, PairTaken}
 use Rattle.sides.specs.inner.Sides.{Prepared, SidesRead, pairsFrom}
+use Rattle.sides.proofs.NextEquation.{next-forth, next-passed}
 use Rattle.solver.specs.inner.Equations.{unlinked}
-use Rattle.solver.proofs.Taking.{Taking, taking-first, taking-to, taking-conflict, Between, between-first, between-more, between-conflict, between-done}
+use Rattle.solver.proofs.Taking.{Taking, taking-first, taking-to, taking-conflict, Between, between-first, between-more, between-next, between-conflict, between-done}
 use Rattle.solver.proofs.take_equations.Statement.{statement}
 use Rattle.solver.proofs.take_equations.Tie as tie
 
@@ -37,31 +38,46 @@ abbrev μ-loop : tie.MeasureT-loop
 
 abbrev Inv-solve : tie.InvT-solve
 Inv-solve table widths variables lows form₀ left₀ right₀ links₀ rows ties₀ r₀ form left right links ties r =
-    (r ≤ rows) × (ties ≤ 1024 * r) × (length form ≡ length form₀) × (length left ≡ length left₀) × (length right ≡ length right₀) × (length links ≡ length links₀)
+    (ties ≤ 1024 * r + 1024) × (ties ≤ 1000000) × (length form ≡ length form₀) × (length left ≡ length left₀) × (length right ≡ length right₀) × (length links ≡ length links₀)
     × (Given table widths variables lows form₀ left₀ right₀ links₀ → Between (rowsOf table) links ties r)
 
 abbrev μ-solve : tie.MeasureT-solve
 μ-solve table widths variables lows form₀ left₀ right₀ links₀ rows ties₀ r₀ form left right links ties r = rows - r
 
+-- all rows of the table are searched
+whole-table : (table : List ℕ) (rows : ℕ) {widths variables lows : List ℕ} → Prepared table widths variables lows → rows ≡ min (length table / 4) 512 → rows ≡ length (rowsOf table)
+whole-table table rows p e = omega (arith, rows-length table, accepted-table table (p .numbered .accepted) .few)
+
 -- the row is there
-row-there : (d : tie.After-lesser2 Inv-loop μ-loop Inv-solve μ-solve) → d .before .before .before .before .before .before .before .before .before .before .before .before .solve .r < length (rowsOf (now (d .before .before .before .before .before .before .before .before .before .before .before .before .before .before .before .before .before .before .before .before .before .before .args .table)))
-row-there d = omega (arith, d .before .before .before .before .before .before .before .before .before .before .before .solve-test .taken, d .before .before .before .before .before .before .before .before .before .before .before .before .before .lesser .ensures .0, rows-length (now (d .before .before .before .before .before .before .before .before .before .before .before .before .before .before .before .before .before .before .before .before .before .before .args .table)))
+row-there : (d : tie.After-lesser2 Inv-loop μ-loop Inv-solve μ-solve) → d .before .before .before .before .before .before .before .before .before .before .before .before .solve .r < length (rowsOf (now (d .before .before .before .before .before .before .before .before .before .before .before .before .before .before .before .before .before .before .before .before .before .before .before .args .table)))
+row-there d = omega (arith, d .before .before .before .before .before .before .before .before .before .before .before .solve-test .taken, d .before .before .before .before .before .before .before .before .before .before .before .before .before .before .lesser .ensures .0, rows-length (now (d .before .before .before .before .before .before .before .before .before .before .before .before .before .before .before .before .before .before .before .before .before .before .before .args .table)))
 
 -- its bit pairs are read
 sides : (d : tie.After-lesser2 Inv-loop μ-loop Inv-solve μ-solve)
-    → Given (now (d .before .before .before .before .before .before .before .before .before .before .before .before .before .before .before .before .before .before .before .before .before .before .args .table)) (now (d .before .before .before .before .before .before .before .before .before .before .before .before .before .before .before .before .before .before .before .before .before .before .args .widths)) (now (d .before .before .before .before .before .before .before .before .before .before .before .before .before .before .before .before .before .before .before .before .before .before .args .variables)) (now (d .before .before .before .before .before .before .before .before .before .before .before .before .before .before .before .before .before .before .before .before .before .before .args .lows)) (now (d .before .before .before .before .before .before .before .before .before .before .before .before .before .before .before .before .before .before .before .before .before .before .args .form)) (now (d .before .before .before .before .before .before .before .before .before .before .before .before .before .before .before .before .before .before .before .before .before .before .args .left)) (now (d .before .before .before .before .before .before .before .before .before .before .before .before .before .before .before .before .before .before .before .before .before .before .args .right)) (now (d .before .before .before .before .before .before .before .before .before .before .before .before .before .before .before .before .before .before .before .before .before .before .args .links))
-    → SidesRead (rowsOf (now (d .before .before .before .before .before .before .before .before .before .before .before .before .before .before .before .before .before .before .before .before .before .before .args .table))) (d .before .before .before .before .before .before .before .before .before .before .before .before .solve .r) (d .before .before .before .before .before .before .before .equation-pairs .last .1 .1 .1 .1 .1 .1 .0) (d .before .before .before .before .before .before .before .equation-pairs .last .1 .1 .1 .1 .1 .1 .1 .0) (d .lesser2 .result)
+    → Given (now (d .before .before .before .before .before .before .before .before .before .before .before .before .before .before .before .before .before .before .before .before .before .before .before .args .table)) (now (d .before .before .before .before .before .before .before .before .before .before .before .before .before .before .before .before .before .before .before .before .before .before .before .args .widths)) (now (d .before .before .before .before .before .before .before .before .before .before .before .before .before .before .before .before .before .before .before .before .before .before .before .args .variables)) (now (d .before .before .before .before .before .before .before .before .before .before .before .before .before .before .before .before .before .before .before .before .before .before .before .args .lows)) (now (d .before .before .before .before .before .before .before .before .before .before .before .before .before .before .before .before .before .before .before .before .before .before .before .args .form)) (now (d .before .before .before .before .before .before .before .before .before .before .before .before .before .before .before .before .before .before .before .before .before .before .before .args .left)) (now (d .before .before .before .before .before .before .before .before .before .before .before .before .before .before .before .before .before .before .before .before .before .before .before .args .right)) (now (d .before .before .before .before .before .before .before .before .before .before .before .before .before .before .before .before .before .before .before .before .before .before .before .args .links))
+    → SidesRead (rowsOf (now (d .before .before .before .before .before .before .before .before .before .before .before .before .before .before .before .before .before .before .before .before .before .before .before .args .table))) (d .before .before .before .before .before .before .before .before .before .before .before .before .solve .r) (d .before .before .before .before .before .before .before .equation-pairs .last .1 .1 .1 .1 .1 .1 .0) (d .before .before .before .before .before .before .before .equation-pairs .last .1 .1 .1 .1 .1 .1 .1 .0) (d .lesser2 .result)
 sides d g =
     let o = d .before .before .before .before .before .before .before .before .before .before .before .before .solve in
     let s = d .before .before .before .before .before .before .before .equation-pairs .ensures (g .prepared) (row-there d) (omega (arith, g .form-room, o .inv .2)) (omega (arith, g .left-room, o .inv .3)) (omega (arith, g .right-room, o .inv .4)) in
     let e : d .before .before .before .before .before .before .before .equation-pairs .result ≡ d .lesser2 .result = omega (arith, s .few, d .lesser2 .ensures .0) in
-    subst (SidesRead (rowsOf (now (d .before .before .before .before .before .before .before .before .before .before .before .before .before .before .before .before .before .before .before .before .before .before .args .table))) (o .r) (d .before .before .before .before .before .before .before .equation-pairs .last .1 .1 .1 .1 .1 .1 .0) (d .before .before .before .before .before .before .before .equation-pairs .last .1 .1 .1 .1 .1 .1 .1 .0)) e s
+    subst (SidesRead (rowsOf (now (d .before .before .before .before .before .before .before .before .before .before .before .before .before .before .before .before .before .before .before .before .before .before .before .args .table))) (o .r) (d .before .before .before .before .before .before .before .equation-pairs .last .1 .1 .1 .1 .1 .1 .0) (d .before .before .before .before .before .before .before .equation-pairs .last .1 .1 .1 .1 .1 .1 .1 .0)) e s
 
 lesser-requires : tie.Need-lesser-requires Inv-loop μ-loop Inv-solve μ-solve
 lesser-requires c κs = search needs
 
+next-equation-requires : tie.Need-next-equation-requires Inv-loop μ-loop Inv-solve μ-solve
+next-equation-requires c κs = search needs
+
 solve-holds : tie.Need-solve-holds Inv-loop μ-loop Inv-solve μ-solve
-solve-holds c = (omega arith, omega arith, refl, refl, refl, refl, λ g. between-first _ _ (g .fresh))
+solve-holds c = (
+  omega arith,
+  omega arith,
+  refl,
+  refl,
+  refl,
+  refl,
+  λ g. between-next _ _ _ _ _ (between-first _ _ (g .fresh)) (next-passed _ _ _ _ (g .prepared) _ _ _ (omega arith) (whole-table _ _ (g .prepared) (c .before .lesser .ensures .0)) (c .next-equation .ensures)),
+)
 
 equation-pairs-requires : tie.Need-equation-pairs-requires Inv-loop μ-loop Inv-solve μ-solve
 equation-pairs-requires c κs = search needs
@@ -101,8 +117,8 @@ loop-less c = omega (arith, c .before .before .before .before .before .before .b
 
 -- the pair that was taken
 pair-taken : (d : tie.After-take-pair Inv-loop μ-loop Inv-solve μ-solve)
-    → Between (rowsOf (now (d .before .before .before .before .before .before .before .before .before .before .before .before .before .before .before .before .before .before .before .before .before .before .before .before .before .before .before .before .before .before .args .table))) (d .before .before .before .before .before .before .before .before .before .before .before .before .before .before .before .before .before .before .before .before .solve .links) (d .before .before .before .before .before .before .before .before .before .before .before .before .before .before .before .before .before .before .before .before .solve .ties) (d .before .before .before .before .before .before .before .before .before .before .before .before .before .before .before .before .before .before .before .before .solve .r)
-    → SidesRead (rowsOf (now (d .before .before .before .before .before .before .before .before .before .before .before .before .before .before .before .before .before .before .before .before .before .before .before .before .before .before .before .before .before .before .args .table))) (d .before .before .before .before .before .before .before .before .before .before .before .before .before .before .before .before .before .before .before .before .solve .r) (d .before .before .before .before .before .before .before .before .before .before .before .before .before .before .before .equation-pairs .last .1 .1 .1 .1 .1 .1 .0) (d .before .before .before .before .before .before .before .before .before .before .before .before .before .before .before .equation-pairs .last .1 .1 .1 .1 .1 .1 .1 .0) (d .before .before .before .before .before .before .before .before .lesser2 .result)
+    → Between (rowsOf (now (d .before .before .before .before .before .before .before .before .before .before .before .before .before .before .before .before .before .before .before .before .before .before .before .before .before .before .before .before .before .before .before .args .table))) (d .before .before .before .before .before .before .before .before .before .before .before .before .before .before .before .before .before .before .before .before .solve .links) (d .before .before .before .before .before .before .before .before .before .before .before .before .before .before .before .before .before .before .before .before .solve .ties) (d .before .before .before .before .before .before .before .before .before .before .before .before .before .before .before .before .before .before .before .before .solve .r)
+    → SidesRead (rowsOf (now (d .before .before .before .before .before .before .before .before .before .before .before .before .before .before .before .before .before .before .before .before .before .before .before .before .before .before .before .before .before .before .before .args .table))) (d .before .before .before .before .before .before .before .before .before .before .before .before .before .before .before .before .before .before .before .before .solve .r) (d .before .before .before .before .before .before .before .before .before .before .before .before .before .before .before .equation-pairs .last .1 .1 .1 .1 .1 .1 .0) (d .before .before .before .before .before .before .before .before .before .before .before .before .before .before .before .equation-pairs .last .1 .1 .1 .1 .1 .1 .1 .0) (d .before .before .before .before .before .before .before .before .lesser2 .result)
     → PairTaken (d .before .before .before .before .before .before .before .loop .links) (d .take-pair .last .0) (getD (d .before .before .before .before .before .before .before .before .before .before .before .before .before .before .before .equation-pairs .last .1 .1 .1 .1 .1 .1 .0) (d .before .before .before .before .before .before .before .loop .k) 0) (getD (d .before .before .before .before .before .before .before .before .before .before .before .before .before .before .before .equation-pairs .last .1 .1 .1 .1 .1 .1 .1 .0) (d .before .before .before .before .before .before .before .loop .k) 0) (numberOf (d .take-pair .result))
 pair-taken d b s =
     let l = d .before .before .before .before .before .before .before .loop in
@@ -116,8 +132,8 @@ loop-again c =
     let l = c .before .before .before .before .before .before .before .before .before .before .loop in
     let p = c .before .before .before .take-pair in
     let more : (got : ℕ) → numberOf (p .result) ≡ got → got ≢ 2 → l .found + got ≡ c .match .found
-    → Between (rowsOf (now (c .before .before .before .before .before .before .before .before .before .before .before .before .before .before .before .before .before .before .before .before .before .before .before .before .before .before .before .before .before .before .before .before .before .args .table))) (c .before .before .before .before .before .before .before .before .before .before .before .before .before .before .before .before .before .before .before .before .before .before .before .solve .links) (c .before .before .before .before .before .before .before .before .before .before .before .before .before .before .before .before .before .before .before .before .before .before .before .solve .ties) (c .before .before .before .before .before .before .before .before .before .before .before .before .before .before .before .before .before .before .before .before .before .before .before .solve .r)
-    → SidesRead (rowsOf (now (c .before .before .before .before .before .before .before .before .before .before .before .before .before .before .before .before .before .before .before .before .before .before .before .before .before .before .before .before .before .before .before .before .before .args .table))) (c .before .before .before .before .before .before .before .before .before .before .before .before .before .before .before .before .before .before .before .before .before .before .before .solve .r) (c .before .before .before .before .before .before .before .before .before .before .before .before .before .before .before .before .before .before .equation-pairs .last .1 .1 .1 .1 .1 .1 .0) (c .before .before .before .before .before .before .before .before .before .before .before .before .before .before .before .before .before .before .equation-pairs .last .1 .1 .1 .1 .1 .1 .1 .0) (c .before .before .before .before .before .before .before .before .before .before .before .lesser2 .result)
+    → Between (rowsOf (now (c .before .before .before .before .before .before .before .before .before .before .before .before .before .before .before .before .before .before .before .before .before .before .before .before .before .before .before .before .before .before .before .before .before .before .args .table))) (c .before .before .before .before .before .before .before .before .before .before .before .before .before .before .before .before .before .before .before .before .before .before .before .solve .links) (c .before .before .before .before .before .before .before .before .before .before .before .before .before .before .before .before .before .before .before .before .before .before .before .solve .ties) (c .before .before .before .before .before .before .before .before .before .before .before .before .before .before .before .before .before .before .before .before .before .before .before .solve .r)
+    → SidesRead (rowsOf (now (c .before .before .before .before .before .before .before .before .before .before .before .before .before .before .before .before .before .before .before .before .before .before .before .before .before .before .before .before .before .before .before .before .before .before .args .table))) (c .before .before .before .before .before .before .before .before .before .before .before .before .before .before .before .before .before .before .before .before .before .before .before .solve .r) (c .before .before .before .before .before .before .before .before .before .before .before .before .before .before .before .before .before .before .equation-pairs .last .1 .1 .1 .1 .1 .1 .0) (c .before .before .before .before .before .before .before .before .before .before .before .before .before .before .before .before .before .before .equation-pairs .last .1 .1 .1 .1 .1 .1 .1 .0) (c .before .before .before .before .before .before .before .before .before .before .before .lesser2 .result)
     → Taking (c .before .before .before .before .before .before .before .before .before .before .before .before .before .before .before .before .before .before .equation-pairs .last .1 .1 .1 .1 .1 .1 .0) (c .before .before .before .before .before .before .before .before .before .before .before .before .before .before .before .before .before .before .equation-pairs .last .1 .1 .1 .1 .1 .1 .1 .0) (rootsOf (c .before .before .before .before .before .before .before .before .before .before .before .before .before .before .before .before .before .before .before .before .before .before .before .solve .links)) (p .last .0) (l .k + 1) (c .match .found) =
     λ got e n f b s.
     taking-to _ _ _ (l .links) (l .k) (l .found) (l .inv .3 b s) _ _ (pair-taken (c .before .before .before) b s) _ (omega (arith, e, f)) (p .kept .0) (λ z. n (sym e ∙ z)) in
@@ -131,30 +147,36 @@ loop-again c =
     (c .match .came)
 
 add-ties : tie.Need-add-ties Inv-loop μ-loop Inv-solve μ-solve
-add-ties c = omega (arith, c .before .before .before .before .before .before .before .before .before .before .before .before .before .before .solve .inv .1, c .before .loop .inv .1, c .before .loop .inv .0, c .before .before .lesser2 .ensures .1, c .before .before .before .before .before .before .before .before .before .before .before .before .before .solve-test .taken, c .before .before .before .before .before .before .before .before .before .before .before .before .before .before .before .lesser .ensures .1)
+add-ties c = omega (arith, c .before .before .before .before .before .before .before .before .before .before .before .before .before .before .solve .inv .0, c .before .loop .inv .1, c .before .loop .inv .0, c .before .before .lesser2 .ensures .1, c .before .before .before .before .before .before .before .before .before .before .before .before .before .solve-test .taken, c .before .before .before .before .before .before .before .before .before .before .before .before .before .before .before .before .lesser .ensures .1)
 
-add-r : tie.Need-add-r Inv-loop μ-loop Inv-solve μ-solve
-add-r c = omega (arith, c .before .before .before .before .before .before .before .before .before .before .before .before .before .solve-test .taken, c .before .before .before .before .before .before .before .before .before .before .before .before .before .before .before .lesser .ensures .1)
+add-next-equation : tie.Need-add-next-equation Inv-loop μ-loop Inv-solve μ-solve
+add-next-equation c = omega (arith, c .before .before .before .before .before .before .before .before .before .before .before .before .before .solve-test .taken, c .before .before .before .before .before .before .before .before .before .before .before .before .before .before .before .before .lesser .ensures .1)
+
+next-equation-requires-2 : tie.Need-next-equation-requires-2 Inv-loop μ-loop Inv-solve μ-solve
+next-equation-requires-2 c κs = search needs
 
 solve-less : tie.Need-solve-less Inv-loop μ-loop Inv-solve μ-solve
-solve-less c = omega (arith, c .before .before .before .before .before .before .before .before .before .before .before .before .before .solve-test .taken)
+solve-less c = omega (arith, c .before .before .before .before .before .before .before .before .before .before .before .before .before .before .solve-test .taken, next-forth _ _ _ _ (c .next-equation2 .ensures))
 
 solve-again : tie.Need-solve-again Inv-loop μ-loop Inv-solve μ-solve
 solve-again c =
-    let o = c .before .before .before .before .before .before .before .before .before .before .before .before .before .before .solve in
-    let l = c .before .loop in
-    let e = c .before .before .before .before .before .before .before .before .before .equation-pairs in
-    let w : l .k ≡ c .before .before .lesser2 .result = omega (arith, l .inv .0, c .loop-test .left) in (
-      omega (arith, c .before .before .before .before .before .before .before .before .before .before .before .before .before .solve-test .taken),
-      omega (arith, o .inv .1, l .inv .1, l .inv .0, c .before .before .lesser2 .ensures .1),
+    let o = c .before .before .before .before .before .before .before .before .before .before .before .before .before .before .before .solve in
+    let l = c .before .before .loop in
+    let e = c .before .before .before .before .before .before .before .before .before .before .equation-pairs in
+    let n = c .next-equation2 in
+    let w : l .k ≡ c .before .before .before .lesser2 .result = omega (arith, l .inv .0, c .before .loop-test .left) in (
+      omega (arith, o .inv .0, l .inv .1, l .inv .0, c .before .before .before .lesser2 .ensures .1, next-forth _ _ _ _ (n .ensures)),
+      omega (arith, o .inv .0, l .inv .1, l .inv .0, c .before .before .before .lesser2 .ensures .1, c .before .before .before .before .before .before .before .before .before .before .before .before .before .before .solve-test .taken, c .before .before .before .before .before .before .before .before .before .before .before .before .before .before .before .before .before .lesser .ensures .1),
       e .kept .1 .1 .1 .1 .1 .0 ∙ o .inv .2,
       e .kept .1 .1 .1 .1 .1 .1 .0 ∙ o .inv .3,
       e .kept .1 .1 .1 .1 .1 .1 .1 .0 ∙ o .inv .4,
       l .inv .2 ∙ o .inv .5,
       λ g.
           let b = o .inv .6 g in
-          let s = sides (c .before .before) g in
-          between-more _ _ _ _ b (row-there (c .before .before)) _ _ _ _ _ (l .inv .3 b s) (ap (λ (n : ℕ). pairsFrom (e .last .1 .1 .1 .1 .1 .1 .0) (e .last .1 .1 .1 .1 .1 .1 .1 .0) 0 n) w ∙ s .pairs),
+          let s = sides (c .before .before .before) g in
+          between-next _ _ _ (o .r + 1) _
+          (between-more _ _ _ _ b (row-there (c .before .before .before)) _ _ _ _ _ (l .inv .3 b s) (ap (λ (n : ℕ). pairsFrom (e .last .1 .1 .1 .1 .1 .1 .0) (e .last .1 .1 .1 .1 .1 .1 .1 .0) 0 n) w ∙ s .pairs))
+          (next-passed _ _ _ _ (g .prepared) (o .r + 1) _ _ (omega (arith, c .before .before .before .before .before .before .before .before .before .before .before .before .before .before .solve-test .taken)) (whole-table _ _ (g .prepared) (c .before .before .before .before .before .before .before .before .before .before .before .before .before .before .before .before .before .lesser .ensures .0)) (n .ensures)),
     )
 
 same-length : tie.Need-same-length Inv-loop μ-loop Inv-solve μ-solve
@@ -172,11 +194,11 @@ same-length-4 c = c .before .solve .inv .5
 returns : tie.Need-returns Inv-loop μ-loop Inv-solve μ-solve
 returns c =
     λ p f l r e.
-    let g : Given (now (c .before .before .before .before .before .before .before .before .before .before .before .args .table)) (now (c .before .before .before .before .before .before .before .before .before .before .before .args .widths)) (now (c .before .before .before .before .before .before .before .before .before .before .before .args .variables)) (now (c .before .before .before .before .before .before .before .before .before .before .before .args .lows)) (now (c .before .before .before .before .before .before .before .before .before .before .before .args .form)) (now (c .before .before .before .before .before .before .before .before .before .before .before .args .left)) (now (c .before .before .before .before .before .before .before .before .before .before .before .args .right)) (now (c .before .before .before .before .before .before .before .before .before .before .before .args .links)) =
+    let g : Given (now (c .before .before .before .before .before .before .before .before .before .before .before .before .args .table)) (now (c .before .before .before .before .before .before .before .before .before .before .before .before .args .widths)) (now (c .before .before .before .before .before .before .before .before .before .before .before .before .args .variables)) (now (c .before .before .before .before .before .before .before .before .before .before .before .before .args .lows)) (now (c .before .before .before .before .before .before .before .before .before .before .before .before .args .form)) (now (c .before .before .before .before .before .before .before .before .before .before .before .before .args .left)) (now (c .before .before .before .before .before .before .before .before .before .before .before .before .args .right)) (now (c .before .before .before .before .before .before .before .before .before .before .before .before .args .links)) =
     record { prepared = p; form-room = f; left-room = l; right-room = r; fresh = e } in
     between-done _ _ _ _ (c .before .solve .inv .6 g)
-    (omega (arith, c .solve-test .left, c .before .before .lesser .ensures .0, rows-length (now (c .before .before .before .before .before .before .before .before .before .before .before .args .table)), accepted-table _ (p .numbered .accepted) .few))
-    (omega (arith, c .before .solve .inv .0, c .before .solve .inv .1, c .before .before .lesser .ensures .1))
+    (omega (arith, c .solve-test .left, c .before .before .before .lesser .ensures .0, rows-length (now (c .before .before .before .before .before .before .before .before .before .before .before .before .args .table)), accepted-table _ (p .numbered .accepted) .few))
+    (c .before .solve .inv .1)
 
 same-length-5 : tie.Need-same-length-5 Inv-loop μ-loop Inv-solve μ-solve
 same-length-5 c = c .before .before .before .before .before .before .before .before .before .before .before .before .before .before .before .before .before .before .before .equation-pairs .kept .1 .1 .1 .1 .1 .0 ∙ c .before .before .before .before .before .before .before .before .before .before .before .before .before .before .before .before .before .before .before .before .before .before .before .before .solve .inv .2
@@ -193,7 +215,7 @@ same-length-8 c = c .before .before .before .before .take-pair .kept .0 ∙ c .b
 returns-2 : tie.Need-returns-2 Inv-loop μ-loop Inv-solve μ-solve
 returns-2 c =
     λ p f l r e.
-    let g : Given (now (c .before .before .before .before .before .before .before .before .before .before .before .before .before .before .before .before .before .before .before .before .before .before .before .before .before .before .before .before .before .before .before .before .before .before .args .table)) (now (c .before .before .before .before .before .before .before .before .before .before .before .before .before .before .before .before .before .before .before .before .before .before .before .before .before .before .before .before .before .before .before .before .before .before .args .widths)) (now (c .before .before .before .before .before .before .before .before .before .before .before .before .before .before .before .before .before .before .before .before .before .before .before .before .before .before .before .before .before .before .before .before .before .before .args .variables)) (now (c .before .before .before .before .before .before .before .before .before .before .before .before .before .before .before .before .before .before .before .before .before .before .before .before .before .before .before .before .before .before .before .before .before .before .args .lows)) (now (c .before .before .before .before .before .before .before .before .before .before .before .before .before .before .before .before .before .before .before .before .before .before .before .before .before .before .before .before .before .before .before .before .before .before .args .form)) (now (c .before .before .before .before .before .before .before .before .before .before .before .before .before .before .before .before .before .before .before .before .before .before .before .before .before .before .before .before .before .before .before .before .before .before .args .left)) (now (c .before .before .before .before .before .before .before .before .before .before .before .before .before .before .before .before .before .before .before .before .before .before .before .before .before .before .before .before .before .before .before .before .before .before .args .right)) (now (c .before .before .before .before .before .before .before .before .before .before .before .before .before .before .before .before .before .before .before .before .before .before .before .before .before .before .before .before .before .before .before .before .before .before .args .links)) =
+    let g : Given (now (c .before .before .before .before .before .before .before .before .before .before .before .before .before .before .before .before .before .before .before .before .before .before .before .before .before .before .before .before .before .before .before .before .before .before .before .args .table)) (now (c .before .before .before .before .before .before .before .before .before .before .before .before .before .before .before .before .before .before .before .before .before .before .before .before .before .before .before .before .before .before .before .before .before .before .before .args .widths)) (now (c .before .before .before .before .before .before .before .before .before .before .before .before .before .before .before .before .before .before .before .before .before .before .before .before .before .before .before .before .before .before .before .before .before .before .before .args .variables)) (now (c .before .before .before .before .before .before .before .before .before .before .before .before .before .before .before .before .before .before .before .before .before .before .before .before .before .before .before .before .before .before .before .before .before .before .before .args .lows)) (now (c .before .before .before .before .before .before .before .before .before .before .before .before .before .before .before .before .before .before .before .before .before .before .before .before .before .before .before .before .before .before .before .before .before .before .before .args .form)) (now (c .before .before .before .before .before .before .before .before .before .before .before .before .before .before .before .before .before .before .before .before .before .before .before .before .before .before .before .before .before .before .before .before .before .before .before .args .left)) (now (c .before .before .before .before .before .before .before .before .before .before .before .before .before .before .before .before .before .before .before .before .before .before .before .before .before .before .before .before .before .before .before .before .before .before .before .args .right)) (now (c .before .before .before .before .before .before .before .before .before .before .before .before .before .before .before .before .before .before .before .before .before .before .before .before .before .before .before .before .before .before .before .before .before .before .before .args .links)) =
     record { prepared = p; form-room = f; left-room = l; right-room = r; fresh = e } in
     let b = c .before .before .before .before .before .before .before .before .before .before .before .before .before .before .before .before .before .before .before .before .before .before .before .before .solve .inv .6 g in
     let s = sides (c .before .before .before .before .before .before .before .before .before .before .before .before) g in
@@ -201,7 +223,7 @@ returns-2 c =
     between-conflict _ _ _ _ b (row-there (c .before .before .before .before .before .before .before .before .before .before .before .before))
     (ap (λ (v : List Pair). rep (run (rootsOf (c .before .before .before .before .before .before .before .before .before .before .before .before .before .before .before .before .before .before .before .before .before .before .before .before .solve .links)) v) 1) (sym (s .pairs))
     ∙ taking-conflict _ _ _ (w .links) (w .k) (w .found) (w .inv .3 b s) _ _ (pair-taken (c .before .before .before .before) b s) (ap numberOf (c .enum-told3 .given .1)) _ (c .before .before .before .before .before .before .before .before .before .before .loop-test .taken)) _
-    (omega (arith, c .before .before .before .before .before .before .before .before .before .before .before .before .before .before .before .before .before .before .before .before .before .before .before .before .solve .inv .0, c .before .before .before .before .before .before .before .before .before .before .before .before .before .before .before .before .before .before .before .before .before .before .before .before .solve .inv .1, c .before .before .before .before .before .before .before .before .before .before .before .before .before .before .before .before .before .before .before .before .before .before .before .before .before .lesser .ensures .1))
+    (c .before .before .before .before .before .before .before .before .before .before .before .before .before .before .before .before .before .before .before .before .before .before .before .before .solve .inv .1)
 
 pub take-equations-spec : {M : Type 1} → statement M
 take-equations-spec =
@@ -212,6 +234,7 @@ take-equations-spec =
     Inv-solve
     μ-solve
     lesser-requires
+    next-equation-requires
     solve-holds
     equation-pairs-requires
     lesser-requires-2
@@ -227,7 +250,8 @@ take-equations-spec =
     loop-less
     loop-again
     add-ties
-    add-r
+    add-next-equation
+    next-equation-requires-2
     solve-less
     solve-again
     same-length

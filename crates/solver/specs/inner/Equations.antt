@@ -20,7 +20,7 @@ unlinked t = countUp 0 (suc (suc (bitsOf t)))
 pub record EquationsTaken (t : List Row) (links : List ℕ) (row ties : ℕ) : Type 0 where
   pub row-is : row ≡ conflictAt (countUp 0 (suc (suc (bitsOf t)))) (equationPairs t)
   pub ties-are : ties ≡ linksBefore (countUp 0 (suc (suc (bitsOf t)))) (equationPairs t)
-  pub few : ties ≤ 524288
+  pub few : ties ≤ 1000000
   pub low : row ≡ length t → Low links
   pub classes-are : row ≡ length t → rootsOf links ≡ runAll (countUp 0 (suc (suc (bitsOf t)))) (equationPairs t)
 

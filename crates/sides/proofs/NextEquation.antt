@@ -1,0 +1,61 @@
+-- The next equation of a table: what is left to search says what the whole search says, and no row passed is an equation. Assumes
+-- nothing.
+use mathlib.Core.Path.{_≡_, refl, sym, _∙_, ap}
+use mathlib.Core.Bool.{Bool}
+use mathlib.Core.List.{List, []}
+use mathlib.Core.Logic.{_≢_}
+use Prim.Native.Nat.{ℕ, suc, _+_, _-_, _≤_, _<_}
+use native.Mathlib.Omega.{arith}
+use native.Mathlib.Numerals.{add-one}
+use lib.Dec.{eqb}
+use lib.ListN.{length}
+use borrow.Author.Tests.{eq-eqb, ne-eqb, eqb-false}
+use Rattle.laws.specs.Lists.{least}
+use Rattle.laws.proofs.Least.{least-within, least-passed}
+use Rattle.terms.specs.declared.Row.{Row}
+use Rattle.terms.specs.Table.{rowsOf, rowAt}
+use Rattle.sides.specs.inner.Sides.{Prepared, SidesRead, nextEquation}
+use Rattle.sides.proofs.EquationPairs.{no-pairs}
+
+module _ (t : List Row) (r rows : ℕ) where
+  pub next-found : r < rows → rowAt t r .kind ≡ 4 → r ≡ nextEquation t r rows
+  unfolding nextEquation least
+  next-found l e =
+      let m : rows - r ≡ suc (rows - suc r) = omega arith in
+      rw (m, eq-eqb (rowAt t r .kind) 4 e) refl
+
+  pub next-more : r < rows → rowAt t r .kind ≢ 4 → nextEquation t (r + 1) rows ≡ nextEquation t r rows
+  unfolding nextEquation least
+  next-more l n =
+      let m : rows - r ≡ suc (rows - suc r) = omega arith in
+      rw (add-one r, m, ne-eqb (rowAt t r .kind) 4 n) refl
+
+  pub next-end : rows ≤ r → r ≡ nextEquation t r rows
+  unfolding nextEquation least
+  next-end l =
+      let m : rows - r ≡ 0 = omega arith in
+      rw m refl
+
+-- no search goes back
+pub next-forth : (t : List Row) (from rows n : ℕ) → n ≡ nextEquation t from rows → from ≤ n
+unfolding nextEquation
+next-forth t from rows n e = omega (arith, least-within (λ r. eqb (rowAt t r .kind) 4) from (rows - from) .0)
+
+-- The rows of a table from one row to another: none of them has bit pairs.
+pub record Passed (t : List Row) (from n : ℕ) : Type 0 where
+  pub forth : from ≤ n
+  pub most : n ≤ length t
+  pub none : (i : ℕ) → from ≤ i → i < n → SidesRead t i [] [] 0
+
+pub next-passed : (table widths variables lows : List ℕ) → Prepared table widths variables lows → (from rows n : ℕ) → from ≤ rows → rows ≡ length (rowsOf table)
+    → n ≡ nextEquation (rowsOf table) from rows → Passed (rowsOf table) from n
+unfolding nextEquation
+next-passed table widths variables lows ready from rows n l whole e =
+    let test : ℕ → Bool = λ r. eqb (rowAt (rowsOf table) r .kind) 4 in
+    let w = least-within test from (rows - from) in
+    let most : n ≤ length (rowsOf table) = omega (arith, w .1) in
+    record {
+      forth = omega (arith, w .0);
+      most = most;
+      none = λ i a b. no-pairs table widths variables lows ready i (omega arith) [] [] (eqb-false _ _ (least-passed test from (rows - from) i a (omega arith)));
+    }
