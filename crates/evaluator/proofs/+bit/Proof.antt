@@ -194,7 +194,7 @@ bit-bit-requires-3 t c κs =
         is-ready t d,
         (
           rw (a-is t d) named,
-          rw (a-is t d, b-is t d, width-is t (c .before) (named .there)) (cut-within _ _ _ _ (is-ready t d) _ (is-term t d) _ (is-inside t d) k .1),
+          rw (a-is t d) (omega (arith, b-is t d, width-is t (c .before) (named .there), cut-within _ _ _ _ (is-ready t d) _ (is-term t d) _ (is-inside t d) k .1)),
         ),
       ),
     )
