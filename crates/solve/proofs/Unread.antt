@@ -1,18 +1,18 @@
 -- What follows the first 16,385 bytes of an input changes nothing that is printed: the sheet is too long by then. So the print of what was
 -- read is that of the whole input. Assumes nothing.
 use mathlib.Core.Path.{_≡_, refl, sym, _∙_, ap}
+use mathlib.Core.Logic.{⊎-elim}
 use mathlib.Core.Bool.{Bool, true, false}
 use mathlib.Core.List.{List, []}
 use Prim.Native.Nat.{ℕ}
 use native.Mathlib.Omega.{arith}
 use lib.Dec.{ltb}
-use lib.ListN.{length, take, length-take}
+use lib.ListN.{length, take}
 use lib.Seq.{length-take-le, take-all}
 use borrow.Author.Tests.{ltb-true, ltb-false, lt-ltb}
 use Rattle.input.specs.declared.Input.{Input}
-use Rattle.input.specs.declared.State.{State}
-use Rattle.input.specs.declared.State.the-variants.{Open, Ended, Failed}
-use Rattle.input.specs.Reading.{textOf, mayCome, hasFailed, Whole, ReadFrom}
+use Rattle.input.specs.Reading.{textOf, Whole, ReadFrom}
+use Rattle.input.proofs.Reading.{whole-or-first}
 use Rattle.sheets.specs.declared.Sheet.the-variants.{TooLong}
 use Rattle.sheets.specs.Sheet.{sheetFound, sheetRows}
 use Rattle.sheets.specs.Call.{sheetRecord}
@@ -39,11 +39,5 @@ rest-unread input = go (ltb 16384 (length input)) refl
     go false e = ap programText (take-all 16385 input (omega (arith, ltb-false 16384 (length input) e)))
 
 pub whole-print : (input : List ℕ) (i : Input) → Whole i → ReadFrom input i → programText (textOf i) ≡ programText input
-whole-print input i w r = go (i .state) refl
-  where
-    go : (s : State) → i .state ≡ s → programText (textOf i) ≡ programText input
-    go Open e =
-        let full : i .len ≡ 16385 = omega (arith, w .all (ap mayCome e), w .bounds .within, length-take (i .len) (i .bytes)) in
-        ap programText (r .begins ∙ ap (λ (n : ℕ). take n input) full) ∙ rest-unread input
-    go Ended e = ap programText (r .ended e)
-    go Failed e = let z : true ≡ false = sym (ap hasFailed e) ∙ w .sound in let y : _≡_ {A = ℕ} 0 1 = cc in absurd (omega arith)
+whole-print input i w r =
+    ⊎-elim (λ e. ap programText e) (λ e. ap programText e ∙ rest-unread input) (whole-or-first input i w r)

@@ -1,8 +1,7 @@
 -- `more` meets its contract: the bytes read before are not lent to the read. Assumes nothing.
-use mathlib.Core.Path.{_≡_, sym, _∙_, subst}
+use mathlib.Core.Path.{sym, _∙_, subst}
 use Prim.Native.Nat.{ℕ, _-_}
 use native.Mathlib.Omega.{arith}
-use lib.IntN.{ℤ}
 use mir.Syntax.{w64}
 use mir.Val.{toZ, ofZ}
 use mir.ValLaws.{toZ-ofZ}
@@ -43,9 +42,10 @@ returns c =
     let i = s .args .self in
     let read = c .before .before .read in
     subst (λ (r : Input). GoesOn i r) (sym (c .after .ensures))
-    (goes-on i _ (toZ w64 (ofZ w64 (read .result))) (s .pre)
+    (goes-on i _ (s .pre)
     (same-len-mid (i .len) (16385 - i .len) (i .bytes) (read .last .1 .0) (read .kept .1 .0) ∙ s .pre .room)
-    (take-put (i .len) (16385 - i .len) (i .bytes) (read .last .1 .0) (omega arith)) (moved (c .before)))
+    (take-put (i .len) (16385 - i .len) (i .bytes) (read .last .1 .0) (omega arith))
+    (toZ w64 (ofZ w64 (read .result))) (moved (c .before)))
 
 pub more-spec : {M : Type 1} → statement M
 more-spec =
