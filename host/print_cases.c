@@ -1,15 +1,18 @@
 /*
-  print_cases.c -- what the program of the crate cases has to print
+  print_cases.c -- what the programs of the crates cases and solve have to print
 
       print_cases DIRECTORY <NAMES
+      print_cases DIRECTORY PRINTS <NAMES
 
   For each name on a line of standard input, the sheet of that name in the
   directory is read, solved by an enumeration of all patterns, and printed as
-  crates/cases/src/main.rt says. Nothing of it is the library's: the readers and
-  the makers are those of reference.h, enumerate.h and plain_pattern.h.
+  crates/cases/src/main.rt says. With a second directory, what the program solve
+  has to print for the sheet, and nothing else, is put into a file of that name
+  there. Nothing of it is the library's: the readers and the makers are those of
+  reference.h, enumerate.h and plain_pattern.h.
 
-  The exit status is 1 if a sheet cannot be read, or if its table is accepted
-  and has more variable bits than can be enumerated.
+  The exit status is 1 if a sheet cannot be read, if its table is accepted and
+  has more variable bits than can be enumerated, or if nothing can be written.
 */
 
 #include <inttypes.h>
@@ -92,8 +95,8 @@ static void print_patterns(void)
     }
 }
 
-/* All that is printed for the first bytes of the sheet; whether it could be. */
-static bool print_sheet(size_t len)
+/* All that is printed for the first bytes of the sheet, or what solve prints; whether it could be. */
+static bool print_sheet(size_t len, bool solve_only)
 {
     lw_record record = ref_read_sheet(sheet, len, table, 4 * REF_ROWS);
     size_t numbers = 4 * (size_t)record.pieces;
@@ -114,6 +117,8 @@ static bool print_sheet(size_t len)
         printf("variable kind width fresh\n");
         print_rows(found.answer, record.pieces);
     }
+    if (solve_only)
+        return true;
     print_forms(numbers);
     if (record.outcome != NEVER)
         print_row_values(numbers);
@@ -125,8 +130,9 @@ static bool print_sheet(size_t len)
 int main(int argc, char **argv)
 {
     char name[256], path[1024];
+    const bool solve_only = argc == 3;
 
-    while (argc == 2 && fgets(name, sizeof name, stdin) != NULL) {
+    while ((argc == 2 || argc == 3) && fgets(name, sizeof name, stdin) != NULL) {
         name[strcspn(name, "\n")] = '\0';
         snprintf(path, sizeof path, "%s/%s", argv[1], name);
         FILE *file = fopen(path, "rb");
@@ -136,11 +142,21 @@ int main(int argc, char **argv)
         }
         size_t len = fread(sheet, 1, sizeof sheet, file);
         fclose(file);
-        printf("%s\n", name);
-        if (!print_sheet(len)) {
-            fprintf(stderr, "%s: more than %d variable bits\n", path, ENUM_BITS);
+        if (solve_only) {
+            snprintf(path, sizeof path, "%s/%s", argv[2], name);
+            if (freopen(path, "wb", stdout) == NULL) {
+                perror(path);
+                return 1;
+            }
+        } else {
+            printf("%s\n", name);
+        }
+        if (!print_sheet(len, solve_only)) {
+            fprintf(stderr, "%s: more than %d variable bits\n", name, ENUM_BITS);
             return 1;
         }
+        if (fflush(stdout) != 0)
+            return 1;
     }
-    return argc == 2 && fflush(stdout) == 0 ? 0 : 1;
+    return argc == 2 || argc == 3 ? 0 : 1;
 }
