@@ -120,8 +120,7 @@ static void accept(where at, const uint16_t *answer, size_t len, const uint8_t *
     /* A slip in what is expected is found too. */
     memset(content, 9, bits);
     check_record(at, "plain pattern maker", plain_make_pattern(answer, len, fresh, fresh_len, content, bits), want);
-    check(bits == 0 || memcmp(content, pattern, bits) == 0, at,
-          "the plain pattern maker's pattern is another");
+    check(bits == 0 || memcmp(content, pattern, bits) == 0, at, "the plain pattern maker's pattern is another");
 
     call(at, "accepted", answer, len, fresh, fresh_len, NULL, bits, want, pattern);
     for (size_t i = 0; i < COUNT(longer); i++)

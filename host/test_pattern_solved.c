@@ -45,8 +45,7 @@ static bool solve(const char *name, const draft *d, solved_table *s)
     static uint16_t work[LW_SOLVER_NUMBERS];
 
     lw_record accepted = ref_check(d->t.numbers, d->t.len, &s->facts);
-    if (!check(accepted.outcome == 0, HERE, "%s: refused %u, row %u", name, accepted.outcome,
-               accepted.row))
+    if (!check(accepted.outcome == 0, HERE, "%s: refused %u, row %u", name, accepted.outcome, accepted.row))
         return false;
     s->record = lw_solve(d->t.numbers, d->t.len, s->answer, LW_SOLVER_NUMBERS, work, LW_SOLVER_NUMBERS);
     if (s->record.outcome != 2)

@@ -20,12 +20,18 @@
 #include "test_sheet.h"
 #include "timing.h"
 
+/* Texts. */
+
+/* A literal as two arguments: its bytes and their count; and all of a text. */
+#define TEXT(literal) (const uint8_t *)(literal), sizeof(literal) - 1
+#define ALL_OF(t)     (t).bytes, (t).len
+
+/* The numbers of the specification's sheet; and of one without rows. */
+#define ROWS    TABLE(0, 8, 0, 0, 3, 0, 6, 3, 3, 0, 4, 1, 4, 1, 2, 0)
 #define NO_ROWS NULL, 0
 
 /* The normal form of a part of variable 0. */
 #define PART_OF(high, low) LW_PART, 0, (high), (low)
-
-/* Texts. */
 
 void put_byte(text *t, int byte)
 {
@@ -577,8 +583,7 @@ static void test_output(void)
              (lw_record){.pieces = 1}, rows);
         call(HERE, "long output, no rows", TEXT(NAMES), sizeof NAMES - 1, NULL, long_lengths[i],
              (lw_record){.pieces = 0}, NULL);
-        call(HERE, "long output, 512 rows", ALL_OF(t), t.len, NULL, long_lengths[i],
-             (lw_record){.pieces = 512}, rows);
+        call(HERE, "long output, 512 rows", ALL_OF(t), t.len, NULL, long_lengths[i], (lw_record){.pieces = 512}, rows);
     }
 
     /* Behind every other refusal; most are had with short outputs by refuse() too. */

@@ -8,22 +8,16 @@
 
 /* Texts. */
 
-/* A literal as two arguments: its bytes and their count. */
-#define TEXT(literal) (const uint8_t *)(literal), sizeof(literal) - 1
-
 #define NAMES "kind a b c\n"
 
-/* The sheet of the specification, and its numbers. */
+/* The sheet of the specification. */
 #define SHEET NAMES "0 8 0 0\n3 0 6 3\n3 0 4 1\n4 1 2 0\n"
-#define ROWS  TABLE(0, 8, 0, 0, 3, 0, 6, 3, 3, 0, 4, 1, 4, 1, 2, 0)
 
 /* A text that grows. */
 typedef struct {
     uint8_t bytes[200000];
     size_t len;
 } text;
-
-#define ALL_OF(t) (t).bytes, (t).len
 
 void put_byte(text *t, int byte);
 void put(text *t, const char *words);

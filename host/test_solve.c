@@ -472,8 +472,7 @@ static void test_memory(void)
     for (size_t i = 0; i < count; i++)
         for (size_t j = 0; j < count; j++) {
             lw_record want = expected(good, 16, lens[i], lens[j], answer);
-            check(want.outcome == (lens[i] < LEAST || lens[j] < LEAST ? 10 : 2), HERE, "expected %u",
-                  want.outcome);
+            check(want.outcome == (lens[i] < LEAST || lens[j] < LEAST ? 10 : 2), HERE, "expected %u", want.outcome);
             call(HERE, "good table", good, 16, NULL, lens[i], lens[j], want, answer);
             call(HERE, "no rows", NULL, 0, NULL, lens[i], lens[j],
                  expected(NULL, 0, lens[i], lens[j], answer), answer);

@@ -558,7 +558,7 @@ static void make(call *c, const test *t)
     c->work_len = LW_SOLVER_NUMBERS;
     t->make(c);
     memcpy(c->rows, c->table, sizeof c->table);
-    c->row_count = c->table_len % 4 == 0 ? c->table_len / 4 : LW_MAX_ROWS + 1; /* not whole rows: as records, one too many */
+    c->row_count = c->table_len % 4 == 0 ? c->table_len / 4 : LW_MAX_ROWS + 1; /* for no whole rows one too many */
     c->row = c->table_len / 4 - 1;
 }
 
