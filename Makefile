@@ -5,23 +5,27 @@
 #                               programs run, and the C tests; no must-fail edits
 #   make install PREFIX=/usr    installs header, library, program, manual pages
 #                               and pkg-config file; DESTDIR is put before PREFIX
+#   make install-data           of these, what needs no proof: header, manual pages
+#                               and pkg-config file
 #   make clean                  removes target/
+
+TOP = .
+include library.mk
 
 PREFIX = /usr/local
 DESTDIR =
 INSTALL = install
 
-LIB = target/staticlib/liblinkwords.a
 PROGRAM = target/bin/solve
-SOURCES = crates.txt $(shell find crates -type f \( -name '*.rt' -o -name '*.antt' \))
 ROOT = $(DESTDIR)$(PREFIX)
 
-.PHONY: all check install clean
+# The header has the version; the manual pages and the pkg-config file are given it.
+VERSION := $(shell sed -n 's/^\#define LW_VERSION_TEXT "\(.*\)"$$/\1/p' $(HEADER))
+FILL_IN = sed -e 's|@PREFIX@|$(PREFIX)|' -e 's|@VERSION@|$(VERSION)|'
+
+.PHONY: all check install install-data clean
 
 all: $(LIB) $(PROGRAM)
-
-$(LIB): $(SOURCES)
-	rt staticlib linkwords
 
 # rt leaves a program as it is if nothing that it is made of has changed.
 $(PROGRAM): $(SOURCES)
@@ -35,18 +39,21 @@ check:
 	$(MAKE) -C host test
 
 # bin/linkwords is the script linkwords over the program, for its exit status.
-install: all
-	$(INSTALL) -d $(ROOT)/include $(ROOT)/lib/pkgconfig $(ROOT)/bin $(ROOT)/libexec/linkwords \
-	    $(ROOT)/share/man/man1 $(ROOT)/share/man/man3
-	$(INSTALL) -m 644 include/linkwords.h $(ROOT)/include/
+install: all install-data
+	$(INSTALL) -d $(ROOT)/lib $(ROOT)/bin $(ROOT)/libexec/linkwords
 	$(INSTALL) -m 644 $(LIB) $(ROOT)/lib/
 	$(INSTALL) -m 755 $(PROGRAM) $(ROOT)/libexec/linkwords/
 	sed '/^# In a clone: /,/^# Here ends /c program=$(PREFIX)/libexec/linkwords/solve' linkwords >$(ROOT)/bin/linkwords
 	chmod 755 $(ROOT)/bin/linkwords
-	$(INSTALL) -m 644 man/linkwords.1 $(ROOT)/share/man/man1/
-	$(INSTALL) -m 644 man/linkwords.3 $(ROOT)/share/man/man3/
-	sed 's|@PREFIX@|$(PREFIX)|' linkwords.pc.in >$(ROOT)/lib/pkgconfig/linkwords.pc
-	chmod 644 $(ROOT)/lib/pkgconfig/linkwords.pc
+
+install-data:
+	test -n '$(VERSION)'
+	$(INSTALL) -d $(ROOT)/include $(ROOT)/lib/pkgconfig $(ROOT)/share/man/man1 $(ROOT)/share/man/man3
+	$(INSTALL) -m 644 $(HEADER) $(ROOT)/include/
+	$(FILL_IN) man/linkwords.1 >$(ROOT)/share/man/man1/linkwords.1
+	$(FILL_IN) man/linkwords.3 >$(ROOT)/share/man/man3/linkwords.3
+	$(FILL_IN) linkwords.pc.in >$(ROOT)/lib/pkgconfig/linkwords.pc
+	chmod 644 $(ROOT)/share/man/man1/linkwords.1 $(ROOT)/share/man/man3/linkwords.3 $(ROOT)/lib/pkgconfig/linkwords.pc
 
 clean:
 	rm -rf target

@@ -1,8 +1,8 @@
 /*
   random_table.h -- the tables of the C tests: written down in rows, or random
 
-  The random tables come from one sequence of numbers, always the same, so that
-  a run of a test can be had again.
+  The random tables come from the numbers of random_numbers.c, which are always
+  the same, so that a run of a test can be had again.
 */
 
 #ifndef RANDOM_TABLE_H
@@ -13,6 +13,7 @@
 #include <stdio.h>
 
 #include "linkwords.h"
+#include "random_numbers.h"
 
 /* Rows. */
 
@@ -48,27 +49,7 @@ static inline void print_table(const uint16_t *numbers, size_t len)
         printf("%s%u%s", i % 4 == 0 ? "  " : " ", numbers[i], i % 4 == 3 || i + 1 == len ? "\n" : "");
 }
 
-/* Random numbers. */
-
-static uint64_t seed = 20240229;
-
-static inline uint64_t random_number(void) /* splitmix64 */
-{
-    uint64_t z = seed += 0x9E3779B97F4A7C15;
-    z = (z ^ (z >> 30)) * 0xBF58476D1CE4E5B9;
-    z = (z ^ (z >> 27)) * 0x94D049BB133111EB;
-    return z ^ (z >> 31);
-}
-
-static inline size_t below(size_t n)
-{
-    return (size_t)(random_number() % n);
-}
-
-static inline bool one_in(size_t n)
-{
-    return below(n) == 0;
-}
+/* Random tables. */
 
 /* What a table is meant to be; it may turn out otherwise. */
 typedef enum { MEANT_ALWAYS, MEANT_NEVER, MEANT_SOLVED } intent;

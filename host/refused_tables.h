@@ -10,9 +10,9 @@
 
 #include "random_table.h"
 
-typedef void refuse_table_function(int line, const uint16_t *numbers, size_t len, uint32_t number, uint32_t row);
+typedef void refuse_table_function(where at, const uint16_t *numbers, size_t len, uint32_t number, uint32_t row);
 
-#define REFUSE_ONE(refuse, ...) (refuse)(__LINE__, __VA_ARGS__)
+#define REFUSE_ONE(refuse, ...) (refuse)(HERE, __VA_ARGS__)
 
 /* Every cause of the refusals 11 to 16 and 18 by itself. (17 is among the limits.) */
 static inline void refuse_one_by_one(refuse_table_function refuse)

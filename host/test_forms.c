@@ -6,9 +6,9 @@
   First normal forms and refusals worked by hand. Then TABLES random tables
   (20000 if not given), on which the library is compared with reference.c, and
   a twentieth as many small ones, on which the normal forms of each two rows are
-  compared with the rows' values under every pattern. Last, how the time of a
-  call grows. But for the last two, every call is made on guarded buffers, and
-  its record and every number of every buffer are compared.
+  compared with the rows' values under every pattern: test_forms_random.c. Last,
+  how the time of a call grows. But for the last two, every call is made on
+  guarded buffers, and its record and every number of every buffer are compared.
 
   The run fails too if some kind of random table does not occur; so there should
   be at least 1000.
@@ -16,23 +16,14 @@
 
 #define _POSIX_C_SOURCE 199309L /* clock_gettime */
 
-
 #include "guard.h"
-#include "linkwords.h"
 #include "refused_tables.h"
-#include "reference.h"
+#include "test_forms.h"
 #include "timing.h"
-
-/* Pieces. A form is written down as a table is: see TABLE. */
-
-#define PART(variable, high, low)  LW_PART, (variable), (high), (low)
-#define ZEROS(width)               0, 0, (width) - 1, 0
-#define ONES(width)                1, 0, (width) - 1, 0
-#define FORM                       TABLE
 
 /* Calls and what they are compared with. */
 
-static void print_form(const char *name, const uint16_t *form, size_t pieces)
+void print_form(const char *name, const uint16_t *form, size_t pieces)
 {
     printf("  %s:", name);
     for (size_t i = 0; i < pieces && i < 16; i++)
@@ -40,13 +31,8 @@ static void print_form(const char *name, const uint16_t *form, size_t pieces)
     printf("%s\n", pieces > 16 ? " .." : "");
 }
 
-/*
-  One call: the record; table unchanged; want_form as the first 4 * want.pieces
-  numbers of the output, and behind them what was there before. The output has
-  form_len numbers, those of content if it is not NULL.
-*/
-static void call(int line, const char *name, const uint16_t *numbers, size_t len, size_t row,
-                 const uint16_t *content, size_t form_len, lw_record want, const uint16_t *want_form)
+void call(where at, const char *name, const uint16_t *numbers, size_t len, size_t row,
+          const uint16_t *content, size_t form_len, lw_record want, const uint16_t *want_form)
 {
     unsigned long failed = checks_failed;
     guarded t = guard(numbers, len * sizeof *numbers);
@@ -58,9 +44,9 @@ static void call(int line, const char *name, const uint16_t *numbers, size_t len
         guard_expect(&f, want_form, 4 * want.pieces * sizeof *want_form);
     if (form_len >= 4 * 16)
         memcpy(start, guarded_buffer(&f), sizeof start);
-    check_record(line, name, got, want);
-    guard_check(&t, __FILE__, line, "table");
-    guard_check(&f, __FILE__, line, "form");
+    check_record(at, name, got, want);
+    guard_check(&t, at, "table");
+    guard_check(&f, at, "form");
     if (checks_failed != failed && failed == 0) {
         printf("  row %zu, output of %zu numbers\n", row, form_len);
         print_table(numbers, len);
@@ -76,7 +62,7 @@ static void call(int line, const char *name, const uint16_t *numbers, size_t len
   and with longer ones, whatever stands there before. Numbers that are all 0, 1
   or 2 look like pieces to go on from.
 */
-static void accept(int line, const uint16_t *numbers, size_t len, size_t row, size_t width,
+static void accept(where at, const uint16_t *numbers, size_t len, size_t row, size_t width,
                    const uint16_t *form, size_t form_len)
 {
     lw_record want = {.pieces = (uint32_t)(form_len / 4), .free = (uint32_t)width};
@@ -85,44 +71,44 @@ static void accept(int line, const uint16_t *numbers, size_t len, size_t row, si
     size_t sum = 0; /* a slip in what is expected is found too */
     for (size_t i = 0; i < form_len; i += 4)
         sum += (size_t)form[i + 2] - form[i + 3] + 1;
-    check(sum == width, __FILE__, line, "expected pieces have %zu bits, expected width %zu", sum, width);
+    check(sum == width, at, "expected pieces have %zu bits, expected width %zu", sum, width);
 
-    call(line, "accepted", numbers, len, row, NULL, 4096, want, form);
-    call(line, "accepted, longer output", numbers, len, row, NULL, 4096 + 9, want, form);
+    call(at, "accepted", numbers, len, row, NULL, 4096, want, form);
+    call(at, "accepted, longer output", numbers, len, row, NULL, 4096 + 9, want, form);
     for (uint16_t k = 0; k < 3; k++) {
         for (size_t i = 0; i < 4096; i++)
             content[i] = k;
-        call(line, "accepted, output of like numbers", numbers, len, row, content, 4096, want, form);
+        call(at, "accepted, output of like numbers", numbers, len, row, content, 4096, want, form);
     }
 }
 
 /* The call is refused for its row or its output. */
-static void refuse(int line, const uint16_t *numbers, size_t len, size_t row, size_t form_len, uint32_t number)
+static void refuse(where at, const uint16_t *numbers, size_t len, size_t row, size_t form_len, uint32_t number)
 {
-    call(line, "refused", numbers, len, row, NULL, form_len, (lw_record){.outcome = number}, NULL);
+    call(at, "refused", numbers, len, row, NULL, form_len, (lw_record){.outcome = number}, NULL);
 }
 
 /* The table is refused, whether or not the row and the output are wrong as well. */
-static void refuse_table(int line, const uint16_t *numbers, size_t len, uint32_t number, uint32_t row)
+static void refuse_table(where at, const uint16_t *numbers, size_t len, uint32_t number, uint32_t row)
 {
     lw_record want = {.outcome = number, .row = row};
-    call(line, "refused", numbers, len, 0, NULL, 4096, want, NULL);
-    call(line, "refused, row wrong too", numbers, len, SIZE_MAX, NULL, 4096, want, NULL);
-    call(line, "refused, output wrong too", numbers, len, 0, NULL, 4095, want, NULL);
-    call(line, "refused, all else wrong too", numbers, len, SIZE_MAX, NULL, 0, want, NULL);
+    call(at, "refused", numbers, len, 0, NULL, 4096, want, NULL);
+    call(at, "refused, row wrong too", numbers, len, SIZE_MAX, NULL, 4096, want, NULL);
+    call(at, "refused, output wrong too", numbers, len, 0, NULL, 4095, want, NULL);
+    call(at, "refused, all else wrong too", numbers, len, SIZE_MAX, NULL, 0, want, NULL);
 }
 
-#define ACCEPT(...)       accept(__LINE__, __VA_ARGS__)
-#define REFUSE(...)       refuse(__LINE__, __VA_ARGS__)
-#define REFUSE_TABLE(...) refuse_table(__LINE__, __VA_ARGS__)
+#define ACCEPT(...)       accept(HERE, __VA_ARGS__)
+#define REFUSE(...)       refuse(HERE, __VA_ARGS__)
+#define REFUSE_TABLE(...) refuse_table(HERE, __VA_ARGS__)
 
 /* The header's numbers are those of the specification. */
 static void test_constants(void)
 {
-    check(LW_PART == 2, __FILE__, __LINE__, "LW_PART is %d", LW_PART);
-    check(LW_PIECE_NUMBERS == 4, __FILE__, __LINE__, "LW_PIECE_NUMBERS is %d", LW_PIECE_NUMBERS);
-    check(LW_FORM_NUMBERS == 4096, __FILE__, __LINE__, "LW_FORM_NUMBERS is %d", LW_FORM_NUMBERS);
-    group_done("the header's constants");
+    static const constant constants[] = {
+        CONSTANT(LW_PART, 2), CONSTANT(LW_PIECE_NUMBERS, 4), CONSTANT(LW_FORM_NUMBERS, 4096),
+    };
+    check_constants(HERE, constants, COUNT(constants));
 }
 
 /* Variables and fills. */
@@ -151,7 +137,6 @@ static void test_leaves(void)
     ACCEPT(TABLE(VARIABLE(8), CUT(0, 6, 3), CUT(0, 4, 1), EQUATION(1, 2)), 1, 4, FORM(PART(0, 6, 3)));
     ACCEPT(TABLE(VARIABLE(8), CUT(0, 6, 3), CUT(0, 4, 1), EQUATION(1, 2)), 2, 4, FORM(PART(0, 4, 1)));
     ACCEPT(TABLE(VARIABLE(2), FILL(1, 2), EQUATION(0, 1), JOIN(0, 1)), 3, 4, FORM(PART(0, 1, 0), ONES(2)));
-    group_done("variables and fills");
 }
 
 /* Fills side by side. */
@@ -191,7 +176,6 @@ static void test_fills(void)
     ACCEPT(TABLE(VARIABLE(8), CUT(0, 7, 4), FILL(1, 4), JOIN(1, 2)), 3, 8, FORM(PART(0, 7, 4), ONES(4)));
     ACCEPT(TABLE(VARIABLE(8), FILL(1, 4), JOIN(1, 0)), 2, 12, FORM(ONES(4), PART(0, 7, 0)));
     ACCEPT(TABLE(VARIABLE(8), FILL(0, 4), JOIN(1, 0)), 2, 12, FORM(ZEROS(4), PART(0, 7, 0)));
-    group_done("fills side by side");
 }
 
 /* Parts of variables side by side. */
@@ -272,7 +256,6 @@ static void test_parts(void)
            FORM(PART(0, 2, 0), ZEROS(4), PART(0, 2, 0)));
     ACCEPT(TABLE(VARIABLE(3), FILL(0, 2), JOIN(0, 1), JOIN(1, 0), JOIN(3, 2)), 4, 10,
            FORM(ZEROS(2), PART(0, 2, 0), PART(0, 2, 0), ZEROS(2)));
-    group_done("parts side by side");
 }
 
 /* Cuts through joins, cuts of cuts and cuts of fills. */
@@ -305,7 +288,7 @@ static void test_cuts(void)
         {1, 0, 1, {PART(1, 1, 0)}},
         {0, 0, 1, {PART(1, 0, 0)}},
     };
-    for (size_t i = 0; i < sizeof cuts / sizeof cuts[0]; i++)
+    for (size_t i = 0; i < COUNT(cuts); i++)
         ACCEPT(TABLE(VARIABLE(3), VARIABLE(2), JOIN(0, 1), CUT(2, cuts[i].high, cuts[i].low)), 3,
                (size_t)cuts[i].high - cuts[i].low + 1, cuts[i].form, 4 * cuts[i].pieces);
 
@@ -363,7 +346,6 @@ static void test_cuts(void)
     ACCEPT(TABLE(FILL(1, 8), CUT(0, 6, 3), CUT(1, 2, 1)), 2, 2, FORM(ONES(2)));
     ACCEPT(TABLE(FILL(1, 8), CUT(0, 6, 3), CUT(0, 7, 7), JOIN(1, 2)), 3, 5, FORM(ONES(5)));
     ACCEPT(TABLE(FILL(1, 8), CUT(0, 6, 3), FILL(0, 8), CUT(2, 1, 0), JOIN(1, 3)), 4, 6, FORM(ONES(4), ZEROS(2)));
-    group_done("cuts");
 }
 
 /* Every width: a variable, a fill, and the cuts of all bits, of each end bit and of both halves, joined. */
@@ -391,7 +373,6 @@ static void test_widths(void)
         ACCEPT(ALL(t), 7, w, FORM(PART(0, high, 0)));
         ACCEPT(ALL(t), 8, w, FORM(PART(0, (uint16_t)(half - 1), 0), PART(0, high, half)));
     }
-    group_done("widths 1 to 1024");
 }
 
 /* Long forms, many variables, deep tables. */
@@ -518,7 +499,6 @@ static void test_limits(void)
         memcpy(form + 4 * i, (const uint16_t[]){PART(0, 0, 0)}, 8);
     memcpy(form + 4 * 255, (const uint16_t[]){ONES(256)}, 8);
     ACCEPT(ALL(t), 511, 511, form, 4 * 256);
-    group_done("long forms and deep tables");
 }
 
 /* Refusals 11 to 18. */
@@ -534,14 +514,13 @@ static void test_table_refusals(void)
     refuse_one_by_one(refuse_table);
     refuse_two_at_once(refuse_table);
     refuse_beyond_maximum(refuse_table);
-    group_done("refusals 11 to 18");
 }
 
 /* Refusals 30 and 32, and both at once. */
 static void test_call_refusals(void)
 {
     static const uint16_t four[] = {VARIABLE(3), VARIABLE(2), CUT(0, 1, 0), EQUATION(1, 2)};
-    const size_t len = sizeof four / sizeof four[0];
+    const size_t len = COUNT(four);
     ACCEPT(four, len, 2, 2, FORM(PART(0, 1, 0)));
 
     /* 30: no such row, also where a product or a shorter number would wrap; or an equation. 30 before 32. */
@@ -550,10 +529,10 @@ static void test_call_refusals(void)
         SIZE_MAX / 4 + 1, SIZE_MAX / 2 + 1, SIZE_MAX - 3, SIZE_MAX,
     };
     static const size_t lengths[] = {4096, 5000, 4095, 8, 0};
-    for (size_t i = 0; i < sizeof absent / sizeof absent[0]; i++)
-        for (size_t j = 0; j < sizeof lengths / sizeof lengths[0]; j++)
+    for (size_t i = 0; i < COUNT(absent); i++)
+        for (size_t j = 0; j < COUNT(lengths); j++)
             REFUSE(four, len, absent[i], lengths[j], 30);
-    for (size_t j = 0; j < sizeof lengths / sizeof lengths[0]; j++) {
+    for (size_t j = 0; j < COUNT(lengths); j++) {
         REFUSE(four, 0, 0, lengths[j], 30);
         REFUSE(TABLE(VARIABLE(2), EQUATION(0, 0)), 1, lengths[j], 30);
     }
@@ -571,13 +550,12 @@ static void test_call_refusals(void)
 
     /* Long outputs, also of lengths that are short as 16-bit numbers. */
     static const size_t long_lengths[] = {4097, 4099, 4100, 8192, 65535, 65536, 65537, 65536 + 4095, 200000};
-    for (size_t i = 0; i < sizeof long_lengths / sizeof long_lengths[0]; i++)
-        call(__LINE__, "accepted, long output", four, len, 2, NULL, long_lengths[i],
+    for (size_t i = 0; i < COUNT(long_lengths); i++)
+        call(HERE, "accepted, long output", four, len, 2, NULL, long_lengths[i],
              (lw_record){.pieces = 1, .free = 2}, (const uint16_t[]){PART(0, 1, 0)});
 
     /* A fault of the table comes before both, also behind the row asked for. */
     REFUSE_TABLE(TABLE(VARIABLE(3), VARIABLE(2), CUT(0, 1, 0), 5, 0, 0, 0), 12, 3);
-    group_done("refusals 30 and 32");
 }
 
 /* NULL with length 0 for each buffer. */
@@ -589,7 +567,7 @@ static void test_null(void)
         form[i] = 9;
 
 #define REFUSE_NULL(name, number, at, ...) \
-    check_record(__LINE__, name, lw_normal_form(__VA_ARGS__), (lw_record){.outcome = (number), .row = (at)})
+    check_record(HERE, name, lw_normal_form(__VA_ARGS__), (lw_record){.outcome = (number), .row = (at)})
     REFUSE_NULL("all NULL", 30, 0, NULL, 0, 0, NULL, 0);
     REFUSE_NULL("all NULL, row SIZE_MAX", 30, 0, NULL, 0, SIZE_MAX, NULL, 0);
     REFUSE_NULL("table NULL", 30, 0, NULL, 0, 0, form, 4096);
@@ -598,357 +576,8 @@ static void test_null(void)
     REFUSE_NULL("form NULL, table refused", 11, 512, fill, 3, 0, NULL, 0);
 #undef REFUSE_NULL
     for (size_t i = 0; i < 4096; i++)
-        if (!check(form[i] == 9, __FILE__, __LINE__, "form written by a refusal"))
+        if (!check(form[i] == 9, HERE, "form written by a refusal"))
             break;
-    group_done("NULL with length 0");
-}
-
-/* Random tables. */
-
-static size_t cut(draft *d, size_t a, size_t high, size_t low)
-{
-    return add_row(d, high - low + 1, CUT(a, high, low));
-}
-
-/* NONE if it would be too wide. */
-static size_t join(draft *d, size_t a, size_t b)
-{
-    size_t w = d->width[a] + d->width[b];
-    return w > 1024 ? NONE : add_row(d, w, JOIN(a, b));
-}
-
-/* Joins two cuts of some row, which mostly meet; at times crossed, or with a fill between them. Adds 5 rows at most. */
-static void regroup(draft *d)
-{
-    size_t a = some_term(d), w = a == NONE ? 0 : d->width[a];
-    if (w < 2)
-        return;
-    size_t low = 1 + below(w - 1), high = one_in(3) ? below(w) : low - 1; /* of the left part and of the right one */
-    size_t left = cut(d, a, one_in(2) ? w - 1 : low + below(w - low), low);
-    size_t right = cut(d, a, high, one_in(2) ? 0 : below(high + 1));
-    if (one_in(5)) {
-        size_t other = left;
-        left = right, right = other;
-    }
-    if (one_in(6) && d->width[left] < 1000) {
-        size_t between = 1 + below(3);
-        left = join(d, left, add_row(d, between, FILL(below(2), between)));
-    }
-    join(d, left, right);
-}
-
-/* A valid table, full of parts that may meet. */
-static void make_parts(draft *d)
-{
-    static const size_t sizes[] = {12, 40, 120, 500}, widths[] = {1, 2, 4, 8, 60, 300, 1024};
-    size_t rows = 6 + below(sizes[one_in(12) ? 3 : below(3)]), widest = widths[below(7)], joins = below(6);
-
-    clear(d);
-    for (size_t i = 1 + below(4); i != 0; i--)
-        grow(d, LW_VARIABLE, widest);
-    while (d->rows + 5 <= rows)
-        if (below(6) < joins)
-            grow(d, LW_JOIN, one_in(2) ? 3 : widest);
-        else if (one_in(2))
-            regroup(d);
-        else
-            grow(d, one_in(12) ? LW_EQUATION : one_in(4) ? LW_CUT : one_in(4) ? LW_VARIABLE : LW_FILL, widest);
-}
-
-/* What can stand on the two sides of a seam, that is where a row is joined. In the first two cases it is one piece. */
-enum {
-    FILLS_MERGE, PARTS_MERGE,
-    FILLS_DIFFER, FILL_AND_PART, BIT_LEFT_OUT, BIT_TWICE, NEXT_HIGHER, FIRST_AGAIN, BACK,
-    NEXT_VARIABLE, IN_STEP, OTHER_VARIABLE, SEAMS
-};
-
-static const char *const seam_names[SEAMS] = {
-    "fills of one bit, merged", "parts that meet, merged",
-    "fills of different bits", "a fill and a part", "a bit or more left out", "a bit twice", "the next higher bit",
-    "the last bit and the first", "another higher bit",
-    "the last bit, the first of the next variable", "bits of two variables, in step", "bits of two variables, not so",
-};
-
-/* Between a bit and the one on its right, whose variable has this width if it is a variable's. */
-static int seam_of(ref_source left, ref_source right, size_t width)
-{
-    if (left.kind != 2 && right.kind != 2)
-        return left.kind == right.kind ? FILLS_MERGE : FILLS_DIFFER;
-    if (left.kind != 2 || right.kind != 2)
-        return FILL_AND_PART;
-    bool first = left.bit == 0 && right.bit == width - 1;
-    if (left.variable != right.variable)
-        return left.variable + 1 == right.variable && first ? NEXT_VARIABLE
-             : left.bit == right.bit + 1 ? IN_STEP : OTHER_VARIABLE;
-    return left.bit == right.bit + 1 ? PARTS_MERGE
-         : left.bit > right.bit + 1 ? BIT_LEFT_OUT
-         : left.bit == right.bit ? BIT_TWICE
-         : first ? FIRST_AGAIN
-         : left.bit + 1 == right.bit ? NEXT_HIGHER : BACK;
-}
-
-/* Counts the seams in what a row of an accepted table is made of. */
-static void count_seams(const table *t, size_t row, size_t seams[SEAMS])
-{
-    static ref_table facts;
-    static ref_source sources[REF_ROWS][REF_WIDTH];
-    static bool seam[REF_ROWS][REF_WIDTH]; /* of each bit but the first: whether it is on the right of a seam */
-    static size_t variables[REF_ROWS];     /* their widths */
-    size_t count = 0;
-
-    ref_check(t->numbers, t->len, &facts);
-    ref_sources(t->numbers, &facts, row + 1, sources);
-    for (size_t r = 0; r <= row; r++) {
-        const uint16_t *n = t->numbers + 4 * r;
-        size_t w = facts.width[r];
-        if (n[0] == LW_VARIABLE)
-            variables[count++] = w;
-        if (n[0] == LW_VARIABLE || n[0] == LW_FILL) {
-            memset(seam[r], 0, w);
-        } else if (n[0] == LW_JOIN) {
-            memcpy(seam[r], seam[n[1]], facts.width[n[1]]);
-            memcpy(seam[r] + facts.width[n[1]], seam[n[2]], facts.width[n[2]]);
-            seam[r][facts.width[n[1]]] = true;
-        } else if (n[0] == LW_CUT) {
-            memcpy(seam[r], seam[n[1]] + (facts.width[n[1]] - 1 - n[2]), w);
-            seam[r][0] = false;
-        }
-    }
-    for (size_t i = 1; i < facts.width[row]; i++)
-        if (seam[row][i]) {
-            ref_source right = sources[row][i];
-            seams[seam_of(sources[row][i - 1], right, variables[right.variable])]++;
-        }
-}
-
-/* The library against the reference on one random table and one random call. Gives the record. */
-static lw_record test_random_call(unsigned long number, size_t seams[SEAMS])
-{
-    static draft d;
-    static uint16_t form[4096];
-    char name[64];
-
-    bool parts = !one_in(4);
-    if (parts)
-        make_parts(&d);
-    else
-        make_table(&d);
-    size_t rows = d.rows;
-    if (!parts && one_in(2))
-        damage(&d, (unsigned)(11 + below(9)));
-
-    size_t row = rows == 0 ? 0 : below(rows);
-    for (size_t i = one_in(3) ? 0 : 4; rows != 0 && i != 0; i--) { /* mostly the widest of some */
-        size_t other = below(rows);
-        if (d.width[other] > d.width[row])
-            row = other;
-    }
-    if (one_in(40))
-        row = one_in(4) ? SIZE_MAX - below(3) : rows + below(3);
-    if (row < rows && d.width[row] == 0 && !one_in(4))
-        row = 0; /* an equation is asked for now and then only */
-    size_t form_len = 4096 + (one_in(2) ? 0 : below(70));
-    if (one_in(30))
-        form_len = one_in(2) ? 4095 : below(4096);
-
-    lw_record want = ref_normal_form(d.t.numbers, d.t.len, row, form, form_len);
-    snprintf(name, sizeof name, "random table %lu, row %zu", number, row);
-    call(__LINE__, name, d.t.numbers, d.t.len, row, NULL, form_len, want, form);
-    if (want.outcome == 0) {
-        size_t of_row[SEAMS] = {0}, apart = 1;
-        count_seams(&d.t, row, of_row);
-        for (int i = 0; i < SEAMS; i++) {
-            seams[i] += of_row[i];
-            if (i != FILLS_MERGE && i != PARTS_MERGE)
-                apart += of_row[i];
-        }
-        check(want.pieces == apart, __FILE__, __LINE__, "%s: %u pieces, expected %zu", name, want.pieces, apart);
-    }
-    return want;
-}
-
-static void test_random(unsigned long tables)
-{
-    static const uint32_t outcomes[] = {0, 11, 12, 13, 14, 15, 16, 17, 18, 30, 32};
-    static const uint32_t limits[] = {1, 2, 3, 10, 100, 1024};
-    unsigned long seen[33] = {0}, forms[6] = {0};
-    size_t seams[SEAMS] = {0};
-
-    for (unsigned long i = 0; i < tables; i++) {
-        lw_record record = test_random_call(i, seams);
-        seen[record.outcome]++;
-        for (size_t j = 0; record.outcome == 0; j++)
-            if (record.pieces <= limits[j]) {
-                forms[j]++;
-                break;
-            }
-    }
-
-    printf("%lu random tables:", tables);
-    for (size_t i = 0; i < sizeof outcomes / sizeof outcomes[0]; i++)
-        printf(" %s%u %lu", i == 0 ? "outcome " : "", outcomes[i], seen[outcomes[i]]);
-    printf("\n  forms of");
-    for (size_t j = 0; j < sizeof limits / sizeof limits[0]; j++)
-        printf("%s %s%u %s %lu", j == 0 ? "" : ",", j < 3 ? "" : "up to ", limits[j],
-               j == 0 ? "piece" : "pieces", forms[j]);
-    printf("\n  seams in them:\n");
-    for (int i = 0; i < SEAMS; i++)
-        printf("    %-46s %zu\n", seam_names[i], seams[i]);
-
-    for (size_t i = 0; i < sizeof outcomes / sizeof outcomes[0]; i++)
-        check(seen[outcomes[i]] != 0, __FILE__, __LINE__, "no random table has outcome %u", outcomes[i]);
-    for (size_t j = 0; j < sizeof limits / sizeof limits[0]; j++)
-        check(forms[j] != 0, __FILE__, __LINE__, "no random form of up to %u pieces", limits[j]);
-    for (int i = 0; i < SEAMS; i++)
-        check(seams[i] != 0, __FILE__, __LINE__, "no random row has this seam: %s", seam_names[i]);
-    group_done("random tables against the reference");
-}
-
-/* Small tables: the same value under every pattern, exactly if the same normal form. */
-
-enum { SMALL_BITS = 10, SMALL_ROWS = 64, SMALL_WIDTH = 24 };
-
-/* A row that is not too wide; the first rows are variables. */
-static size_t narrow_term(const draft *d)
-{
-    size_t r = some_term(d);
-    return d->width[r] <= SMALL_WIDTH ? r : below(d->variables);
-}
-
-/* Adds rows for a word that is the same as row r, and gives the last of them. */
-static size_t rebuild(draft *d, size_t r)
-{
-    size_t w = d->width[r], other = narrow_term(d), at, left, right;
-
-    switch (below(4)) {
-    case 0: /* cut out of a join, whose left part it is */
-        return cut(d, join(d, r, other), w + d->width[other] - 1, d->width[other]);
-    case 1: /* or its right part */
-        return cut(d, join(d, other, r), w - 1, 0);
-    default: /* cut in two and joined again */
-        if (w == 1)
-            return cut(d, r, 0, 0);
-        at = 1 + below(w - 1);
-        left = cut(d, r, w - 1, at);
-        right = cut(d, r, at - 1, 0);
-        if (d->rows < SMALL_ROWS && one_in(2))
-            left = rebuild(d, left);
-        return join(d, left, right);
-    }
-}
-
-/* Adds rows for a word that is row r but for one bit, which is of another row or fixed. */
-static void replace_bit(draft *d, size_t r)
-{
-    size_t w = d->width[r], at = below(w), other = narrow_term(d), place = below(d->width[other]);
-    size_t bit = one_in(2) ? cut(d, other, place, place) : add_row(d, 1, FILL(below(2), 1));
-    if (at != w - 1)
-        bit = join(d, cut(d, r, w - 1, at + 1), bit);
-    if (at != 0)
-        join(d, bit, cut(d, r, at - 1, 0));
-}
-
-/* Adds a cut through a join, and the join of the cuts of its parts. */
-static void cut_join(draft *d, size_t a, size_t b)
-{
-    size_t right = d->width[b], high = right + below(d->width[a]), low = below(right);
-    cut(d, join(d, a, b), high, low);
-    size_t left = cut(d, a, high - right, 0);
-    join(d, left, cut(d, b, right - 1, low));
-}
-
-/* Adds the join of three rows, made in both ways. */
-static void join_three(draft *d, size_t a, size_t b, size_t c)
-{
-    join(d, join(d, a, b), c);
-    join(d, a, join(d, b, c));
-}
-
-/* A valid table of at most SMALL_BITS variable bits, with many rows that are the same word, or nearly so. */
-static void make_small(draft *d)
-{
-    size_t variables = 1 + below(4), rows = 20 + below(SMALL_ROWS - 20);
-
-    clear(d);
-    while (d->variables < variables && d->bits < SMALL_BITS) {
-        size_t room = SMALL_BITS - d->bits, w = 1 + below(room < 4 || one_in(3) ? room : 4);
-        add_row(d, w, VARIABLE(w));
-    }
-    while (d->rows < rows) {
-        size_t a = narrow_term(d), b = narrow_term(d), c = narrow_term(d), w = 1 + below(3), low = below(d->width[a]);
-        switch (below(7)) {
-        case 0:  add_row(d, w, FILL(below(2), w)); break;
-        case 1:  join(d, a, b); break;
-        case 2:  cut(d, a, low + below(d->width[a] - low), low); break;
-        case 3:  rebuild(d, a); break;
-        case 4:  replace_bit(d, a); break;
-        case 5:  cut_join(d, a, b); break;
-        default: join_three(d, a, b, c); break;
-        }
-    }
-}
-
-/* Pairs of different rows: of one width and the same under every pattern, of one width and not, of two widths. */
-enum { SAME, DIFFERENT, OTHER_WIDTH };
-
-static void test_small_table(unsigned long number, unsigned long pairs[3])
-{
-    static draft d;
-    static ref_table facts;
-    static uint8_t values[REF_ROWS][REF_WIDTH], pattern[SMALL_BITS];
-    static bool same[REF_ROWS][REF_ROWS];
-    static uint16_t forms[REF_ROWS][4096];
-    static lw_record records[REF_ROWS];
-
-    make_small(&d);
-    ref_check(d.t.numbers, d.t.len, &facts);
-    for (size_t a = 0; a < d.rows; a++) {
-        records[a] = lw_normal_form(d.t.numbers, d.t.len, a, forms[a], 4096);
-        if (!check(records[a].outcome == 0 && records[a].pieces <= 1024, __FILE__, __LINE__,
-                   "small table %lu, row %zu: outcome %u, %u pieces", number, a, records[a].outcome,
-                   records[a].pieces))
-            return;
-        for (size_t b = 0; b < a; b++)
-            same[a][b] = d.width[a] == d.width[b];
-    }
-
-    for (size_t p = 0; p < (size_t)1 << facts.bits; p++) {
-        for (size_t i = 0; i < facts.bits; i++)
-            pattern[i] = p >> i & 1;
-        ref_values(d.t.numbers, &facts, d.rows, pattern, values);
-        for (size_t a = 0; a < d.rows; a++)
-            for (size_t b = 0; b < a; b++)
-                if (same[a][b] && memcmp(values[a], values[b], d.width[a]) != 0)
-                    same[a][b] = false;
-    }
-
-    for (size_t a = 0; a < d.rows; a++)
-        for (size_t b = 0; b < a; b++) {
-            bool same_form = records[a].pieces == records[b].pieces &&
-                             memcmp(forms[a], forms[b], 4 * records[a].pieces * sizeof forms[a][0]) == 0;
-            if (!check(same[a][b] == same_form, __FILE__, __LINE__, "small table %lu: rows %zu and %zu %s, %s forms",
-                       number, b, a, same[a][b] ? "are the same under every pattern" : "differ under a pattern",
-                       same_form ? "the same" : "different") && checks_failed == 1) {
-                print_table(d.t.numbers, d.t.len);
-                print_form("one form", forms[b], records[b].pieces);
-                print_form("the other", forms[a], records[a].pieces);
-            }
-            if (memcmp(d.t.numbers + 4 * a, d.t.numbers + 4 * b, 8) != 0)
-                pairs[same[a][b] ? SAME : d.width[a] == d.width[b] ? DIFFERENT : OTHER_WIDTH]++;
-        }
-}
-
-static void test_small(unsigned long tables)
-{
-    unsigned long pairs[3] = {0};
-
-    for (unsigned long i = 0; i < tables; i++)
-        test_small_table(i, pairs);
-    printf("%lu small tables, pairs of rows built differently: %lu the same under every pattern, %lu not, "
-           "%lu of two widths\n", tables, pairs[SAME], pairs[DIFFERENT], pairs[OTHER_WIDTH]);
-    check(pairs[SAME] >= 10 * tables, __FILE__, __LINE__, "few pairs of rows are the same");
-    check(pairs[DIFFERENT] >= 10 * tables, __FILE__, __LINE__, "few pairs of rows of one width differ");
-    group_done("the same value, the same form");
 }
 
 /* Speed. */
@@ -982,27 +611,24 @@ static void test_speed(void)
     medians t = time_both(make_form, &small, &large);
     printf("a call on 64 rows of chained cuts: %.2f us, on 512 rows: %.2f us\n", 1e6 * t.small, 1e6 * t.large);
     printf("time for 512 rows of chained cuts / 64 rows: %.1f\n", t.large / t.small);
-    check(t.large <= 16 * t.small, __FILE__, __LINE__, "512 rows take over 16 times as long as 64");
-    group_done("speed");
+    check(t.large <= 16 * t.small, HERE, "512 rows take over 16 times as long as 64");
 }
 
-int main(int argc, char **argv)
-{
-    unsigned long tables = argc > 1 ? strtoul(argv[1], NULL, 10) : 20000;
-
-    setvbuf(stdout, NULL, _IOLBF, BUFSIZ); /* a crash leaves the lines before it */
-    test_constants();
-    test_leaves();
-    test_fills();
-    test_parts();
-    test_cuts();
-    test_widths();
-    test_limits();
-    test_table_refusals();
-    test_call_refusals();
-    test_null();
-    test_random(tables);
-    test_small(tables / 20);
-    test_speed();
-    return run_done("forms");
-}
+const test_list tests = {
+    .name = "forms", .inputs = 20000,
+    .groups = {
+        {.name = "the header's constants", .run = test_constants},
+        {.name = "variables and fills", .run = test_leaves},
+        {.name = "fills side by side", .run = test_fills},
+        {.name = "parts side by side", .run = test_parts},
+        {.name = "cuts", .run = test_cuts},
+        {.name = "widths 1 to 1024", .run = test_widths},
+        {.name = "long forms and deep tables", .run = test_limits},
+        {.name = "refusals 11 to 18", .run = test_table_refusals},
+        {.name = "refusals 30 and 32", .run = test_call_refusals},
+        {.name = "NULL with length 0", .run = test_null},
+        {.name = "random tables against the reference", .run_random = test_random_forms},
+        {.name = "the same value, the same form", .run_random = test_same_forms},
+        {.name = "speed", .run = test_speed},
+    },
+};

@@ -33,7 +33,7 @@ static guarded records(const uint16_t *numbers, size_t count)
 static void same(guarded *got, guarded *want, const char *name)
 {
     memcpy(got->kept, want->block, got->size);
-    guard_check(got, __FILE__, __LINE__, name);
+    guard_check(got, HERE, name);
     free(want->block);
     free(want->kept);
 }
@@ -44,9 +44,9 @@ static void value(const uint16_t *numbers, size_t count, size_t row, const uint8
     guarded r = records(numbers, count), got = guard(NULL, room), want = guard(NULL, room);
     lw_record wanted = lw_value(numbers, 4 * count, row, pattern, pattern_len, guarded_buffer(&want), room);
     lw_record found = lw_value_rows(guarded_buffer(&r), count, row, pattern, pattern_len, guarded_buffer(&got), room);
-    check_record(__LINE__, "lw_value_rows", found, wanted);
+    check_record(HERE, "lw_value_rows", found, wanted);
     same(&got, &want, "value");
-    guard_check(&r, __FILE__, __LINE__, "rows of a value");
+    guard_check(&r, HERE, "rows of a value");
     outcomes[wanted.outcome]++;
 }
 
@@ -55,9 +55,9 @@ static void form(const uint16_t *numbers, size_t count, size_t row, size_t room)
     guarded r = records(numbers, count), got = guard(NULL, 2 * room), want = guard(NULL, 2 * room);
     lw_record wanted = lw_normal_form(numbers, 4 * count, row, guarded_buffer(&want), room);
     lw_record found = lw_normal_form_rows(guarded_buffer(&r), count, row, guarded_buffer(&got), room);
-    check_record(__LINE__, "lw_normal_form_rows", found, wanted);
+    check_record(HERE, "lw_normal_form_rows", found, wanted);
     same(&got, &want, "form");
-    guard_check(&r, __FILE__, __LINE__, "rows of a normal form");
+    guard_check(&r, HERE, "rows of a normal form");
     outcomes[wanted.outcome]++;
 }
 
@@ -70,10 +70,10 @@ static void solve(const uint16_t *numbers, size_t count, size_t answer_len, size
                                 guarded_buffer(&want_work), work_len);
     lw_record found = lw_solve_rows(guarded_buffer(&r), count, guarded_buffer(&answer), answer_len,
                                     guarded_buffer(&work), work_len);
-    check_record(__LINE__, "lw_solve_rows", found, wanted);
+    check_record(HERE, "lw_solve_rows", found, wanted);
     same(&answer, &want_answer, "answer");
     same(&work, &want_work, "work");
-    guard_check(&r, __FILE__, __LINE__, "rows of a solve");
+    guard_check(&r, HERE, "rows of a solve");
     outcomes[wanted.outcome]++;
 }
 
@@ -88,10 +88,10 @@ static void all_three(const uint16_t *numbers, size_t count, size_t bits)
     solve(numbers, count, one_in(8) ? below(16384) : 16384 + below(3), one_in(8) ? below(16384) : 16384 + below(3));
 }
 
-static void test_random(size_t tables)
+static void test_random(unsigned long tables)
 {
     static draft d;
-    for (size_t i = 0; i < tables; i++) {
+    for (unsigned long i = 0; i < tables; i++) {
         make_table(&d);
         if (one_in(2))
             damage(&d, (unsigned)(12 + below(8)));
@@ -99,7 +99,6 @@ static void test_random(size_t tables)
             damage(&d, (unsigned)(12 + below(8)));
         all_three(d.t.numbers, d.rows, d.bits);
     }
-    group_done("random tables");
 }
 
 /* Every length near 512 rows, and long runs, whose first 512 rows alone are a table. */
@@ -113,7 +112,7 @@ static void test_long(void)
         const uint16_t variable[] = {VARIABLE(1)}, fill[] = {FILL(1, 3)}, cut[] = {CUT(0, 0, 0)};
         memcpy(numbers + 4 * i, i == 0 ? variable : i % 2 ? fill : cut, 4 * sizeof *numbers);
     }
-    for (size_t c = 0; c < sizeof counts / sizeof *counts; c++) {
+    for (size_t c = 0; c < COUNT(counts); c++) {
         static const uint8_t one[] = {1};
         size_t bits = counts[c] == 0 ? 0 : 1;
         value(numbers, counts[c], 0, one, bits, 3);
@@ -124,11 +123,10 @@ static void test_long(void)
         solve(numbers, counts[c], 16384, 16384);
         solve(numbers, counts[c], 16384, 16383);
     }
-    group_done("long runs");
 }
 
 /* A table that each of the calls refuses; one that is not whole rows cannot be lent so. */
-static void refuse(int line, const uint16_t *numbers, size_t len, uint32_t number, uint32_t row)
+static void refuse(where at, const uint16_t *numbers, size_t len, uint32_t number, uint32_t row)
 {
     if (len % 4 != 0)
         return;
@@ -137,15 +135,15 @@ static void refuse(int line, const uint16_t *numbers, size_t len, uint32_t numbe
     guarded answer = guard(NULL, 2 * 16384), work = guard(NULL, 2 * 16384);
     const lw_row *rows = guarded_buffer(&r);
 
-    check_record(line, "value", lw_value_rows(rows, len / 4, 0, NULL, 0, guarded_buffer(&value), 1024), want);
-    check_record(line, "form", lw_normal_form_rows(rows, len / 4, 0, guarded_buffer(&form), 4096), want);
-    check_record(line, "solve",
+    check_record(at, "value", lw_value_rows(rows, len / 4, 0, NULL, 0, guarded_buffer(&value), 1024), want);
+    check_record(at, "form", lw_normal_form_rows(rows, len / 4, 0, guarded_buffer(&form), 4096), want);
+    check_record(at, "solve",
                  lw_solve_rows(rows, len / 4, guarded_buffer(&answer), 16384, guarded_buffer(&work), 16384), want);
-    guard_check(&value, __FILE__, line, "value of a refusal");
-    guard_check(&form, __FILE__, line, "form of a refusal");
-    guard_check(&answer, __FILE__, line, "answer of a refusal");
-    guard_check(&work, __FILE__, line, "work of a refusal");
-    guard_check(&r, __FILE__, line, "rows of a refusal");
+    guard_check(&value, at, "value of a refusal");
+    guard_check(&form, at, "form of a refusal");
+    guard_check(&answer, at, "answer of a refusal");
+    guard_check(&work, at, "work of a refusal");
+    guard_check(&r, at, "rows of a refusal");
 }
 
 static void test_refusals(void)
@@ -154,7 +152,6 @@ static void test_refusals(void)
     refuse_two_at_once(refuse);
     refuse_beyond_maximum(refuse);
     refuse_too_long(refuse);
-    group_done("refusals 11 to 18");
 }
 
 /* NULL with 0. */
@@ -163,27 +160,34 @@ static void test_null(void)
     static uint16_t answer[16384], work[16384], out[4096];
     lw_record row = {.outcome = LW_REFUSED_ROW}, memory = {.outcome = LW_REFUSED_MEMORY};
     lw_record always = {.outcome = LW_ALWAYS};
-    check_record(__LINE__, "value", lw_value_rows(NULL, 0, 0, NULL, 0, NULL, 0), row);
-    check_record(__LINE__, "form", lw_normal_form_rows(NULL, 0, 0, NULL, 0), row);
-    check_record(__LINE__, "form", lw_normal_form_rows(NULL, 0, SIZE_MAX, out, 4096), row);
-    check_record(__LINE__, "solve", lw_solve_rows(NULL, 0, NULL, 0, NULL, 0), memory);
-    check_record(__LINE__, "solve", lw_solve_rows(NULL, 0, answer, 16384, work, 16384), always);
-    group_done("no records");
+    check_record(HERE, "value", lw_value_rows(NULL, 0, 0, NULL, 0, NULL, 0), row);
+    check_record(HERE, "form", lw_normal_form_rows(NULL, 0, 0, NULL, 0), row);
+    check_record(HERE, "form", lw_normal_form_rows(NULL, 0, SIZE_MAX, out, 4096), row);
+    check_record(HERE, "solve", lw_solve_rows(NULL, 0, NULL, 0, NULL, 0), memory);
+    check_record(HERE, "solve", lw_solve_rows(NULL, 0, answer, 16384, work, 16384), always);
 }
 
-int main(int argc, char **argv)
+/* Each outcome was had. */
+static void test_outcomes(void)
 {
-    test_null();
-    test_refusals();
-    test_long();
-    test_random(argc > 1 ? (size_t)strtoul(argv[1], NULL, 10) : 20000);
+    static const unsigned seen[] = {0, 1, 2, 10, 11, 12, 13, 14, 15, 16, 17, 18, 30, 31, 32};
+
     printf("outcomes:");
-    for (unsigned i = 0; i < 64; i++)
+    for (unsigned i = 0; i < COUNT(outcomes); i++)
         if (outcomes[i] != 0)
             printf(" %u %lux", i, outcomes[i]);
     printf("\n");
-    static const unsigned seen[] = {0, 1, 2, 10, 11, 12, 13, 14, 15, 16, 17, 18, 30, 31, 32};
-    for (size_t i = 0; i < sizeof seen / sizeof *seen; i++)
-        check(outcomes[seen[i]] != 0, __FILE__, __LINE__, "outcome %u did not occur", seen[i]);
-    return run_done("rows");
+    for (size_t i = 0; i < COUNT(seen); i++)
+        check(outcomes[seen[i]] != 0, HERE, "outcome %u did not occur", seen[i]);
 }
+
+const test_list tests = {
+    .name = "rows", .inputs = 20000,
+    .groups = {
+        {.name = "no records", .run = test_null},
+        {.name = "refusals 11 to 18", .run = test_refusals},
+        {.name = "long runs", .run = test_long},
+        {.name = "random tables", .run_random = test_random},
+        {.name = "outcomes", .run = test_outcomes},
+    },
+};

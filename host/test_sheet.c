@@ -5,10 +5,10 @@
 
   First sheets and refusals worked by hand. Then texts that are compared with
   reference.c: each that differs in one byte from a short sheet, and SHEETS
-  random ones (100000 if not given), which are good sheets with bytes changed.
-  Last, how the time of a call grows. But for the last, every call is made on
-  guarded buffers, and its record, every byte of the sheet and every number of
-  the table are compared.
+  random ones (100000 if not given), which are good sheets with bytes changed:
+  test_sheet_random.c. Last, how the time of a call grows. But for the last,
+  every call is made on guarded buffers, and its record, every byte of the sheet
+  and every number of the table are compared.
 
   The run fails too if some kind of random sheet does not occur; so there should
   be at least 10000.
@@ -16,38 +16,24 @@
 
 #define _POSIX_C_SOURCE 199309L /* clock_gettime */
 
-
 #include "guard.h"
-#include "linkwords.h"
-#include "random_table.h"
-#include "reference.h"
+#include "test_sheet.h"
 #include "timing.h"
 
 /* Texts. */
 
-/* A literal as two arguments: its bytes and their count. */
+/* A literal as two arguments: its bytes and their count; and all of a text. */
 #define TEXT(literal) (const uint8_t *)(literal), sizeof(literal) - 1
+#define ALL_OF(t)     (t).bytes, (t).len
 
-#define NAMES "kind a b c\n"
-
-/* The sheet of the specification, and its numbers. */
-#define SHEET NAMES "0 8 0 0\n3 0 6 3\n3 0 4 1\n4 1 2 0\n"
-#define ROWS  TABLE(0, 8, 0, 0, 3, 0, 6, 3, 3, 0, 4, 1, 4, 1, 2, 0)
-
+/* The numbers of the specification's sheet; and of one without rows. */
+#define ROWS    TABLE(0, 8, 0, 0, 3, 0, 6, 3, 3, 0, 4, 1, 4, 1, 2, 0)
 #define NO_ROWS NULL, 0
 
 /* The normal form of a part of variable 0. */
 #define PART_OF(high, low) LW_PART, 0, (high), (low)
 
-/* A text that grows. */
-typedef struct {
-    uint8_t bytes[200000];
-    size_t len;
-} text;
-
-#define ALL_OF(t) (t).bytes, (t).len
-
-static void put_byte(text *t, int byte)
+void put_byte(text *t, int byte)
 {
     if (t->len == sizeof t->bytes) {
         printf("text too long\n");
@@ -56,19 +42,19 @@ static void put_byte(text *t, int byte)
     t->bytes[t->len++] = (uint8_t)byte;
 }
 
-static void put(text *t, const char *words)
+void put(text *t, const char *words)
 {
     while (*words != '\0')
         put_byte(t, *words++);
 }
 
-static void put_times(text *t, const char *words, size_t times)
+void put_times(text *t, const char *words, size_t times)
 {
     for (size_t i = 0; i < times; i++)
         put(t, words);
 }
 
-static void put_number(text *t, unsigned number)
+void put_number(text *t, unsigned number)
 {
     char digits[16];
     snprintf(digits, sizeof digits, "%u", number);
@@ -90,14 +76,8 @@ static void print_text(const uint8_t *bytes, size_t len)
 
 /* Calls and what they are compared with. */
 
-/*
-  One call on the first lent bytes of a text of len bytes: the record; the text
-  unchanged; want_table as the first 4 * want.pieces numbers of the output, and
-  behind them what was there before. The output has table_len numbers, those of
-  content if it is not NULL.
-*/
-static void call(int line, const char *name, const uint8_t *bytes, size_t len, size_t lent,
-                 const uint16_t *content, size_t table_len, lw_record want, const uint16_t *want_table)
+void call(where at, const char *name, const uint8_t *bytes, size_t len, size_t lent,
+          const uint16_t *content, size_t table_len, lw_record want, const uint16_t *want_table)
 {
     unsigned long failed = checks_failed;
     guarded s = guard(bytes, len);
@@ -106,9 +86,9 @@ static void call(int line, const char *name, const uint8_t *bytes, size_t len, s
     lw_record got = lw_read_sheet(guarded_buffer(&s), lent, guarded_buffer(&t), table_len);
     if (want_table != NULL)
         guard_expect(&t, want_table, 4 * want.pieces * sizeof *want_table);
-    check_record(line, name, got, want);
-    guard_check(&s, __FILE__, line, "sheet");
-    guard_check(&t, __FILE__, line, "table");
+    check_record(at, name, got, want);
+    guard_check(&s, at, "sheet");
+    guard_check(&t, at, "table");
     if (checks_failed != failed && failed == 0) {
         printf("  output of %zu numbers\n", table_len);
         print_text(bytes, lent);
@@ -120,52 +100,50 @@ static void call(int line, const char *name, const uint8_t *bytes, size_t len, s
   longer ones, whatever stands there before. An output of fewer numbers is
   refused, also where the rows would fit.
 */
-static void accept(int line, const uint8_t *bytes, size_t len, const uint16_t *numbers, size_t count)
+static void accept(where at, const uint8_t *bytes, size_t len, const uint16_t *numbers, size_t count)
 {
     static uint16_t content[2048];
     lw_record want = {.pieces = (uint32_t)(count / 4)}, too_short = {.outcome = 32};
 
-    call(line, "accepted", bytes, len, len, NULL, 2048, want, numbers);
-    call(line, "accepted, one number more", bytes, len, len, NULL, 2049, want, numbers);
-    call(line, "accepted, longer output", bytes, len, len, NULL, 2048 + 70, want, numbers);
+    call(at, "accepted", bytes, len, len, NULL, 2048, want, numbers);
+    call(at, "accepted, one number more", bytes, len, len, NULL, 2049, want, numbers);
+    call(at, "accepted, longer output", bytes, len, len, NULL, 2048 + 70, want, numbers);
     for (size_t i = 0; i < 2048; i++)
         content[i] = 0;
-    call(line, "accepted, output of 0", bytes, len, len, content, 2048, want, numbers);
+    call(at, "accepted, output of 0", bytes, len, len, content, 2048, want, numbers);
     for (size_t i = 0; i < 2048; i++)
         content[i] = i < count ? (uint16_t)~numbers[i] : 0xFFFF;
-    call(line, "accepted, output of other numbers", bytes, len, len, content, 2048, want, numbers);
+    call(at, "accepted, output of other numbers", bytes, len, len, content, 2048, want, numbers);
 
-    call(line, "output of 2047", bytes, len, len, NULL, 2047, too_short, NULL);
-    call(line, "output of 2044", bytes, len, len, NULL, 2044, too_short, NULL);
-    call(line, "output of 0", bytes, len, len, NULL, 0, too_short, NULL);
+    call(at, "output of 2047", bytes, len, len, NULL, 2047, too_short, NULL);
+    call(at, "output of 2044", bytes, len, len, NULL, 2044, too_short, NULL);
+    call(at, "output of 0", bytes, len, len, NULL, 0, too_short, NULL);
     if (count < 2048)
-        call(line, "output of the rows only", bytes, len, len, NULL, count, too_short, NULL);
+        call(at, "output of the rows only", bytes, len, len, NULL, count, too_short, NULL);
 }
 
 /* The sheet is refused, whether or not the output is too short as well. */
-static void refuse(int line, const uint8_t *bytes, size_t len, uint32_t number, uint32_t row)
+static void refuse(where at, const uint8_t *bytes, size_t len, uint32_t number, uint32_t row)
 {
     static const size_t lengths[] = {2048, 2048 + 70, 2047, 4, 0};
     lw_record want = {.outcome = number, .row = row};
-    for (size_t i = 0; i < sizeof lengths / sizeof lengths[0]; i++)
-        call(line, "refused", bytes, len, len, NULL, lengths[i], want, NULL);
+    for (size_t i = 0; i < COUNT(lengths); i++)
+        call(at, "refused", bytes, len, len, NULL, lengths[i], want, NULL);
 }
 
-#define ACCEPT(...) accept(__LINE__, __VA_ARGS__)
-#define REFUSE(...) refuse(__LINE__, __VA_ARGS__)
+#define ACCEPT(...) accept(HERE, __VA_ARGS__)
+#define REFUSE(...) refuse(HERE, __VA_ARGS__)
 
 /* The header's numbers are those of the specification. */
 static void test_constants(void)
 {
-    static const int numbers[][2] = {
-        {LW_ACCEPTED, 0}, {LW_REFUSED_SHEET, 20}, {LW_REFUSED_NAMES, 21}, {LW_REFUSED_LINE, 22},
-        {LW_REFUSED_LINES, 23}, {LW_REFUSED_OUTPUT, 32}, {LW_MAX_SHEET, 16384}, {LW_TABLE_NUMBERS, 2048},
-        {LW_MAX_ROWS, 512}, {LW_ROW_NUMBERS, 4},
+    static const constant constants[] = {
+        CONSTANT(LW_ACCEPTED, 0), CONSTANT(LW_REFUSED_SHEET, 20), CONSTANT(LW_REFUSED_NAMES, 21),
+        CONSTANT(LW_REFUSED_LINE, 22), CONSTANT(LW_REFUSED_LINES, 23), CONSTANT(LW_REFUSED_OUTPUT, 32),
+        CONSTANT(LW_MAX_SHEET, 16384), CONSTANT(LW_TABLE_NUMBERS, 2048), CONSTANT(LW_MAX_ROWS, 512),
+        CONSTANT(LW_ROW_NUMBERS, 4),
     };
-    for (size_t i = 0; i < sizeof numbers / sizeof numbers[0]; i++)
-        check(numbers[i][0] == numbers[i][1], __FILE__, __LINE__, "constant %zu is %d, not %d", i,
-              numbers[i][0], numbers[i][1]);
-    group_done("the header's constants");
+    check_constants(HERE, constants, COUNT(constants));
 }
 
 /* Sheets that are read. */
@@ -194,7 +172,6 @@ static void test_sheets(void)
         memcpy(variables + 4 * i, (const uint16_t[]){VARIABLE(1024)}, 8);
     }
     ACCEPT(ALL_OF(t), variables, 4 * 70);
-    group_done("sheets");
 }
 
 /* Every value, each in one place of 32 sheets; and those at which a digit more is needed, in each column. */
@@ -216,7 +193,7 @@ static void test_values(void)
     static const uint16_t edges[] = {
         0, 1, 9, 10, 11, 99, 100, 255, 256, 999, 1000, 9999, 10000, 32767, 32768, 65534, 65535,
     };
-    for (size_t i = 0; i < sizeof edges / sizeof edges[0]; i++)
+    for (size_t i = 0; i < COUNT(edges); i++)
         for (size_t column = 0; column < 4; column++) {
             uint16_t row[4] = {5, 6, 7, 8};
             row[column] = edges[i];
@@ -228,7 +205,6 @@ static void test_values(void)
             }
             ACCEPT(ALL_OF(t), row, 4);
         }
-    group_done("values");
 }
 
 /* The names in each order, and every other row of four names; the columns are written as kind, a, b, c. */
@@ -269,8 +245,7 @@ static void test_orders(void)
             REFUSE(t.bytes, names_len, 21, 0);
         }
     }
-    check(orders == 24, __FILE__, __LINE__, "%zu orders of the names", orders);
-    group_done("the 24 orders of the names");
+    check(orders == 24, HERE, "%zu orders of the names", orders);
 }
 
 /* 21: an empty text, and each wrong line of names, before good lines, bad lines and none. */
@@ -306,8 +281,8 @@ static void test_names(void)
     REFUSE(TEXT("kind a b c"), 21, 0); /* no line's end */
     REFUSE(TEXT("kind a b c0 8 0 0\n"), 21, 0);
     REFUSE(TEXT("kind a b c 0 8 0 0\n"), 21, 0);
-    for (size_t i = 0; i < sizeof wrong / sizeof wrong[0]; i++)
-        for (size_t j = 0; j < sizeof behind / sizeof behind[0]; j++) {
+    for (size_t i = 0; i < COUNT(wrong); i++)
+        for (size_t j = 0; j < COUNT(behind); j++) {
             t.len = 0;
             put(&t, wrong[i]);
             put(&t, behind[j]);
@@ -323,22 +298,21 @@ static void test_names(void)
     t.len = 0;
     put_times(&t, "kind a b c ", 1000);
     REFUSE(ALL_OF(t), 21, 0);
-    group_done("refusal 21");
 }
 
 /* 22: the line is the first of good ones, the only one, the last and a middle one; before and behind good lines. */
-static void refuse_line(int line, const char *words)
+static void refuse_line(where at, const char *words)
 {
     static const size_t around[][2] = {{0, 0}, {0, 1}, {1, 0}, {1, 1}, {5, 5}, {511, 0}, {3, 600}};
     static text t;
 
-    for (size_t i = 0; i < sizeof around / sizeof around[0]; i++) {
+    for (size_t i = 0; i < COUNT(around); i++) {
         t.len = 0;
         put(&t, NAMES);
         put_times(&t, "0 8 0 0\n", around[i][0]);
         put(&t, words);
         put_times(&t, "0 8 0 0\n", around[i][1]);
-        refuse(line, ALL_OF(t), 22, (uint32_t)around[i][0]);
+        refuse(at, ALL_OF(t), 22, (uint32_t)around[i][0]);
     }
 }
 
@@ -367,13 +341,13 @@ static void test_wrong_values(void)
     };
     static text t;
 
-    for (size_t i = 0; i < sizeof wrong / sizeof wrong[0]; i++)
+    for (size_t i = 0; i < COUNT(wrong); i++)
         for (int place = 0; place < 4; place++) {
             char line[256];
             const char *words[4] = {"3", "0", "6", "1"};
             words[place] = wrong[i];
             snprintf(line, sizeof line, "%s %s %s %s\n", words[0], words[1], words[2], words[3]);
-            refuse_line(__LINE__, line);
+            refuse_line(HERE, line);
         }
 
     /* A byte 0, and a value of as many digits as there is room for. */
@@ -389,7 +363,6 @@ static void test_wrong_values(void)
         put_byte(&t, '\n');
         REFUSE(ALL_OF(t), 22, 0);
     }
-    group_done("refusal 22: wrong values");
 }
 
 /* 22: lines wrong otherwise. */
@@ -411,8 +384,8 @@ static void test_wrong_lines(void)
     };
     static text t;
 
-    for (size_t i = 0; i < sizeof wrong / sizeof wrong[0]; i++)
-        refuse_line(__LINE__, wrong[i]);
+    for (size_t i = 0; i < COUNT(wrong); i++)
+        refuse_line(HERE, wrong[i]);
 
     /* An empty line in the middle, at the end, right behind the names; two of them. */
     REFUSE(TEXT(NAMES "0 8 0 0\n\n3 0 6 3\n"), 22, 1);
@@ -428,7 +401,7 @@ static void test_wrong_lines(void)
         "0 8 0 0", "0 8 0 ", "0 8 0", "0 8 ", "0 8", "0 ", "0", " ", "x", "65536", "0 8 0 00", "0 8 0 0 ", "0 8 0 0\r",
         "0 8 0 0\t", "0 8 0 0\212", "0 8 0 0\v", "0 8 0 65535", "0 8 0 65536", "\r",
     };
-    for (size_t i = 0; i < sizeof last / sizeof last[0]; i++)
+    for (size_t i = 0; i < COUNT(last); i++)
         for (size_t lines = 0; lines < 512; lines = 2 * lines + 1) {
             t.len = 0;
             put(&t, NAMES);
@@ -441,7 +414,6 @@ static void test_wrong_lines(void)
     REFUSE(TEXT(NAMES "0 8 0 0\nx\n0 8 0 0\ny\n"), 22, 1);
     REFUSE(TEXT(NAMES "0 8 0 0\n0 8 0 0\n0 8 0 \n0 8 0 0"), 22, 2);
     REFUSE(TEXT(NAMES "0 8 0 0\n\n0 8 0 0"), 22, 1);
-    group_done("refusal 22: wrong lines");
 }
 
 /* 512 and 513 lines, and a malformed line among many. */
@@ -473,7 +445,7 @@ static void test_lines(void)
     }
 
     /* A 513th line is 23 whatever it holds. */
-    for (size_t i = 0; i < sizeof more / sizeof more[0]; i++) {
+    for (size_t i = 0; i < COUNT(more); i++) {
         t = lines;
         put(&t, more[i]);
         REFUSE(ALL_OF(t), 23, 512);
@@ -522,7 +494,6 @@ static void test_lines(void)
     put(&t, "kind a b C\n");
     put_times(&t, "0 8 0 0\n", 600);
     REFUSE(ALL_OF(t), 21, 0);
-    group_done("512 lines, and a 513th");
 }
 
 /* 20: over 16384 bytes, whatever they are. */
@@ -537,7 +508,7 @@ static void test_size(void)
     put_times(&t, "65535 65535 65535 65535\n", 512);
     for (size_t i = 0; i < 2048; i++)
         rows[i] = 65535;
-    check(t.len == 12299, __FILE__, __LINE__, "the longest good sheet has %zu bytes", t.len);
+    check(t.len == 12299, HERE, "the longest good sheet has %zu bytes", t.len);
     ACCEPT(ALL_OF(t), rows, 2048);
 
     /*
@@ -559,14 +530,14 @@ static void test_size(void)
         {NAMES "0 8 0 0\n", "65535 65535 65535 65535\n", 23, 512},
     };
     static const size_t longer[] = {16385, 16386, 16400, 32768, 65535, 65536, 65536 + 11, 65536 + 19, 131072 + 11};
-    for (size_t i = 0; i < sizeof sheets / sizeof sheets[0]; i++) {
+    for (size_t i = 0; i < COUNT(sheets); i++) {
         t.len = 0;
         put(&t, sheets[i].start);
         while (t.len < 140000)
             put(&t, sheets[i].line);
         REFUSE(t.bytes, 16384, sheets[i].number, sheets[i].row);
         REFUSE(t.bytes, 16383, sheets[i].number, sheets[i].row);
-        for (size_t j = 0; j < sizeof longer / sizeof longer[0]; j++)
+        for (size_t j = 0; j < COUNT(longer); j++)
             REFUSE(t.bytes, longer[j], 20, 0);
     }
 
@@ -576,13 +547,12 @@ static void test_size(void)
         put(&t, NAMES "0 0 0 0\n");
         put_times(&t, "65535 65535 65535 65535\n", 681);
         put(&t, more == 0 ? "10000 10000 10000 10\n" : "10000 10000 10000 100\n");
-        check(t.len == 16384 + (size_t)more, __FILE__, __LINE__, "%zu bytes", t.len);
+        check(t.len == 16384 + (size_t)more, HERE, "%zu bytes", t.len);
         if (more == 0)
             REFUSE(ALL_OF(t), 23, 512);
         else
             REFUSE(ALL_OF(t), 20, 0);
     }
-    group_done("16384 bytes, and 16385");
 }
 
 /* 32: an output below 2048 numbers, however few the rows are; tested last. */
@@ -602,27 +572,25 @@ static void test_output(void)
     }
     for (size_t len = 0; len < 2048; len++) {
         lw_record want = {.outcome = 32};
-        call(__LINE__, "short output", TEXT(SHEET), sizeof SHEET - 1, NULL, len, want, NULL);
+        call(HERE, "short output", TEXT(SHEET), sizeof SHEET - 1, NULL, len, want, NULL);
         if (len % 64 == 0 || len >= 2040 || len < 8) {
-            call(__LINE__, "short output, no rows", TEXT(NAMES), sizeof NAMES - 1, NULL, len, want, NULL);
-            call(__LINE__, "short output, 512 rows", ALL_OF(t), t.len, NULL, len, want, NULL);
+            call(HERE, "short output, no rows", TEXT(NAMES), sizeof NAMES - 1, NULL, len, want, NULL);
+            call(HERE, "short output, 512 rows", ALL_OF(t), t.len, NULL, len, want, NULL);
         }
     }
-    for (size_t i = 0; i < sizeof long_lengths / sizeof long_lengths[0]; i++) {
-        call(__LINE__, "long output", TEXT(NAMES "3 1 4 15\n"), sizeof NAMES + 8, NULL, long_lengths[i],
+    for (size_t i = 0; i < COUNT(long_lengths); i++) {
+        call(HERE, "long output", TEXT(NAMES "3 1 4 15\n"), sizeof NAMES + 8, NULL, long_lengths[i],
              (lw_record){.pieces = 1}, rows);
-        call(__LINE__, "long output, no rows", TEXT(NAMES), sizeof NAMES - 1, NULL, long_lengths[i],
+        call(HERE, "long output, no rows", TEXT(NAMES), sizeof NAMES - 1, NULL, long_lengths[i],
              (lw_record){.pieces = 0}, NULL);
-        call(__LINE__, "long output, 512 rows", ALL_OF(t), t.len, NULL, long_lengths[i],
-             (lw_record){.pieces = 512}, rows);
+        call(HERE, "long output, 512 rows", ALL_OF(t), t.len, NULL, long_lengths[i], (lw_record){.pieces = 512}, rows);
     }
 
     /* Behind every other refusal; most are had with short outputs by refuse() too. */
     put(&t, "3 1 4 15");
-    call(__LINE__, "23 before 32", ALL_OF(t), t.len, NULL, 2047, (lw_record){.outcome = 23, .row = 512}, NULL);
-    call(__LINE__, "22 before 32", ALL_OF(t), t.len - 9, NULL, 2047, (lw_record){.outcome = 22, .row = 511}, NULL);
-    call(__LINE__, "21 before 32", ALL_OF(t), 10, NULL, 2047, (lw_record){.outcome = 21}, NULL);
-    group_done("refusal 32");
+    call(HERE, "23 before 32", ALL_OF(t), t.len, NULL, 2047, (lw_record){.outcome = 23, .row = 512}, NULL);
+    call(HERE, "22 before 32", ALL_OF(t), t.len - 9, NULL, 2047, (lw_record){.outcome = 22, .row = 511}, NULL);
+    call(HERE, "21 before 32", ALL_OF(t), 10, NULL, 2047, (lw_record){.outcome = 21}, NULL);
 }
 
 /* Every start of a sheet that goes on behind what is lent: nothing behind it is read. */
@@ -642,9 +610,8 @@ static void test_starts(void)
             want.pieces = (uint32_t)(lines - 1);
         else
             want.outcome = 22, want.row = (uint32_t)(lines - 1);
-        call(__LINE__, "start of a sheet", (const uint8_t *)sheet, len, lent, NULL, 2048, want, rows);
+        call(HERE, "start of a sheet", (const uint8_t *)sheet, len, lent, NULL, 2048, want, rows);
     }
-    group_done("every start of a sheet");
 }
 
 /* NULL with length 0 for each buffer. */
@@ -656,7 +623,7 @@ static void test_null(void)
         numbers[i] = 9;
 
 #define REFUSE_NULL(name, number, ...) \
-    check_record(__LINE__, name, lw_read_sheet(__VA_ARGS__), (lw_record){.outcome = (number)})
+    check_record(HERE, name, lw_read_sheet(__VA_ARGS__), (lw_record){.outcome = (number)})
     REFUSE_NULL("both NULL", 21, NULL, 0, NULL, 0);
     REFUSE_NULL("sheet NULL", 21, NULL, 0, numbers, 2048);
     REFUSE_NULL("sheet NULL, short output", 21, NULL, 0, numbers, 2047);
@@ -664,9 +631,8 @@ static void test_null(void)
     REFUSE_NULL("table NULL, names refused", 21, bytes, sizeof bytes - 1, NULL, 0);
 #undef REFUSE_NULL
     for (size_t i = 0; i < 2048; i++)
-        if (!check(numbers[i] == 9, __FILE__, __LINE__, "table written by a refusal"))
+        if (!check(numbers[i] == 9, HERE, "table written by a refusal"))
             break;
-    group_done("NULL with length 0");
 }
 
 /* The specification's sheet, read and then worked on. */
@@ -682,290 +648,29 @@ static void test_use(void)
     uint8_t value[8];
 
     lw_record read = lw_read_sheet(TEXT(SHEET), numbers, 2048);
-    check_record(__LINE__, "read", read, (lw_record){.pieces = 4});
+    check_record(HERE, "read", read, (lw_record){.pieces = 4});
     size_t len = 4 * (size_t)read.pieces;
-    for (size_t i = 0; i < sizeof rows / sizeof rows[0]; i++) {
-        check_record(__LINE__, "value", lw_value(numbers, len, rows[i].row, pattern, 8, value, 8),
+    for (size_t i = 0; i < COUNT(rows); i++) {
+        check_record(HERE, "value", lw_value(numbers, len, rows[i].row, pattern, 8, value, 8),
                      (lw_record){.free = (uint32_t)rows[i].width});
-        check(memcmp(value, rows[i].value, rows[i].width) == 0, __FILE__, __LINE__, "value of row %zu", rows[i].row);
-        check_record(__LINE__, "normal form", lw_normal_form(numbers, len, rows[i].row, form, 4096),
+        check(memcmp(value, rows[i].value, rows[i].width) == 0, HERE, "value of row %zu", rows[i].row);
+        check_record(HERE, "normal form", lw_normal_form(numbers, len, rows[i].row, form, 4096),
                      (lw_record){.pieces = 1, .free = (uint32_t)rows[i].width});
-        check(memcmp(form, rows[i].form, 8) == 0, __FILE__, __LINE__, "normal form of row %zu", rows[i].row);
+        check(memcmp(form, rows[i].form, 8) == 0, HERE, "normal form of row %zu", rows[i].row);
     }
-    check_record(__LINE__, "an equation", lw_value(numbers, len, 3, pattern, 8, value, 8), (lw_record){.outcome = 30});
+    check_record(HERE, "an equation", lw_value(numbers, len, 3, pattern, 8, value, 8), (lw_record){.outcome = 30});
 
     /* A kind of 9 is read, and refused by the call that works on the table. */
     read = lw_read_sheet(TEXT(NAMES "0 8 0 0\n9 0 0 0\n"), numbers, 2048);
-    check_record(__LINE__, "kind 9", read, (lw_record){.pieces = 2});
-    check_record(__LINE__, "kind 9", lw_value(numbers, 4 * (size_t)read.pieces, 0, pattern, 8, value, 8),
+    check_record(HERE, "kind 9", read, (lw_record){.pieces = 2});
+    check_record(HERE, "kind 9", lw_value(numbers, 4 * (size_t)read.pieces, 0, pattern, 8, value, 8),
                  (lw_record){.outcome = 12, .row = 1});
 
     /* No rows. */
     read = lw_read_sheet(TEXT(NAMES), numbers, 2048);
-    check_record(__LINE__, "no rows", read, (lw_record){.pieces = 0});
-    check_record(__LINE__, "no rows", lw_normal_form(numbers, 4 * (size_t)read.pieces, 0, form, 4096),
+    check_record(HERE, "no rows", read, (lw_record){.pieces = 0});
+    check_record(HERE, "no rows", lw_normal_form(numbers, 4 * (size_t)read.pieces, 0, form, 4096),
                  (lw_record){.outcome = 30});
-    group_done("a sheet read and used");
-}
-
-/* Against the reference. */
-
-static uint32_t compare(int line, const char *name, const text *t, size_t table_len)
-{
-    static uint16_t numbers[2048];
-    lw_record want = ref_read_sheet(t->bytes, t->len, numbers, table_len);
-    call(line, name, t->bytes, t->len, t->len, NULL, table_len, want, want.outcome == 0 ? numbers : NULL);
-    return want.outcome;
-}
-
-static void remove_bytes(text *t, size_t at, size_t count)
-{
-    memmove(t->bytes + at, t->bytes + at + count, t->len - at - count);
-    t->len -= count;
-}
-
-/* Inserts a copy of bytes of the text, or of others. */
-static void insert_bytes(text *t, size_t at, const uint8_t *bytes, size_t count)
-{
-    static uint8_t copy[sizeof t->bytes];
-    if (t->len + count > sizeof t->bytes)
-        return;
-    memcpy(copy, bytes, count);
-    memmove(t->bytes + at + count, t->bytes + at, t->len - at);
-    memcpy(t->bytes + at, copy, count);
-    t->len += count;
-}
-
-/* Every text that one changed, inserted or removed byte makes of a short sheet. */
-static void test_one_byte(void)
-{
-    static const char *const sheets[] = {NAMES, "c a kind b\n10 0 65535 7\n", SHEET};
-    static text t, good;
-    unsigned long texts = 0, accepted = 0;
-
-    for (size_t i = 0; i < sizeof sheets / sizeof sheets[0]; i++) {
-        good.len = 0;
-        put(&good, sheets[i]);
-        for (size_t at = 0; at <= good.len; at++)
-            for (int byte = 0; byte < 256; byte++)
-                for (int kind = 0; kind < 3; kind++) {
-                    uint8_t b = (uint8_t)byte;
-                    t.len = good.len;
-                    memcpy(t.bytes, good.bytes, good.len);
-                    if (kind == 0)
-                        insert_bytes(&t, at, &b, 1);
-                    else if (at == good.len || (kind == 2 && byte != 0))
-                        continue;
-                    else if (kind == 1)
-                        t.bytes[at] = b;
-                    else
-                        remove_bytes(&t, at, 1);
-                    texts++;
-                    if (compare(__LINE__, "one byte", &t, 2048) == 0)
-                        accepted++;
-                }
-    }
-    printf("%lu texts with one byte changed, inserted or removed: %lu accepted\n", texts, accepted);
-    group_done("one byte, against the reference");
-}
-
-/* Every word of up to three bytes of these, as the second and as the last value. */
-static void test_words(void)
-{
-    static const char bytes[] = {'0', '1', '6', '9', ' ', '\n', '\r', '\t', '+', '-', 'a'};
-    static text t;
-    size_t count = sizeof bytes;
-    unsigned long texts = 0, accepted = 0;
-
-    for (size_t len = 0, words = 1; len <= 3; len++, words *= count)
-        for (size_t word = 0; word < words; word++)
-            for (int place = 0; place < 2; place++) {
-                t.len = 0;
-                put(&t, place == 0 ? "kind b a c\n3 " : "kind b a c\n3 1 5 ");
-                for (size_t i = 0, rest = word; i < len; i++, rest /= count)
-                    put_byte(&t, bytes[rest % count]);
-                put(&t, place == 0 ? " 5 7\n" : "\n");
-                texts++;
-                if (compare(__LINE__, "word", &t, 2048) == 0)
-                    accepted++;
-            }
-    printf("%lu texts with a word of up to three bytes: %lu accepted\n", texts, accepted);
-    group_done("words, against the reference");
-}
-
-static unsigned random_value(void)
-{
-    static const unsigned edges[] = {0, 1, 9, 10, 99, 100, 999, 1000, 6553, 6554, 9999, 10000, 65529, 65534, 65535};
-    return one_in(4) ? edges[below(sizeof edges / sizeof edges[0])]
-         : (unsigned)(one_in(2) ? below(12) : one_in(2) ? below(1025) : below(65536));
-}
-
-/* A good sheet of so many lines. */
-static void make_sheet(text *t, size_t lines)
-{
-    static const char *const names[] = {"kind", "a", "b", "c"};
-    size_t order[4] = {0, 1, 2, 3};
-
-    for (size_t i = 4; i > 1; i--) {
-        size_t j = below(i), kept = order[j];
-        order[j] = order[i - 1], order[i - 1] = kept;
-    }
-    t->len = 0;
-    for (size_t i = 0; i < 4; i++) {
-        put(t, names[order[i]]);
-        put_byte(t, i == 3 ? '\n' : ' ');
-    }
-    for (size_t i = 0; i < 4 * lines; i++) {
-        put_number(t, random_value());
-        put_byte(t, i % 4 == 3 ? '\n' : ' ');
-    }
-}
-
-/* Mostly a byte that a sheet may have. */
-static uint8_t random_byte(void)
-{
-    static const char bytes[] = "0123456789 \nkindabc\r\t+-";
-    return one_in(4) ? (uint8_t)below(256) : one_in(2) ? (uint8_t)bytes[below(12)]
-         : (uint8_t)bytes[below(sizeof bytes - 1)];
-}
-
-/* The line that has this byte, its end included, as far as it has one. */
-static void line_at(const text *t, size_t at, size_t *from, size_t *count)
-{
-    size_t to = at;
-    *from = at;
-    while (*from != 0 && t->bytes[*from - 1] != '\n')
-        (*from)--;
-    while (to + 1 < t->len && t->bytes[to] != '\n')
-        to++;
-    *count = to + 1 - *from;
-}
-
-enum { CHANGE, INSERT, REMOVE, DOUBLE, SWAP, SWAP_NEXT, CUT_SHORT, DOUBLE_LINE, REMOVE_LINE, LENGTHEN, MUTATIONS };
-
-static const char *const mutation_names[MUTATIONS] = {
-    "a byte changed", "inserted", "removed", "doubled", "two swapped", "two neighbours swapped",
-    "cut short", "a line doubled", "a line removed", "lines up to some 16384 bytes",
-};
-
-static void mutate(text *t, int mutation)
-{
-    if (t->len == 0)
-        return;
-    size_t at = below(t->len), other = mutation == SWAP_NEXT ? (at + 1) % t->len : below(t->len), from, count;
-    uint8_t byte = random_byte();
-
-    switch (mutation) {
-    case CHANGE:
-        t->bytes[at] = byte;
-        break;
-    case INSERT:
-        insert_bytes(t, below(t->len + 1), &byte, 1);
-        break;
-    case REMOVE:
-        remove_bytes(t, at, 1);
-        break;
-    case DOUBLE:
-        insert_bytes(t, at, t->bytes + at, 1);
-        break;
-    case SWAP:
-    case SWAP_NEXT:
-        byte = t->bytes[at];
-        t->bytes[at] = t->bytes[other];
-        t->bytes[other] = byte;
-        break;
-    case CUT_SHORT:
-        t->len = one_in(3) ? t->len - 1 : at;
-        break;
-    case DOUBLE_LINE:
-        line_at(t, at, &from, &count);
-        insert_bytes(t, from, t->bytes + from, count);
-        break;
-    case REMOVE_LINE:
-        line_at(t, at, &from, &count);
-        remove_bytes(t, from, count);
-        break;
-    case LENGTHEN: /* the last line again and again; then cut at 16384 bytes, or up to two fewer or more, or not */
-        line_at(t, t->len - 1, &from, &count);
-        while (t->len < 16384 + 2)
-            insert_bytes(t, t->len, t->bytes + from, count);
-        if (!one_in(4))
-            t->len = 16382 + below(5);
-        break;
-    }
-}
-
-static void test_random(unsigned long sheets)
-{
-    static const uint32_t outcomes[] = {0, 20, 21, 22, 23, 32};
-    static const char *const row_names[] = {"0", "1 to 9", "10 to 510", "511"};
-    unsigned long seen[33] = {0}, rows[4] = {0}, reads[4] = {0}, mutations[MUTATIONS] = {0}, kept = 0;
-    static text t, good;
-    static uint16_t numbers[2048];
-    char name[64];
-
-    for (unsigned long i = 0; i < sheets; i++) {
-        size_t lines = one_in(50) ? (one_in(2) ? 505 + below(8) : below(513)) : below(one_in(4) ? 40 : 6);
-        make_sheet(&good, lines);
-        t.len = good.len;
-        memcpy(t.bytes, good.bytes, good.len);
-        for (size_t count = one_in(5) ? below(5) : 1; count != 0; count--) {
-            int mutation = one_in(150) ? LENGTHEN : (int)below(LENGTHEN);
-            if (lines >= 505 && one_in(2))
-                mutation = DOUBLE_LINE;
-            mutations[mutation]++;
-            mutate(&t, mutation);
-        }
-        if (lines == 512 && one_in(3)) { /* something at the last line */
-            t.len = good.len;
-            memcpy(t.bytes, good.bytes, good.len);
-            if (one_in(2))
-                t.bytes[t.len - 1 - below(8)] = random_byte();
-            else
-                for (size_t count = 1 + below(3); count != 0; count--)
-                    put_byte(&t, random_byte());
-        }
-        size_t table_len = 2048 + (one_in(3) ? below(70) : 0);
-        if (one_in(20))
-            table_len = one_in(2) ? 2047 : below(2048);
-
-        lw_record want = ref_read_sheet(t.bytes, t.len, numbers, table_len);
-        snprintf(name, sizeof name, "random sheet %lu", i);
-        call(__LINE__, name, t.bytes, t.len, t.len, NULL, table_len, want, want.outcome == 0 ? numbers : NULL);
-        seen[want.outcome]++;
-        size_t n = want.outcome == 0 ? want.pieces : want.row;
-        size_t class = n == 0 ? 0 : n < 10 ? 1 : n < 511 ? 2 : 3;
-        if (want.outcome == 0)
-            reads[class]++;
-        if (want.outcome == 22)
-            rows[class]++;
-        if (want.outcome == 0 && (t.len != good.len || memcmp(t.bytes, good.bytes, t.len) != 0))
-            kept++;
-    }
-
-    printf("%lu random sheets:", sheets);
-    for (size_t i = 0; i < sizeof outcomes / sizeof outcomes[0]; i++)
-        printf(" %s%u %lu", i == 0 ? "outcome " : "", outcomes[i], seen[outcomes[i]]);
-    printf("\n  changed and yet read %lu; rows read", kept);
-    for (size_t i = 0; i < 4; i++)
-        printf("%s %s %lu", i == 0 ? "" : ",", i == 3 ? "511 or 512" : row_names[i], reads[i]);
-    printf("\n  outcome 22 in row");
-    for (size_t i = 0; i < 4; i++)
-        printf("%s %s: %lu", i == 0 ? "" : ",", row_names[i], rows[i]);
-    printf("\n");
-    for (int i = 0; i < MUTATIONS; i++)
-        printf("    %-46s %lu\n", mutation_names[i], mutations[i]);
-
-    for (size_t i = 0; i < sizeof outcomes / sizeof outcomes[0]; i++)
-        check(seen[outcomes[i]] != 0, __FILE__, __LINE__, "no random sheet has outcome %u", outcomes[i]);
-    for (size_t i = 0; i < 4; i++) {
-        check(reads[i] != 0, __FILE__, __LINE__, "no random sheet read has rows %s", row_names[i]);
-        check(rows[i] != 0, __FILE__, __LINE__, "no random sheet is refused 22 in row %s", row_names[i]);
-    }
-    for (int i = 0; i < MUTATIONS; i++)
-        check(mutations[i] != 0, __FILE__, __LINE__, "no random sheet has this: %s", mutation_names[i]);
-    check(kept != 0, __FILE__, __LINE__, "no changed sheet is read");
-    group_done("random sheets against the reference");
 }
 
 /* Speed. */
@@ -995,31 +700,28 @@ static void test_speed(void)
     medians t = time_both(read_text, &small, &large);
     printf("a call on a sheet of 64 lines: %.2f us, of 512 lines: %.2f us\n", 1e6 * t.small, 1e6 * t.large);
     printf("time for 512 lines / 64 lines: %.1f\n", t.large / t.small);
-    check(t.large <= 16 * t.small, __FILE__, __LINE__, "512 lines take over 16 times as long as 64");
-    group_done("speed");
+    check(t.large <= 16 * t.small, HERE, "512 lines take over 16 times as long as 64");
 }
 
-int main(int argc, char **argv)
-{
-    unsigned long sheets = argc > 1 ? strtoul(argv[1], NULL, 10) : 100000;
-
-    setvbuf(stdout, NULL, _IOLBF, BUFSIZ); /* a crash leaves the lines before it */
-    test_constants();
-    test_sheets();
-    test_values();
-    test_orders();
-    test_names();
-    test_wrong_values();
-    test_wrong_lines();
-    test_lines();
-    test_size();
-    test_output();
-    test_starts();
-    test_null();
-    test_use();
-    test_one_byte();
-    test_words();
-    test_random(sheets);
-    test_speed();
-    return run_done("sheet");
-}
+const test_list tests = {
+    .name = "sheet", .inputs = 100000,
+    .groups = {
+        {.name = "the header's constants", .run = test_constants},
+        {.name = "sheets", .run = test_sheets},
+        {.name = "values", .run = test_values},
+        {.name = "the 24 orders of the names", .run = test_orders},
+        {.name = "refusal 21", .run = test_names},
+        {.name = "refusal 22: wrong values", .run = test_wrong_values},
+        {.name = "refusal 22: wrong lines", .run = test_wrong_lines},
+        {.name = "512 lines, and a 513th", .run = test_lines},
+        {.name = "16384 bytes, and 16385", .run = test_size},
+        {.name = "refusal 32", .run = test_output},
+        {.name = "every start of a sheet", .run = test_starts},
+        {.name = "NULL with length 0", .run = test_null},
+        {.name = "a sheet read and used", .run = test_use},
+        {.name = "one byte, against the reference", .run = test_one_byte},
+        {.name = "words, against the reference", .run = test_words},
+        {.name = "random sheets against the reference", .run_random = test_random_sheets},
+        {.name = "speed", .run = test_speed},
+    },
+};

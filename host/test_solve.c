@@ -15,6 +15,7 @@
   at least 1000.
 */
 
+#include "answer_rows.h"
 #include "enumerate.h"
 #include "guard.h"
 #include "large_table.h"
@@ -26,13 +27,7 @@
 
 enum { LEAST = 16384, LONGEST = LEAST + 8192, LARGE_TABLES = 2000 };
 
-/* Rows of an answer. An answer is written down as a table is: see TABLE. */
-
-#define FRESH(variable, width, number)  (variable), LW_FRESH, (width), (number)
-#define ZEROS(variable, width)          (variable), 0, (width), 0
-#define ONES(variable, width)           (variable), 1, (width), 0
-#define ANSWER                          TABLE
-#define NO_ANSWER                       NULL, 0
+#define NO_ANSWER NULL, 0
 
 /* Records in the order of their fields, as the specification prints them. */
 #define ALWAYS(free)                      (lw_record){0, 0, 0, (free), 0, 0}
@@ -67,14 +62,14 @@ static lw_part plain_right_side(const uint16_t *answer, size_t answer_len, size_
     return (lw_part){4 * first, 4 * (behind - first)};
 }
 
-static bool check_part(int line, const char *name, lw_part got, lw_part want)
+static bool check_part(where at, const char *name, lw_part got, lw_part want)
 {
-    return check(got.start == want.start && got.len == want.len, __FILE__, line,
+    return check(got.start == want.start && got.len == want.len, at,
                  "%s: part {%zu, %zu}, expected {%zu, %zu}", name, got.start, got.len, want.start, want.len);
 }
 
 /* In an answer of this table, the parts of variables 0, 1, .. are not empty and cover the rows in use. */
-static void check_parts(int line, const uint16_t *numbers, size_t len, const uint16_t *answer, size_t answer_len,
+static void check_parts(where at, const uint16_t *numbers, size_t len, const uint16_t *answer, size_t answer_len,
                         size_t rows)
 {
     size_t variables = 0, covered = 0;
@@ -87,8 +82,8 @@ static void check_parts(int line, const uint16_t *numbers, size_t len, const uin
             each = each && part.start == want.start && part.len == want.len && part.start == covered && part.len != 0;
             covered += part.len;
         }
-    check(each && covered == 4 * rows, __FILE__, line, "the right sides cover %zu of %zu numbers", covered, 4 * rows);
-    check_part(line, "variable that there is not", lw_right_side(answer, answer_len, rows, variables),
+    check(each && covered == 4 * rows, at, "the right sides cover %zu of %zu numbers", covered, 4 * rows);
+    check_part(at, "variable that there is not", lw_right_side(answer, answer_len, rows, variables),
                (lw_part){0, 0});
 }
 
@@ -99,7 +94,7 @@ static void check_parts(int line, const uint16_t *numbers, size_t len, const uin
   there before. Where content is not NULL, both buffers have its numbers before
   the call.
 */
-static void call(int line, const char *name, const uint16_t *numbers, size_t len, const uint16_t *content,
+static void call(where at, const char *name, const uint16_t *numbers, size_t len, const uint16_t *content,
                  size_t answer_len, size_t work_len, lw_record want, const uint16_t *want_answer)
 {
     unsigned long failed = checks_failed;
@@ -115,12 +110,12 @@ static void call(int line, const char *name, const uint16_t *numbers, size_t len
         guard_expect(&w, zeros, work_len * sizeof *zeros);
     if (answer_len >= 4 * 16)
         memcpy(start, guarded_buffer(&a), sizeof start);
-    check_record(line, name, got, want);
+    check_record(at, name, got, want);
     if (want.outcome == 2 && got.outcome == 2)
-        check_parts(line, numbers, len, guarded_buffer(&a), answer_len, got.pieces);
-    guard_check(&t, __FILE__, line, "table");
-    guard_check(&a, __FILE__, line, "answer");
-    guard_check(&w, __FILE__, line, "work area");
+        check_parts(at, numbers, len, guarded_buffer(&a), answer_len, got.pieces);
+    guard_check(&t, at, "table");
+    guard_check(&a, at, "answer");
+    guard_check(&w, at, "work area");
     if (checks_failed != failed && failed == 0) {
         printf("  %s, answer of %zu numbers, work area of %zu\n", name, answer_len, work_len);
         print_table(numbers, len);
@@ -148,7 +143,7 @@ static bool same_answer(lw_record record, const uint16_t *a, const uint16_t *b)
 }
 
 /* Enumeration and plain solver give this answer too, the enumeration if the table is small. */
-static void check_others(int line, const char *name, const uint16_t *numbers, size_t len, lw_record want,
+static void check_others(where at, const char *name, const uint16_t *numbers, size_t len, lw_record want,
                          const uint16_t *want_answer)
 {
     static ref_table facts;
@@ -156,22 +151,22 @@ static void check_others(int line, const char *name, const uint16_t *numbers, si
     static enumeration found;
 
     lw_record record = ref_check(numbers, len, &facts);
-    if (!check(record.outcome == 0, __FILE__, line, "%s: refused %u", name, record.outcome))
+    if (!check(record.outcome == 0, at, "%s: refused %u", name, record.outcome))
         return;
     record = plain_solve(numbers, &facts, answer);
-    if (!check(same_record(record, want) && same_answer(want, answer, want_answer), __FILE__, line,
+    if (!check(same_record(record, want) && same_answer(want, answer, want_answer), at,
                "%s: the plain solver's answer is another", name) && checks_failed == 1) {
         print_table(numbers, len);
-        check_record(line, "plain solver", record, want);
+        check_record(at, "plain solver", record, want);
         print_answer("plain solver", answer, record.pieces);
         print_answer("expected", want_answer, want.pieces);
     }
     if (facts.bits > ENUM_BITS)
         return;
     enumerate(numbers, &facts, &found);
-    if (!check(same_record(found.record, want) && same_answer(want, found.answer, want_answer), __FILE__, line,
+    if (!check(same_record(found.record, want) && same_answer(want, found.answer, want_answer), at,
                "%s: the enumeration's answer is another", name) && checks_failed == 1) {
-        check_record(line, "enumeration", found.record, want);
+        check_record(at, "enumeration", found.record, want);
         print_answer("enumeration", found.answer, found.record.pieces);
     }
 }
@@ -180,52 +175,49 @@ static void check_others(int line, const char *name, const uint16_t *numbers, si
   The table has this record and this answer: with buffers of exactly 16384
   numbers and with longer ones, whatever stands there before.
 */
-static void accept(int line, const uint16_t *numbers, size_t len, lw_record want, const uint16_t *answer,
+static void accept(where at, const uint16_t *numbers, size_t len, lw_record want, const uint16_t *answer,
                    size_t answer_len)
 {
     static uint16_t content[LEAST];
     static const uint16_t likes[] = {0, 1, 2, 65535};
 
-    check(answer_len == 4 * (size_t)want.pieces, __FILE__, line, "expected answer of %zu numbers, %u pieces",
+    check(answer_len == 4 * (size_t)want.pieces, at, "expected answer of %zu numbers, %u pieces",
           answer_len, want.pieces); /* a slip in what is expected is found too */
-    check_others(line, "worked by hand", numbers, len, want, answer);
-    call(line, "accepted", numbers, len, NULL, LEAST, LEAST, want, answer);
-    call(line, "accepted, longer answer table", numbers, len, NULL, LEAST + 9, LEAST, want, answer);
-    call(line, "accepted, longer work area", numbers, len, NULL, LEAST, LEAST + 1, want, answer);
-    call(line, "accepted, both longer", numbers, len, NULL, LONGEST, LONGEST, want, answer);
-    for (size_t k = 0; k < sizeof likes / sizeof likes[0]; k++) {
+    check_others(at, "worked by hand", numbers, len, want, answer);
+    call(at, "accepted", numbers, len, NULL, LEAST, LEAST, want, answer);
+    call(at, "accepted, longer answer table", numbers, len, NULL, LEAST + 9, LEAST, want, answer);
+    call(at, "accepted, longer work area", numbers, len, NULL, LEAST, LEAST + 1, want, answer);
+    call(at, "accepted, both longer", numbers, len, NULL, LONGEST, LONGEST, want, answer);
+    for (size_t k = 0; k < COUNT(likes); k++) {
         for (size_t i = 0; i < LEAST; i++)
             content[i] = likes[k];
-        call(line, "accepted, buffers of like numbers", numbers, len, content, LEAST, LEAST, want, answer);
+        call(at, "accepted, buffers of like numbers", numbers, len, content, LEAST, LEAST, want, answer);
     }
 }
 
 /* The table is refused; and if a buffer is too short, that is told instead. */
-static void refuse_table(int line, const uint16_t *numbers, size_t len, uint32_t number, uint32_t row)
+static void refuse_table(where at, const uint16_t *numbers, size_t len, uint32_t number, uint32_t row)
 {
     lw_record want = {.outcome = number, .row = row}, memory = {.outcome = 10};
-    call(line, "refused", numbers, len, NULL, LEAST, LEAST, want, NULL);
-    call(line, "refused, longer buffers", numbers, len, NULL, LEAST + 9, LONGEST, want, NULL);
-    call(line, "refused, answer table too short", numbers, len, NULL, LEAST - 1, LEAST, memory, NULL);
-    call(line, "refused, work area too short", numbers, len, NULL, LEAST, LEAST - 1, memory, NULL);
-    call(line, "refused, both too short", numbers, len, NULL, 0, 0, memory, NULL);
+    call(at, "refused", numbers, len, NULL, LEAST, LEAST, want, NULL);
+    call(at, "refused, longer buffers", numbers, len, NULL, LEAST + 9, LONGEST, want, NULL);
+    call(at, "refused, answer table too short", numbers, len, NULL, LEAST - 1, LEAST, memory, NULL);
+    call(at, "refused, work area too short", numbers, len, NULL, LEAST, LEAST - 1, memory, NULL);
+    call(at, "refused, both too short", numbers, len, NULL, 0, 0, memory, NULL);
 }
 
-#define ACCEPT(...)       accept(__LINE__, __VA_ARGS__)
-#define REFUSE_TABLE(...) refuse_table(__LINE__, __VA_ARGS__)
+#define ACCEPT(...)       accept(HERE, __VA_ARGS__)
+#define REFUSE_TABLE(...) refuse_table(HERE, __VA_ARGS__)
 
 /* The header's numbers are those of the specification. */
 static void test_constants(void)
 {
-    static const struct { int got, want; } same[] = {
-        {LW_ALWAYS, 0}, {LW_NEVER, 1}, {LW_SOLVED, 2}, {LW_FRESH, 2}, {LW_REFUSED_MEMORY, 10},
-        {LW_SOLVER_NUMBERS, 16384}, {LW_ANSWER_ROW_NUMBERS, 4},
+    static const constant constants[] = {
+        CONSTANT(LW_ALWAYS, 0), CONSTANT(LW_NEVER, 1), CONSTANT(LW_SOLVED, 2), CONSTANT(LW_FRESH, 2),
+        CONSTANT(LW_REFUSED_MEMORY, 10), CONSTANT(LW_SOLVER_NUMBERS, 16384), CONSTANT(LW_ANSWER_ROW_NUMBERS, 4),
     };
-    for (size_t i = 0; i < sizeof same / sizeof same[0]; i++)
-        check(same[i].got == same[i].want, __FILE__, __LINE__, "constant %zu is %d, expected %d",
-              i, same[i].got, same[i].want);
-    check(sizeof(lw_part) == 2 * sizeof(size_t), __FILE__, __LINE__, "a part has %zu bytes", sizeof(lw_part));
-    group_done("the header's constants");
+    check_constants(HERE, constants, COUNT(constants));
+    check(sizeof(lw_part) == 2 * sizeof(size_t), HERE, "a part has %zu bytes", sizeof(lw_part));
 }
 
 /* The specification's cases 1 to 9; case 10 is about a sheet alone. */
@@ -251,7 +243,6 @@ static void test_worked(void)
     ACCEPT(TABLE(VARIABLE(8), CUT(0, 7, 0), EQUATION(0, 1)), ALWAYS(8), NO_ANSWER);
     REFUSE_TABLE(TABLE(VARIABLE(8), CUT(0, 8, 0)), 16, 1);
     ACCEPT(TABLE(VARIABLE(8), CUT(0, 7, 4), CUT(0, 3, 0), JOIN(1, 2), EQUATION(0, 3)), ALWAYS(8), NO_ANSWER);
-    group_done("worked cases");
 }
 
 /* The specification's sheet, read and solved, and its record and answer table printed as there. */
@@ -264,15 +255,14 @@ static void test_sheet(void)
     char got[1024];
 
     lw_record read = lw_read_sheet((const uint8_t *)sheet, strlen(sheet), numbers, LW_TABLE_NUMBERS);
-    check_record(__LINE__, "sheet", read, (lw_record){.pieces = 4});
+    check_record(HERE, "sheet", read, (lw_record){.pieces = 4});
     lw_record r = lw_solve(numbers, 4 * (size_t)read.pieces, answer, LEAST, work, LEAST);
     int n = snprintf(got, sizeof got, "outcome pieces fresh free ties row\n%u %u %u %u %u %u\n"
                      "variable kind width fresh\n", r.outcome, r.pieces, r.fresh, r.free, r.ties, r.row);
     for (size_t i = 0; i < r.pieces && i < 16; i++)
         n += snprintf(got + n, sizeof got - (size_t)n, "%u %u %u %u\n", answer[4 * i], answer[4 * i + 1],
                       answer[4 * i + 2], answer[4 * i + 3]);
-    check(strcmp(got, want) == 0, __FILE__, __LINE__, "printed:\n%sexpected:\n%s", got, want);
-    group_done("the sheet's printed answer");
+    check(strcmp(got, want) == 0, HERE, "printed:\n%sexpected:\n%s", got, want);
 }
 
 /* Fresh pieces: where one ends and where it may not. */
@@ -317,7 +307,6 @@ static void test_pieces(void)
     /* An equation before its variables' successors: variables are numbered as they appear. */
     ACCEPT(TABLE(FILL(1, 1), VARIABLE(1), EQUATION(0, 1), VARIABLE(3), CUT(3, 2, 2), VARIABLE(1), EQUATION(4, 5)),
            SOLVED(4, 2, 3, 2), ANSWER(ONES(0, 1), FRESH(1, 1, 0), FRESH(1, 2, 1), FRESH(2, 1, 0)));
-    group_done("fresh pieces");
 }
 
 /* Fixed bits, and the fills that they make. */
@@ -345,7 +334,6 @@ static void test_fills(void)
            SOLVED(3, 0, 0, 3), ANSWER(ZEROS(0, 1), ZEROS(1, 1), ZEROS(2, 1)));
     ACCEPT(TABLE(VARIABLE(6), CUT(0, 5, 1), CUT(0, 4, 0), CUT(0, 3, 3), FILL(0, 1), EQUATION(1, 2), EQUATION(4, 3)),
            SOLVED(1, 0, 0, 6), ANSWER(ZEROS(0, 6)));
-    group_done("fixed bits");
 }
 
 /* Ties, and the row at which no pattern is left. */
@@ -370,7 +358,6 @@ static void test_ties(void)
     ACCEPT(TABLE(FILL(0, 1), FILL(1, 1), EQUATION(0, 1), EQUATION(1, 0), VARIABLE(3)), NEVER(0, 2), NO_ANSWER);
     ACCEPT(TABLE(VARIABLE(3), CUT(0, 2, 1), CUT(0, 1, 0), FILL(0, 1), FILL(1, 1), CUT(0, 2, 2), CUT(0, 0, 0),
                  EQUATION(5, 3), EQUATION(6, 4), EQUATION(1, 2), EQUATION(0, 0)), NEVER(2, 9), NO_ANSWER);
-    group_done("ties, and never");
 }
 
 /* The largest answers and tables. */
@@ -471,7 +458,6 @@ static void test_limits(void)
     ACCEPT(ALL(t), SOLVED(2, 1, 1024, 1024), ANSWER(FRESH(0, 1024, 0), FRESH(1, 1024, 0)));
     t.numbers[4 * 511 + 2] = 0;
     ACCEPT(ALL(t), ALWAYS(2048), NO_ANSWER);
-    group_done("largest answers and tables");
 }
 
 /* Refusal 10, with tables good and bad. */
@@ -481,24 +467,22 @@ static void test_memory(void)
     static const uint16_t good[] = {VARIABLE(8), CUT(0, 6, 3), CUT(0, 4, 1), EQUATION(1, 2)};
     static const uint16_t bad[] = {VARIABLE(8), 9, 9, 9, 9};
     static uint16_t answer[LEAST];
-    size_t count = sizeof lens / sizeof lens[0];
+    size_t count = COUNT(lens);
 
     for (size_t i = 0; i < count; i++)
         for (size_t j = 0; j < count; j++) {
             lw_record want = expected(good, 16, lens[i], lens[j], answer);
-            check(want.outcome == (lens[i] < LEAST || lens[j] < LEAST ? 10 : 2), __FILE__, __LINE__, "expected %u",
-                  want.outcome);
-            call(__LINE__, "good table", good, 16, NULL, lens[i], lens[j], want, answer);
-            call(__LINE__, "no rows", NULL, 0, NULL, lens[i], lens[j],
+            check(want.outcome == (lens[i] < LEAST || lens[j] < LEAST ? 10 : 2), HERE, "expected %u", want.outcome);
+            call(HERE, "good table", good, 16, NULL, lens[i], lens[j], want, answer);
+            call(HERE, "no rows", NULL, 0, NULL, lens[i], lens[j],
                  expected(NULL, 0, lens[i], lens[j], answer), answer);
             for (size_t len = 7; len <= 8; len++) { /* refused 11, and 12 */
                 want = expected(bad, len, lens[i], lens[j], answer);
-                check(want.outcome == (lens[i] < LEAST || lens[j] < LEAST ? 10 : len == 7 ? 11 : 12), __FILE__,
-                      __LINE__, "expected %u", want.outcome);
-                call(__LINE__, "bad table", bad, len, NULL, lens[i], lens[j], want, answer);
+                check(want.outcome == (lens[i] < LEAST || lens[j] < LEAST ? 10 : len == 7 ? 11 : 12), HERE,
+                      "expected %u", want.outcome);
+                call(HERE, "bad table", bad, len, NULL, lens[i], lens[j], want, answer);
             }
         }
-    group_done("refusal 10");
 }
 
 /* Refusals 11 to 18. */
@@ -517,7 +501,6 @@ static void test_table_refusals(void)
 
     /* A table without a pattern is refused too, for a fault behind the row at which none is left. */
     REFUSE_TABLE(TABLE(FILL(0, 1), FILL(1, 1), EQUATION(0, 1), VARIABLE(1), EQUATION(0, 2)), 14, 4);
-    group_done("refusals 11 to 18");
 }
 
 /* NULL with length 0 for each buffer. */
@@ -529,7 +512,7 @@ static void test_null(void)
         answer[i] = work[i] = 9;
 
 #define REFUSE_NULL(name, number, at, ...) \
-    check_record(__LINE__, name, lw_solve(__VA_ARGS__), (lw_record){.outcome = (number), .row = (at)})
+    check_record(HERE, name, lw_solve(__VA_ARGS__), (lw_record){.outcome = (number), .row = (at)})
     REFUSE_NULL("all NULL", 10, 0, NULL, 0, NULL, 0, NULL, 0);
     REFUSE_NULL("answer NULL", 10, 0, fill, 4, NULL, 0, work, LEAST);
     REFUSE_NULL("work NULL", 10, 0, fill, 4, answer, LEAST, NULL, 0);
@@ -539,28 +522,27 @@ static void test_null(void)
     size_t kept = 0, zero = 0;
     for (size_t i = 0; i < LEAST; i++)
         kept += answer[i] == 9 && work[i] == 9;
-    check(kept == LEAST, __FILE__, __LINE__, "a buffer written by a refusal");
-    check_record(__LINE__, "table NULL", lw_solve(NULL, 0, answer, LEAST, work, LEAST), ALWAYS(0));
+    check(kept == LEAST, HERE, "a buffer written by a refusal");
+    check_record(HERE, "table NULL", lw_solve(NULL, 0, answer, LEAST, work, LEAST), ALWAYS(0));
     for (size_t i = 0; i < LEAST; i++)
         zero += answer[i] == 9 && work[i] == 0;
-    check(zero == LEAST, __FILE__, __LINE__, "buffers after a table of no rows");
-    check_part(__LINE__, "answer NULL", lw_right_side(NULL, 0, 0, 0), (lw_part){0, 0});
-    check_part(__LINE__, "answer NULL, a row in use", lw_right_side(NULL, 0, 1, 0), (lw_part){0, 0});
-    check_part(__LINE__, "answer NULL, SIZE_MAX", lw_right_side(NULL, 0, SIZE_MAX, SIZE_MAX), (lw_part){0, 0});
-    group_done("NULL with length 0");
+    check(zero == LEAST, HERE, "buffers after a table of no rows");
+    check_part(HERE, "answer NULL", lw_right_side(NULL, 0, 0, 0), (lw_part){0, 0});
+    check_part(HERE, "answer NULL, a row in use", lw_right_side(NULL, 0, 1, 0), (lw_part){0, 0});
+    check_part(HERE, "answer NULL, SIZE_MAX", lw_right_side(NULL, 0, SIZE_MAX, SIZE_MAX), (lw_part){0, 0});
 }
 
 /* Right sides of any numbers. */
 
-static void part(int line, const uint16_t *numbers, size_t len, size_t rows, size_t variable, lw_part want)
+static void part(where at, const uint16_t *numbers, size_t len, size_t rows, size_t variable, lw_part want)
 {
     guarded a = guard(numbers, len * sizeof *numbers);
     const uint16_t *answer = guarded_buffer(&a);
-    check_part(line, "right side", lw_right_side(answer, len, rows, variable), want);
-    guard_check(&a, __FILE__, line, "answer");
+    check_part(at, "right side", lw_right_side(answer, len, rows, variable), want);
+    guard_check(&a, at, "answer");
 }
 
-#define PART(...)       part(__LINE__, __VA_ARGS__)
+#define PART(...)       part(HERE, __VA_ARGS__)
 #define RUN(start, len) (lw_part){(start), (len)}
 #define EMPTY           RUN(0, 0)
 
@@ -591,13 +573,12 @@ static void test_right_side(void)
     PART(rows, 0, 0, 0, EMPTY);
     static const size_t many[] = {SIZE_MAX, SIZE_MAX / 4, SIZE_MAX / 4 + 1, SIZE_MAX / 4 + 2, SIZE_MAX / 2 + 1,
                                   (size_t)UINT32_MAX + 1, 65536};
-    for (size_t i = 0; i < sizeof many / sizeof many[0]; i++)
+    for (size_t i = 0; i < COUNT(many); i++)
         PART(rows, 31, many[i], 0, EMPTY);
     static const size_t absent[] = {65536, 65537, 131071, (size_t)UINT32_MAX + 1, (size_t)UINT32_MAX + 3,
                                     SIZE_MAX - 65535, SIZE_MAX - 65534, SIZE_MAX};
-    for (size_t i = 0; i < sizeof absent / sizeof absent[0]; i++) /* not taken for their low 16 bits */
+    for (size_t i = 0; i < COUNT(absent); i++) /* not taken for their low 16 bits */
         PART(rows, 31, 7, absent[i], EMPTY);
-    group_done("right sides worked by hand");
 }
 
 /* Random numbers of any kind, against the plain loop. */
@@ -641,8 +622,7 @@ static void test_random_parts(void)
     }
     printf("40000 random parts: %lu empty, %lu of all rows, %lu of some rows, %lu of one row\n", empty, whole, longer,
            rest);
-    check(empty != 0 && whole != 0 && longer != 0 && rest != 0, __FILE__, __LINE__, "some kind of part does not occur");
-    group_done("random right sides");
+    check(empty != 0 && whole != 0 && longer != 0 && rest != 0, HERE, "some kind of part does not occur");
 }
 
 /* Small random tables. */
@@ -667,7 +647,7 @@ static void test_small_table(unsigned long number, unsigned long outcomes[3], un
     make_small(&s);
     snprintf(name, sizeof name, "small table %lu", number);
     lw_record record = ref_check(s.d.t.numbers, s.d.t.len, &facts);
-    if (!check(record.outcome == 0 && facts.bits <= ENUM_BITS, __FILE__, __LINE__, "%s: refused %u, row %u", name,
+    if (!check(record.outcome == 0 && facts.bits <= ENUM_BITS, HERE, "%s: refused %u, row %u", name,
                record.outcome, record.row))
         return;
 
@@ -675,19 +655,19 @@ static void test_small_table(unsigned long number, unsigned long outcomes[3], un
     lw_record want = found.record;
     check(found.met == (want.outcome == 1 ? 0 : (size_t)1 << want.free) &&
           (want.outcome != 0 || want.free == facts.bits) && (want.outcome == 1 || want.free + want.ties == facts.bits),
-          __FILE__, __LINE__, "%s: %zu patterns meet it, free %u, ties %u", name, found.met, want.free, want.ties);
+          HERE, "%s: %zu patterns meet it, free %u, ties %u", name, found.met, want.free, want.ties);
 
     record = plain_solve(s.d.t.numbers, &facts, answer);
-    if (!check(same_record(record, want) && same_answer(want, answer, found.answer), __FILE__, __LINE__,
+    if (!check(same_record(record, want) && same_answer(want, answer, found.answer), HERE,
                "%s: plain solver and enumeration differ", name) && checks_failed == 1) {
         print_table(s.d.t.numbers, s.d.t.len);
-        check_record(__LINE__, "plain solver", record, want);
+        check_record(HERE, "plain solver", record, want);
         print_answer("plain solver", answer, record.pieces);
         print_answer("enumeration", found.answer, want.pieces);
     }
 
     size_t answer_len = some_length(), work_len = some_length();
-    call(__LINE__, name, ALL(s.d.t), NULL, answer_len, work_len, want, found.answer);
+    call(HERE, name, ALL(s.d.t), NULL, answer_len, work_len, want, found.answer);
     outcomes[want.outcome]++;
     if (want.outcome == 2)
         met[want.free]++;
@@ -709,10 +689,9 @@ static void test_small(unsigned long tables)
     for (int i = 0; i < FEATURES; i++)
         printf("    %-50s %lu\n", feature_names[i], features[i]);
     for (size_t i = 0; i < 3; i++)
-        check(5 * outcomes[i] >= tables, __FILE__, __LINE__, "outcome %zu is rare", i);
+        check(5 * outcomes[i] >= tables, HERE, "outcome %zu is rare", i);
     for (int i = 0; i < FEATURES; i++)
-        check(features[i] != 0, __FILE__, __LINE__, "no small table has this: %s", feature_names[i]);
-    group_done("small tables against all patterns");
+        check(features[i] != 0, HERE, "no small table has this: %s", feature_names[i]);
 }
 
 /* Damaged tables. */
@@ -762,43 +741,42 @@ static uint32_t test_damaged_table(unsigned long number)
 
     lw_record want = expected(d->t.numbers, d->t.len, answer_len, work_len, answer);
     snprintf(name, sizeof name, "damaged table %lu", number);
-    call(__LINE__, name, d->t.numbers, d->t.len, NULL, answer_len, work_len, want, answer);
+    call(HERE, name, d->t.numbers, d->t.len, NULL, answer_len, work_len, want, answer);
     return want.outcome;
 }
 
-static void test_damaged(unsigned long tables)
+static void test_damaged(unsigned long small_tables)
 {
     static const uint32_t outcomes[] = {0, 1, 2, 10, 11, 12, 13, 14, 15, 16, 17, 18};
-    unsigned long seen[19] = {0};
+    unsigned long seen[19] = {0}, tables = small_tables / 5;
 
     for (unsigned long i = 0; i < tables; i++)
         seen[test_damaged_table(i)]++;
     printf("%lu damaged tables:", tables);
-    for (size_t i = 0; i < sizeof outcomes / sizeof outcomes[0]; i++)
+    for (size_t i = 0; i < COUNT(outcomes); i++)
         printf(" %s%u %lu", i == 0 ? "outcome " : "", outcomes[i], seen[outcomes[i]]);
     printf("\n");
-    for (size_t i = 0; i < sizeof outcomes / sizeof outcomes[0]; i++)
-        check(seen[outcomes[i]] != 0, __FILE__, __LINE__, "no damaged table has outcome %u", outcomes[i]);
-    group_done("damaged tables");
+    for (size_t i = 0; i < COUNT(outcomes); i++)
+        check(seen[outcomes[i]] != 0, HERE, "no damaged table has outcome %u", outcomes[i]);
 }
 
 /* Large random tables. */
 
-static void test_large(unsigned long tables)
+static void test_large(void)
 {
     static plan p;
     static uint16_t answer[LEAST];
     unsigned long outcomes[3] = {0}, full = 0, wide = 0, chained = 0, early = 0, many = 0, bits_full = 0;
     char name[64];
 
-    for (unsigned long i = 0; i < tables; i++) {
+    for (unsigned long i = 0; i < LARGE_TABLES; i++) {
         size_t answer_len = some_length(), work_len = some_length(), widest = 0, last = 0, cuts = 0, longest = 0;
         make_large(&p);
         lw_record want = expected(ALL(p.d.t), answer_len, work_len, answer);
         snprintf(name, sizeof name, "large table %lu", i);
-        if (!check(want.outcome <= 2, __FILE__, __LINE__, "%s: refused %u, row %u", name, want.outcome, want.row))
+        if (!check(want.outcome <= 2, HERE, "%s: refused %u, row %u", name, want.outcome, want.row))
             continue;
-        call(__LINE__, name, ALL(p.d.t), NULL, answer_len, work_len, want, answer);
+        call(HERE, name, ALL(p.d.t), NULL, answer_len, work_len, want, answer);
 
         for (size_t r = 0; r < p.d.rows; r++) {
             const uint16_t *n = p.d.t.numbers + 4 * r;
@@ -817,36 +795,33 @@ static void test_large(unsigned long tables)
         many += want.pieces >= 1000;
         bits_full += p.d.bits == 4096;
     }
-    printf("%lu large tables: always %lu, never %lu, solved %lu\n", tables, outcomes[0], outcomes[1], outcomes[2]);
+    printf("%d large tables: always %lu, never %lu, solved %lu\n", LARGE_TABLES, outcomes[0], outcomes[1], outcomes[2]);
     printf("    of 4096 variable bits %lu, of 64 equations %lu, with an equation of 1024 bits %lu,\n"
            "    with a chain of 100 cuts %lu, never before the last equation %lu, of 1000 pieces %lu\n",
            bits_full, full, wide, chained, early, many);
     for (size_t i = 0; i < 3; i++)
-        check(10 * outcomes[i] >= tables, __FILE__, __LINE__, "outcome %zu is rare", i);
-    check(bits_full != 0 && full != 0 && wide != 0 && chained != 0 && early != 0 && many != 0, __FILE__, __LINE__,
+        check(10 * outcomes[i] >= LARGE_TABLES, HERE, "outcome %zu is rare", i);
+    check(bits_full != 0 && full != 0 && wide != 0 && chained != 0 && early != 0 && many != 0, HERE,
           "some kind of large table does not occur");
-    group_done("large tables against the plain solver");
 }
 
-int main(int argc, char **argv)
-{
-    unsigned long tables = argc > 1 ? strtoul(argv[1], NULL, 10) : 100000;
-
-    setvbuf(stdout, NULL, _IOLBF, BUFSIZ); /* a crash leaves the lines before it */
-    test_constants();
-    test_worked();
-    test_sheet();
-    test_pieces();
-    test_fills();
-    test_ties();
-    test_limits();
-    test_memory();
-    test_table_refusals();
-    test_null();
-    test_right_side();
-    test_random_parts();
-    test_small(tables);
-    test_damaged(tables / 5);
-    test_large(LARGE_TABLES);
-    return run_done("solve");
-}
+const test_list tests = {
+    .name = "solve", .inputs = 100000,
+    .groups = {
+        {.name = "the header's constants", .run = test_constants},
+        {.name = "worked cases", .run = test_worked},
+        {.name = "the sheet's printed answer", .run = test_sheet},
+        {.name = "fresh pieces", .run = test_pieces},
+        {.name = "fixed bits", .run = test_fills},
+        {.name = "ties, and never", .run = test_ties},
+        {.name = "largest answers and tables", .run = test_limits},
+        {.name = "refusal 10", .run = test_memory},
+        {.name = "refusals 11 to 18", .run = test_table_refusals},
+        {.name = "NULL with length 0", .run = test_null},
+        {.name = "right sides worked by hand", .run = test_right_side},
+        {.name = "random right sides", .run = test_random_parts},
+        {.name = "small tables against all patterns", .run_random = test_small},
+        {.name = "damaged tables", .run_random = test_damaged},
+        {.name = "large tables against the plain solver", .run = test_large},
+    },
+};

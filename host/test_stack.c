@@ -1,8 +1,6 @@
 /*
   test_stack.c -- how much stack each call uses
 
-      test_stack HEADER
-
   A thread runs on a stack of known bytes and makes one call. The lowest byte
   that has changed then tells how deep the call went: its use is counted from
   where the caller's stack ended just before the call, so that the return
@@ -10,18 +8,17 @@
   is measured over two different fillings of the stack, since a byte that is
   written with what it had is not seen.
 
-  The greatest use of a call must not exceed the number that HEADER
-  (linkwords.h) states in its line "CALL  N bytes".
+  The greatest use of a call must not exceed what the header states for it
+  (LW_STACK_VALUE and so on), and what is stated must not be far above it.
 */
 
 #define _POSIX_C_SOURCE 200809L
 
 #include <pthread.h>
 
-#include "guard.h"
-#include "linkwords.h"
+#include "test.h"
 
-/* Calls to be measured. */
+/* What the calls are made on. */
 
 typedef struct {
     uint16_t table[4 * LW_MAX_ROWS];
@@ -31,16 +28,15 @@ typedef struct {
     uint8_t pattern[LW_MAX_VARIABLE_BITS];
     size_t pattern_len;
     uint8_t value[LW_MAX_WIDTH];
-    size_t value_len;
     uint16_t form[LW_FORM_NUMBERS];
     uint8_t sheet[LW_MAX_SHEET + 1];
     size_t sheet_len;
     uint16_t answer[LW_SOLVER_NUMBERS], work[LW_SOLVER_NUMBERS];
-    size_t work_len, rows_in_use, variable;
-    size_t answer_len;
+    size_t answer_len, work_len, rows_in_use, variable;
     uint8_t fresh[LW_MAX_VARIABLE_BITS];
     size_t fresh_len;
-    lw_record record; /* of a right side: its length as free */
+    uint32_t outcome; /* what the call gave; 0 for a right side */
+    size_t size;      /* the field free, or a right side's length */
 } call;
 
 static void add(call *c, size_t kind, size_t a, size_t b, size_t low)
@@ -357,209 +353,177 @@ static void short_output(call *c)
     c->table_len--;
 }
 
-/* Measuring. */
+/* The tests: what a call is made on, and what it gives then. */
 
-typedef lw_record value_function(const uint16_t *, size_t, size_t, const uint8_t *, size_t, uint8_t *, size_t);
-typedef lw_record form_function(const uint16_t *, size_t, size_t, uint16_t *, size_t);
-typedef lw_record sheet_function(const uint8_t *, size_t, uint16_t *, size_t);
-typedef lw_record solve_function(const uint16_t *, size_t, uint16_t *, size_t, uint16_t *, size_t);
-typedef lw_part part_function(const uint16_t *, size_t, size_t, size_t);
-typedef lw_record value_rows_function(const lw_row *, size_t, size_t, const uint8_t *, size_t, uint8_t *, size_t);
-typedef lw_record form_rows_function(const lw_row *, size_t, size_t, uint16_t *, size_t);
-typedef lw_record solve_rows_function(const lw_row *, size_t, uint16_t *, size_t, uint16_t *, size_t);
-typedef lw_record pattern_function(const uint16_t *, size_t, const uint8_t *, size_t, uint8_t *, size_t);
+typedef struct {
+    const char *name;
+    void (*make)(call *);
+    uint32_t outcome;
+    size_t size;
+} test;
 
-enum { STACK = 1 << 20 };
+/* The last is for values alone: only they have a pattern. */
+static const test tables[] = {
+    {"one variable", one_variable, LW_ACCEPTED, 1024},
+    {"512 rows, chained cuts", cuts, LW_ACCEPTED, 1024},
+    {"512 rows, joins chained on the left", left_joins, LW_ACCEPTED, 511},
+    {"512 rows, joins chained on the right", right_joins, LW_ACCEPTED, 511},
+    {"512 rows, cuts and joins in turn", cuts_and_joins, LW_ACCEPTED, 256},
+    {"refused 11", no_whole_row, LW_REFUSED_TABLE, 0},
+    {"refused 16 at row 511", bad_cut, LW_REFUSED_CUT, 0},
+    {"refused 31", bad_pattern, LW_REFUSED_PATTERN, 0},
+};
+static const test sheets[] = {
+    {"one line", one_line, LW_ACCEPTED, 0},
+    {"12299 bytes, 512 lines", long_lines, LW_ACCEPTED, 0},
+    {"refused 20", too_long, LW_REFUSED_SHEET, 0},
+    {"refused 21", no_names, LW_REFUSED_NAMES, 0},
+    {"refused 22 at line 511", no_end, LW_REFUSED_LINE, 0},
+    {"16384 bytes, refused 23", many_lines, LW_REFUSED_LINES, 0},
+    {"refused 32", short_output, LW_REFUSED_OUTPUT, 0},
+};
+static const test solves[] = {
+    {"one variable", one_variable, LW_ALWAYS, 1024},
+    {"512 rows, chained cuts", solve_cuts, LW_SOLVED, 1},
+    {"512 rows, joins chained on the left", solve_left_joins, LW_ALWAYS, 1},
+    {"512 rows, joins chained on the right", solve_right_joins, LW_ALWAYS, 1},
+    {"512 rows, cuts and joins in turn", solve_cuts_and_joins, LW_ALWAYS, 1},
+    {"64 equations of 1024 bits", solve_words, LW_SOLVED, 1024},
+    {"never at the last of 64 equations", solve_never, LW_NEVER, 0},
+    {"refused 10", short_work, LW_REFUSED_MEMORY, 0},
+    {"refused 11", no_whole_row, LW_REFUSED_TABLE, 0},
+    {"refused 16 at row 511", bad_cut, LW_REFUSED_CUT, 0},
+};
+static const test parts[] = {
+    {"4096 rows of one variable", all_rows, 0, LW_SOLVER_NUMBERS},
+    {"no such variable", no_such_variable, 0, 0},
+    {"too many rows", too_many_rows, 0, 0},
+};
+static const test patterns[] = {
+    {"no rows", no_rows, LW_ACCEPTED, 0},
+    {"one fresh bit", one_bit, LW_ACCEPTED, 1},
+    {"one fill", one_fill, LW_ACCEPTED, 1024},
+    {"4096 fresh pieces", fresh_rows, LW_ACCEPTED, 4096},
+    {"4096 rows, one fresh piece", one_piece, LW_ACCEPTED, 4096},
+    {"4096 fills", fill_rows, LW_ACCEPTED, 4096},
+    {"64 variables of 64 bits", wide_rows, LW_ACCEPTED, 4096},
+    {"refused 33, not whole rows", no_whole_answer_row, LW_REFUSED_ANSWER, 0},
+    {"refused 33 at row 4095", bad_answer_row, LW_REFUSED_ANSWER, 0},
+    {"refused 34, fresh bits too few", few_fresh_bits, LW_REFUSED_FRESH, 0},
+    {"refused 34, the last byte above 1", bad_fresh_bit, LW_REFUSED_FRESH, 0},
+    {"refused 32", short_pattern, LW_REFUSED_OUTPUT, 0},
+};
 
-static unsigned char *stack, paint;
-static size_t used;
+/* The calls. */
 
 /* Where the caller's stack ends, as the function that is called finds it. */
 static uintptr_t entry;
 
 /*
-  Called as the calls are. The frame's address is where the caller's frame
-  pointer is kept, just below the return address.
+  In place of a call, these note where it is entered. The frame's address is
+  where the caller's frame pointer is kept, just below the return address. They
+  are called as the call itself is, with its arguments, which they do not look
+  at: for a result of one kind one such function will do.
 */
 #define ENTRY ((uintptr_t)__builtin_frame_address(0) + 2 * sizeof(void *))
 
 __attribute__((noinline))
-static lw_record value_entry(const uint16_t *table, size_t table_len, size_t row,
-                             const uint8_t *pattern, size_t pattern_len, uint8_t *value, size_t value_len)
+static lw_record record_entry(void)
 {
-    (void)table, (void)table_len, (void)row, (void)pattern, (void)pattern_len, (void)value, (void)value_len;
     entry = ENTRY;
     return (lw_record){.outcome = 1};
 }
 
 __attribute__((noinline))
-static lw_record form_entry(const uint16_t *table, size_t table_len, size_t row, uint16_t *form, size_t form_len)
+static lw_part part_entry(void)
 {
-    (void)table, (void)table_len, (void)row, (void)form, (void)form_len;
-    entry = ENTRY;
-    return (lw_record){.outcome = 1};
-}
-
-__attribute__((noinline))
-static lw_record sheet_entry(const uint8_t *sheet, size_t sheet_len, uint16_t *table, size_t table_len)
-{
-    (void)sheet, (void)sheet_len, (void)table, (void)table_len;
-    entry = ENTRY;
-    return (lw_record){.outcome = 1};
-}
-
-__attribute__((noinline))
-static lw_record solve_entry(const uint16_t *table, size_t table_len, uint16_t *answer, size_t answer_len,
-                             uint16_t *work, size_t work_len)
-{
-    (void)table, (void)table_len, (void)answer, (void)answer_len, (void)work, (void)work_len;
-    entry = ENTRY;
-    return (lw_record){.outcome = 1};
-}
-
-__attribute__((noinline))
-static lw_part part_entry(const uint16_t *answer, size_t answer_len, size_t rows_in_use, size_t variable)
-{
-    (void)answer, (void)answer_len, (void)rows_in_use, (void)variable;
     entry = ENTRY;
     return (lw_part){1, 1};
 }
 
-__attribute__((noinline))
-static lw_record pattern_entry(const uint16_t *answer, size_t answer_len, const uint8_t *fresh, size_t fresh_len,
-                               uint8_t *pattern, size_t pattern_len)
+static void note_record(call *c, lw_record record)
 {
-    (void)answer, (void)answer_len, (void)fresh, (void)fresh_len, (void)pattern, (void)pattern_len;
-    entry = ENTRY;
-    return (lw_record){.outcome = 1};
+    c->outcome = record.outcome;
+    c->size = record.free;
 }
 
-__attribute__((noinline))
-static lw_record value_rows_entry(const lw_row *rows, size_t row_count, size_t row,
-                                  const uint8_t *pattern, size_t pattern_len, uint8_t *value, size_t value_len)
+static void note_part(call *c, lw_part part)
 {
-    (void)rows, (void)row_count, (void)row, (void)pattern, (void)pattern_len, (void)value, (void)value_len;
-    entry = ENTRY;
-    return (lw_record){.outcome = 1};
+    c->size = part.len;
 }
 
-__attribute__((noinline))
-static lw_record form_rows_entry(const lw_row *rows, size_t row_count, size_t row, uint16_t *form, size_t form_len)
-{
-    (void)rows, (void)row_count, (void)row, (void)form, (void)form_len;
-    entry = ENTRY;
-    return (lw_record){.outcome = 1};
-}
+/*
+  run_FUNCTION(c) calls first the entry and then the function, both in the same
+  way and with these arguments of c, and notes the second result.
+*/
+#define RUN(function, kind, ...)                                                                       \
+    static void run_##function(call *c)                                                                \
+    {                                                                                                  \
+        static __typeof__(function) *volatile const both[] = {                                         \
+            (__typeof__(function) *)(void (*)(void))kind##_entry, function,                            \
+        };                                                                                             \
+        lw_##kind result;                                                                              \
+        for (size_t i = 0; i < 2; i++)                                                                 \
+            result = both[i](__VA_ARGS__);                                                             \
+        note_##kind(c, result);                                                                        \
+    }
 
-__attribute__((noinline))
-static lw_record solve_rows_entry(const lw_row *rows, size_t row_count, uint16_t *answer, size_t answer_len,
-                                  uint16_t *work, size_t work_len)
-{
-    (void)rows, (void)row_count, (void)answer, (void)answer_len, (void)work, (void)work_len;
-    entry = ENTRY;
-    return (lw_record){.outcome = 1};
-}
+#define TABLE c->table, c->table_len
+#define ROWS  c->rows, c->row_count
+#define VALUE c->row, c->pattern, c->pattern_len, c->value, sizeof c->value
+#define FORM  c->row, c->form, LW_FORM_NUMBERS
+#define SOLVE c->answer, LW_SOLVER_NUMBERS, c->work, c->work_len
 
-static value_function *volatile const value_functions[] = {value_entry, lw_value};
-static form_function *volatile const form_functions[] = {form_entry, lw_normal_form};
-static sheet_function *volatile const sheet_functions[] = {sheet_entry, lw_read_sheet};
-static solve_function *volatile const solve_functions[] = {solve_entry, lw_solve};
-static part_function *volatile const part_functions[] = {part_entry, lw_right_side};
-static pattern_function *volatile const pattern_functions[] = {pattern_entry, lw_make_pattern};
-static value_rows_function *volatile const value_rows_functions[] = {value_rows_entry, lw_value_rows};
-static form_rows_function *volatile const form_rows_functions[] = {form_rows_entry, lw_normal_form_rows};
-static solve_rows_function *volatile const solve_rows_functions[] = {solve_rows_entry, lw_solve_rows};
+RUN(lw_value, record, TABLE, VALUE)
+RUN(lw_normal_form, record, TABLE, FORM)
+RUN(lw_read_sheet, record, c->sheet, c->sheet_len, TABLE)
+RUN(lw_solve, record, TABLE, SOLVE)
+RUN(lw_right_side, part, c->answer, LW_SOLVER_NUMBERS, c->rows_in_use, c->variable)
+RUN(lw_make_pattern, record, c->answer, c->answer_len, c->fresh, c->fresh_len, c->pattern, c->pattern_len)
+RUN(lw_value_rows, record, ROWS, VALUE)
+RUN(lw_normal_form_rows, record, ROWS, FORM)
+RUN(lw_solve_rows, record, ROWS, SOLVE)
 
-static void count(void)
+/* Each call with what the header states of it, and its tests. */
+static const struct {
+    const char *name;
+    void (*run)(call *);
+    size_t stated;
+    const test *tests;
+    size_t count;
+} calls[] = {
+    {"lw_value", run_lw_value, LW_STACK_VALUE, tables, COUNT(tables)},
+    {"lw_normal_form", run_lw_normal_form, LW_STACK_NORMAL_FORM, tables, COUNT(tables) - 1},
+    {"lw_read_sheet", run_lw_read_sheet, LW_STACK_READ_SHEET, sheets, COUNT(sheets)},
+    {"lw_solve", run_lw_solve, LW_STACK_SOLVE, solves, COUNT(solves)},
+    {"lw_right_side", run_lw_right_side, LW_STACK_RIGHT_SIDE, parts, COUNT(parts)},
+    {"lw_make_pattern", run_lw_make_pattern, LW_STACK_MAKE_PATTERN, patterns, COUNT(patterns)},
+    {"lw_value_rows", run_lw_value_rows, LW_STACK_VALUE_ROWS, tables, COUNT(tables)},
+    {"lw_normal_form_rows", run_lw_normal_form_rows, LW_STACK_NORMAL_FORM_ROWS, tables, COUNT(tables) - 1},
+    {"lw_solve_rows", run_lw_solve_rows, LW_STACK_SOLVE_ROWS, solves, COUNT(solves)},
+};
+
+/* Measuring. */
+
+enum { STACK = 1 << 20 };
+
+static unsigned char *stack, paint;
+
+typedef struct {
+    void (*run)(call *);
+    call *c;
+    size_t used;
+} measurement;
+
+static void *run_and_count(void *argument)
 {
+    measurement *m = argument;
     size_t low = 0;
+
+    m->run(m->c);
     while (low < STACK && stack[low] == paint)
         low++;
-    used = (size_t)(entry - (uintptr_t)stack) - low;
-}
-
-static void *run_value(void *argument)
-{
-    call *c = argument;
-    for (size_t i = 0; i < 2; i++)
-        c->record = value_functions[i](c->table, c->table_len, c->row, c->pattern, c->pattern_len,
-                                       c->value, c->value_len);
-    count();
-    return NULL;
-}
-
-static void *run_form(void *argument)
-{
-    call *c = argument;
-    for (size_t i = 0; i < 2; i++)
-        c->record = form_functions[i](c->table, c->table_len, c->row, c->form, LW_FORM_NUMBERS);
-    count();
-    return NULL;
-}
-
-static void *run_sheet(void *argument)
-{
-    call *c = argument;
-    for (size_t i = 0; i < 2; i++)
-        c->record = sheet_functions[i](c->sheet, c->sheet_len, c->table, c->table_len);
-    count();
-    return NULL;
-}
-
-static void *run_solve(void *argument)
-{
-    call *c = argument;
-    for (size_t i = 0; i < 2; i++)
-        c->record = solve_functions[i](c->table, c->table_len, c->answer, LW_SOLVER_NUMBERS, c->work, c->work_len);
-    count();
-    return NULL;
-}
-
-static void *run_part(void *argument)
-{
-    call *c = argument;
-    lw_part part = {0, 0};
-    for (size_t i = 0; i < 2; i++)
-        part = part_functions[i](c->answer, LW_SOLVER_NUMBERS, c->rows_in_use, c->variable);
-    count();
-    c->record.free = (uint32_t)part.len;
-    return NULL;
-}
-
-static void *run_pattern(void *argument)
-{
-    call *c = argument;
-    for (size_t i = 0; i < 2; i++)
-        c->record = pattern_functions[i](c->answer, c->answer_len, c->fresh, c->fresh_len, c->pattern, c->pattern_len);
-    count();
-    return NULL;
-}
-
-static void *run_value_rows(void *argument)
-{
-    call *c = argument;
-    for (size_t i = 0; i < 2; i++)
-        c->record = value_rows_functions[i](c->rows, c->row_count, c->row, c->pattern, c->pattern_len,
-                                            c->value, c->value_len);
-    count();
-    return NULL;
-}
-
-static void *run_form_rows(void *argument)
-{
-    call *c = argument;
-    for (size_t i = 0; i < 2; i++)
-        c->record = form_rows_functions[i](c->rows, c->row_count, c->row, c->form, LW_FORM_NUMBERS);
-    count();
-    return NULL;
-}
-
-static void *run_solve_rows(void *argument)
-{
-    call *c = argument;
-    for (size_t i = 0; i < 2; i++)
-        c->record = solve_rows_functions[i](c->rows, c->row_count, c->answer, LW_SOLVER_NUMBERS, c->work, c->work_len);
-    count();
+    m->used = (size_t)(entry - (uintptr_t)stack) - low;
     return NULL;
 }
 
@@ -572,8 +536,9 @@ static void must(int error, const char *what)
 }
 
 /* How many bytes of stack the call uses over this filling. */
-static size_t measure(void *(*run)(void *), call *c, unsigned char filling)
+static size_t measure(void (*run)(call *), call *c, unsigned char filling)
 {
+    measurement m = {.run = run, .c = c};
     pthread_attr_t attributes;
     pthread_t thread;
 
@@ -581,135 +546,63 @@ static size_t measure(void *(*run)(void *), call *c, unsigned char filling)
     memset(stack, paint, STACK);
     must(pthread_attr_init(&attributes), "pthread_attr_init");
     must(pthread_attr_setstack(&attributes, stack, STACK), "pthread_attr_setstack");
-    must(pthread_create(&thread, &attributes, run, c), "pthread_create");
+    must(pthread_create(&thread, &attributes, run_and_count, &m), "pthread_create");
     must(pthread_join(thread, NULL), "pthread_join");
     must(pthread_attr_destroy(&attributes), "pthread_attr_destroy");
-    return used;
+    return m.used;
 }
 
-/* The number that the header states for a call; 0 if there is none. */
-static unsigned long stated(const char *header, const char *name)
+static void make(call *c, const test *t)
 {
-    char line[256], word[256];
-    unsigned long bytes, found = 0;
-    FILE *file = fopen(header, "r");
-    if (file == NULL) {
-        perror(header);
-        exit(1);
-    }
-    while (found == 0 && fgets(line, sizeof line, file) != NULL)
-        if (sscanf(line, " %255s %lu bytes", word, &bytes) == 2 && strcmp(word, name) == 0)
-            found = bytes;
-    fclose(file);
-    return found;
+    memset(c, 0, sizeof *c);
+    c->work_len = LW_SOLVER_NUMBERS;
+    t->make(c);
+    memcpy(c->rows, c->table, sizeof c->table);
+    c->row_count = c->table_len % 4 == 0 ? c->table_len / 4 : LW_MAX_ROWS + 1; /* for no whole rows one too many */
+    c->row = c->table_len / 4 - 1;
 }
 
-typedef struct {
-    const char *name;
-    void (*make)(call *);
-    uint32_t outcome, free;
-} test;
-
-/* Measures a call on each of the tests, and compares the greatest use with the header's number. */
-static void measure_all(const char *name, void *(*run)(void *), const test *tests, size_t count, unsigned long limit)
+/* The greatest use of a call on a test, over each filling. */
+static size_t measure_test(const char *name, void (*run)(call *), const test *t)
 {
     static const unsigned char fillings[] = {0x5A, 0xA5};
     static call c;
-    size_t greatest = 0;
+    size_t use = 0;
 
-    check(limit != 0, __FILE__, __LINE__, "no line '%s  N bytes' in the header", name);
-    for (size_t i = 0; i < count; i++) {
-        size_t use = 0;
-        for (size_t f = 0; f < sizeof fillings; f++) {
-            memset(&c, 0, sizeof c);
-            c.work_len = LW_SOLVER_NUMBERS;
-            tests[i].make(&c);
-            memcpy(c.rows, c.table, sizeof c.table);
-            c.row_count = c.table_len % 4 == 0 ? c.table_len / 4 : LW_MAX_ROWS + 1; /* not whole rows: as records, one too many */
-            c.row = c.table_len / 4 - 1;
-            c.value_len = sizeof c.value;
-            size_t once = measure(run, &c, fillings[f]);
-            use = once > use ? once : use;
-            check(c.record.outcome == tests[i].outcome && c.record.free == tests[i].free, __FILE__, __LINE__,
-                  "%s, %s: outcome %u, free %u", name, tests[i].name, c.record.outcome, c.record.free);
-        }
-        printf("%-19s %-36s %zu bytes of stack\n", name, tests[i].name, use);
-        check(use > sizeof(void *) && use < STACK / 2, __FILE__, __LINE__, "%s: nothing measured", tests[i].name);
-        greatest = use > greatest ? use : greatest;
+    for (size_t f = 0; f < sizeof fillings; f++) {
+        make(&c, t);
+        size_t once = measure(run, &c, fillings[f]);
+        use = once > use ? once : use;
+        check(c.outcome == t->outcome && c.size == t->size, HERE, "%s, %s: outcome %u, size %zu", name, t->name,
+              c.outcome, c.size);
     }
-    check(greatest <= limit, __FILE__, __LINE__, "%s: %zu bytes of stack used, the header says %lu", name, greatest, limit);
-    printf("%-19s %-36s %zu bytes of stack, the header says %lu\n", name, "greatest", greatest, limit);
+    printf("%-19s %-36s %zu bytes of stack\n", name, t->name, use);
+    check(use > sizeof(void *) && use < STACK / 2, HERE, "%s, %s: nothing measured", name, t->name);
+    return use;
 }
 
-int main(int argc, char **argv)
+static void test_calls(void)
 {
-    static const test tests[] = {
-        {"one variable", one_variable, LW_ACCEPTED, 1024},
-        {"512 rows, chained cuts", cuts, LW_ACCEPTED, 1024},
-        {"512 rows, joins chained on the left", left_joins, LW_ACCEPTED, 511},
-        {"512 rows, joins chained on the right", right_joins, LW_ACCEPTED, 511},
-        {"512 rows, cuts and joins in turn", cuts_and_joins, LW_ACCEPTED, 256},
-        {"refused 11", no_whole_row, LW_REFUSED_TABLE, 0},
-        {"refused 16 at row 511", bad_cut, LW_REFUSED_CUT, 0},
-        {"refused 31", bad_pattern, LW_REFUSED_PATTERN, 0},
-    };
-    static const test sheets[] = {
-        {"one line", one_line, LW_ACCEPTED, 0},
-        {"12299 bytes, 512 lines", long_lines, LW_ACCEPTED, 0},
-        {"refused 20", too_long, LW_REFUSED_SHEET, 0},
-        {"refused 21", no_names, LW_REFUSED_NAMES, 0},
-        {"refused 22 at line 511", no_end, LW_REFUSED_LINE, 0},
-        {"16384 bytes, refused 23", many_lines, LW_REFUSED_LINES, 0},
-        {"refused 32", short_output, LW_REFUSED_OUTPUT, 0},
-    };
-    static const test solves[] = {
-        {"one variable", one_variable, LW_ALWAYS, 1024},
-        {"512 rows, chained cuts", solve_cuts, LW_SOLVED, 1},
-        {"512 rows, joins chained on the left", solve_left_joins, LW_ALWAYS, 1},
-        {"512 rows, joins chained on the right", solve_right_joins, LW_ALWAYS, 1},
-        {"512 rows, cuts and joins in turn", solve_cuts_and_joins, LW_ALWAYS, 1},
-        {"64 equations of 1024 bits", solve_words, LW_SOLVED, 1024},
-        {"never at the last of 64 equations", solve_never, LW_NEVER, 0},
-        {"refused 10", short_work, LW_REFUSED_MEMORY, 0},
-        {"refused 11", no_whole_row, LW_REFUSED_TABLE, 0},
-        {"refused 16 at row 511", bad_cut, LW_REFUSED_CUT, 0},
-    };
-    static const test parts[] = {
-        {"4096 rows of one variable", all_rows, 0, LW_SOLVER_NUMBERS},
-        {"no such variable", no_such_variable, 0, 0},
-        {"too many rows", too_many_rows, 0, 0},
-    };
-    static const test patterns[] = {
-        {"no rows", no_rows, LW_ACCEPTED, 0},
-        {"one fresh bit", one_bit, LW_ACCEPTED, 1},
-        {"one fill", one_fill, LW_ACCEPTED, 1024},
-        {"4096 fresh pieces", fresh_rows, LW_ACCEPTED, 4096},
-        {"4096 rows, one fresh piece", one_piece, LW_ACCEPTED, 4096},
-        {"4096 fills", fill_rows, LW_ACCEPTED, 4096},
-        {"64 variables of 64 bits", wide_rows, LW_ACCEPTED, 4096},
-        {"refused 33, not whole rows", no_whole_answer_row, LW_REFUSED_ANSWER, 0},
-        {"refused 33 at row 4095", bad_answer_row, LW_REFUSED_ANSWER, 0},
-        {"refused 34, fresh bits too few", few_fresh_bits, LW_REFUSED_FRESH, 0},
-        {"refused 34, the last byte above 1", bad_fresh_bit, LW_REFUSED_FRESH, 0},
-        {"refused 32", short_pattern, LW_REFUSED_OUTPUT, 0},
-    };
-    size_t count = sizeof tests / sizeof tests[0];
-    const char *header = argc == 2 ? argv[1] : "";
     void *memory;
 
     must(posix_memalign(&memory, 1 << 16, STACK), "posix_memalign");
     stack = memory;
-    measure_all("lw_value", run_value, tests, count, stated(header, "lw_value"));
-    /* all but the last, which only a value refuses */
-    measure_all("lw_normal_form", run_form, tests, count - 1, stated(header, "lw_normal_form"));
-    measure_all("lw_read_sheet", run_sheet, sheets, sizeof sheets / sizeof sheets[0], stated(header, "lw_read_sheet"));
-    measure_all("lw_solve", run_solve, solves, sizeof solves / sizeof solves[0], stated(header, "lw_solve"));
-    measure_all("lw_right_side", run_part, parts, sizeof parts / sizeof parts[0], stated(header, "lw_right_side"));
-    measure_all("lw_make_pattern", run_pattern, patterns, sizeof patterns / sizeof patterns[0],
-                stated(header, "lw_make_pattern"));
-    measure_all("lw_value_rows", run_value_rows, tests, count, stated(header, "lw_value_rows"));
-    measure_all("lw_normal_form_rows", run_form_rows, tests, count - 1, stated(header, "lw_normal_form_rows"));
-    measure_all("lw_solve_rows", run_solve_rows, solves, sizeof solves / sizeof solves[0], stated(header, "lw_solve_rows"));
+    for (size_t i = 0; i < COUNT(calls); i++) {
+        size_t greatest = 0, stated = calls[i].stated;
+        for (size_t t = 0; t < calls[i].count; t++) {
+            size_t use = measure_test(calls[i].name, calls[i].run, &calls[i].tests[t]);
+            greatest = use > greatest ? use : greatest;
+        }
+        printf("%-19s %-36s %zu bytes of stack, the header says %zu\n", calls[i].name, "greatest", greatest, stated);
+        check(stated >= greatest, HERE, "%s: %zu bytes of stack used, the header says only %zu", calls[i].name,
+              greatest, stated);
+        check(stated <= greatest + greatest / 16 + 64, HERE, "%s: only %zu bytes of stack used, the header says %zu",
+              calls[i].name, greatest, stated);
+    }
     free(memory);
-    return run_done("stack");
 }
+
+const test_list tests = {
+    .name = "stack",
+    .groups = {{.name = "the stack of each call", .run = test_calls}},
+};

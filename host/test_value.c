@@ -19,7 +19,7 @@
 static const uint8_t zeros[8192];
 
 /* One call: the record; table and pattern unchanged; want_value as the first want.free bytes of the output. */
-static void call(int line, const char *name, const uint16_t *numbers, size_t len, size_t row,
+static void call(where at, const char *name, const uint16_t *numbers, size_t len, size_t row,
                  const uint8_t *pattern, size_t pattern_len, size_t value_len,
                  lw_record want, const uint8_t *want_value)
 {
@@ -31,21 +31,21 @@ static void call(int line, const char *name, const uint16_t *numbers, size_t len
     lw_record got = lw_value(guarded_buffer(&t), len, row, guarded_buffer(&p), pattern_len,
                              guarded_buffer(&v), value_len);
     guard_expect(&v, want_value, want.free);
-    check_record(line, name, got, want);
-    guard_check(&t, __FILE__, line, "table");
-    guard_check(&p, __FILE__, line, "pattern");
-    guard_check(&v, __FILE__, line, "value");
+    check_record(at, name, got, want);
+    guard_check(&t, at, "table");
+    guard_check(&p, at, "pattern");
+    guard_check(&v, at, "value");
     if (checks_failed != failed && failed == 0)
         print_table(numbers, len);
 }
 
 /* The row has this value; with an output of just its width, and with a longer one. */
-static void accept_bytes(int line, const uint16_t *numbers, size_t len, size_t row,
+static void accept_bytes(where at, const uint16_t *numbers, size_t len, size_t row,
                          const uint8_t *pattern, size_t pattern_len, const uint8_t *value, size_t width)
 {
     lw_record want = {.free = (uint32_t)width};
-    call(line, "accepted", numbers, len, row, pattern, pattern_len, width, want, value);
-    call(line, "accepted, longer output", numbers, len, row, pattern, pattern_len, width + 9, want, value);
+    call(at, "accepted", numbers, len, row, pattern, pattern_len, width, want, value);
+    call(at, "accepted, longer output", numbers, len, row, pattern, pattern_len, width + 9, want, value);
 }
 
 /* The bytes of a text of 0 and 1; any other digit stands for itself. */
@@ -57,56 +57,56 @@ static size_t bytes_of(const char *text, uint8_t *bytes)
     return n;
 }
 
-static void accept_text(int line, const uint16_t *numbers, size_t len, size_t row,
+static void accept_text(where at, const uint16_t *numbers, size_t len, size_t row,
                         const char *pattern, const char *value)
 {
     uint8_t p[64], v[64];
     size_t pattern_len = bytes_of(pattern, p), width = bytes_of(value, v);
-    accept_bytes(line, numbers, len, row, p, pattern_len, v, width);
+    accept_bytes(at, numbers, len, row, p, pattern_len, v, width);
 }
 
 /* The table is refused, whether or not the row, the pattern and the output are wrong as well. */
-static void refuse_table(int line, const uint16_t *numbers, size_t len, uint32_t number, uint32_t row)
+static void refuse_table(where at, const uint16_t *numbers, size_t len, uint32_t number, uint32_t row)
 {
     lw_record want = {.outcome = number, .row = row};
     size_t bits = 0;
     for (size_t i = 0; i + 3 < len; i += 4)
         if (numbers[i] == 0 && bits + numbers[i + 1] <= sizeof zeros)
             bits += numbers[i + 1];
-    call(line, "refused", numbers, len, 0, zeros, bits, 1024, want, NULL);
-    call(line, "refused, all else wrong too", numbers, len, SIZE_MAX, (const uint8_t[]){7}, 1, 0, want, NULL);
+    call(at, "refused", numbers, len, 0, zeros, bits, 1024, want, NULL);
+    call(at, "refused, all else wrong too", numbers, len, SIZE_MAX, (const uint8_t[]){7}, 1, 0, want, NULL);
 }
 
 /* The call is refused for its row, its pattern or its output. */
-static void refuse_text(int line, const uint16_t *numbers, size_t len, size_t row,
+static void refuse_text(where at, const uint16_t *numbers, size_t len, size_t row,
                         const char *pattern, size_t value_len, uint32_t number)
 {
     uint8_t p[64];
     size_t pattern_len = bytes_of(pattern, p);
-    call(line, "refused", numbers, len, row, p, pattern_len, value_len, (lw_record){.outcome = number}, NULL);
+    call(at, "refused", numbers, len, row, p, pattern_len, value_len, (lw_record){.outcome = number}, NULL);
 }
 
-#define ACCEPT_BYTES(...) accept_bytes(__LINE__, __VA_ARGS__)
-#define ACCEPT(...)       accept_text(__LINE__, __VA_ARGS__)
-#define REFUSE_TABLE(...) refuse_table(__LINE__, __VA_ARGS__)
-#define REFUSE(...)       refuse_text(__LINE__, __VA_ARGS__)
+#define ACCEPT_BYTES(...) accept_bytes(HERE, __VA_ARGS__)
+#define ACCEPT(...)       accept_text(HERE, __VA_ARGS__)
+#define REFUSE_TABLE(...) refuse_table(HERE, __VA_ARGS__)
+#define REFUSE(...)       refuse_text(HERE, __VA_ARGS__)
 
 /* The header's numbers are those of the specification. */
 static void test_constants(void)
 {
-    static const struct { int got, want; } same[] = {
-        {LW_VARIABLE, 0}, {LW_FILL, 1}, {LW_JOIN, 2}, {LW_CUT, 3}, {LW_EQUATION, 4},
-        {LW_ROW_NUMBERS, 4}, {LW_MAX_ROWS, 512}, {LW_MAX_WIDTH, 1024}, {LW_MAX_VARIABLES, 64},
-        {LW_MAX_VARIABLE_BITS, 4096}, {LW_MAX_EQUATIONS, 64}, {LW_ACCEPTED, 0},
-        {LW_REFUSED_TABLE, 11}, {LW_REFUSED_KIND, 12}, {LW_REFUSED_UNUSED, 13}, {LW_REFUSED_NAME, 14},
-        {LW_REFUSED_WIDTH, 15}, {LW_REFUSED_CUT, 16}, {LW_REFUSED_MAXIMUM, 17}, {LW_REFUSED_SIDES, 18},
-        {LW_REFUSED_ROW, 30}, {LW_REFUSED_PATTERN, 31}, {LW_REFUSED_OUTPUT, 32},
+    static const constant constants[] = {
+        CONSTANT(LW_VARIABLE, 0), CONSTANT(LW_FILL, 1), CONSTANT(LW_JOIN, 2), CONSTANT(LW_CUT, 3),
+        CONSTANT(LW_EQUATION, 4),
+        CONSTANT(LW_ROW_NUMBERS, 4), CONSTANT(LW_MAX_ROWS, 512), CONSTANT(LW_MAX_WIDTH, 1024),
+        CONSTANT(LW_MAX_VARIABLES, 64), CONSTANT(LW_MAX_VARIABLE_BITS, 4096), CONSTANT(LW_MAX_EQUATIONS, 64),
+        CONSTANT(LW_ACCEPTED, 0),
+        CONSTANT(LW_REFUSED_TABLE, 11), CONSTANT(LW_REFUSED_KIND, 12), CONSTANT(LW_REFUSED_UNUSED, 13),
+        CONSTANT(LW_REFUSED_NAME, 14), CONSTANT(LW_REFUSED_WIDTH, 15), CONSTANT(LW_REFUSED_CUT, 16),
+        CONSTANT(LW_REFUSED_MAXIMUM, 17), CONSTANT(LW_REFUSED_SIDES, 18),
+        CONSTANT(LW_REFUSED_ROW, 30), CONSTANT(LW_REFUSED_PATTERN, 31), CONSTANT(LW_REFUSED_OUTPUT, 32),
     };
-    for (size_t i = 0; i < sizeof same / sizeof same[0]; i++)
-        check(same[i].got == same[i].want, __FILE__, __LINE__, "constant %zu is %d, expected %d",
-              i, same[i].got, same[i].want);
-    check(sizeof(lw_record) == 24, __FILE__, __LINE__, "a record has %zu bytes", sizeof(lw_record));
-    group_done("the header's constants");
+    check_constants(HERE, constants, COUNT(constants));
+    check(sizeof(lw_record) == 24, HERE, "a record has %zu bytes", sizeof(lw_record));
 }
 
 static void test_values(void)
@@ -168,7 +168,6 @@ static void test_values(void)
     ACCEPT(TABLE(VARIABLE(8), CUT(0, 6, 3), CUT(0, 4, 1), EQUATION(1, 2)), 1, "10110010", "0110");
     ACCEPT(TABLE(VARIABLE(8), CUT(0, 6, 3), CUT(0, 4, 1), EQUATION(1, 2)), 2, "10110010", "1001");
     ACCEPT(TABLE(FILL(0, 1), FILL(1, 1), EQUATION(0, 1)), 1, "", "1");
-    group_done("values worked by hand");
 }
 
 /* Bits without a period or a symmetry that a slip could hide in. */
@@ -202,7 +201,6 @@ static void test_widths(void)
         add(&t, CUT(0, w, 0));
         REFUSE_TABLE(ALL(t), 16, 5);
     }
-    group_done("widths 1 to 1024");
 }
 
 /* Tables at their limits, and one beyond. */
@@ -279,8 +277,6 @@ static void test_limits(void)
     ACCEPT_BYTES(ALL(t), 10, ones, 1, ones, 1024);
     add(&t, JOIN(10, 10));
     REFUSE_TABLE(ALL(t), 15, 11);
-
-    group_done("limits");
 }
 
 /* Deep tables: each row is made of the one before it. */
@@ -320,31 +316,31 @@ static void test_chains(void)
     memset(grown, 1, sizeof grown);
     memset(grown, 0, 255); /* rows 3, 5, .., 511 have put a 0 in front */
     ACCEPT_BYTES(ALL(t), 511, zeros, 1, grown, 511);
-
-    group_done("chains of 500 rows and more");
 }
 
 /* Refusals 11 to 18: refused_tables.h has the tables. (17 is among the limits.) */
 static void test_table_refusals(void)
 {
     refuse_one_by_one(refuse_table);
-    group_done("refusals 11 to 18, one by one");
+}
+
+static void test_two_table_refusals(void)
+{
     refuse_two_at_once(refuse_table);
-    group_done("refusals 11 to 18, two at once");
 }
 
 /* Refusals 30 to 32, one by one and two at once. */
 static void test_call_refusals(void)
 {
     static const uint16_t four[] = {VARIABLE(3), VARIABLE(2), CUT(0, 1, 0), EQUATION(1, 2)};
-    const size_t len = sizeof four / sizeof four[0];
+    const size_t len = COUNT(four);
 
     /* 30: no such row, also where a product or a shorter number would wrap; or an equation. */
     static const size_t absent[] = {
         4, 5, 511, 512, 65535, 65536, (size_t)UINT32_MAX + 1,
         SIZE_MAX / 4 + 1, SIZE_MAX / 2 + 1, SIZE_MAX - 3, SIZE_MAX,
     };
-    for (size_t i = 0; i < sizeof absent / sizeof absent[0]; i++)
+    for (size_t i = 0; i < COUNT(absent); i++)
         REFUSE(four, len, absent[i], "10110", 1024, 30);
     REFUSE(four, len, 3, "10110", 1024, 30);
     REFUSE(four, 0, 0, "", 1024, 30);
@@ -361,7 +357,7 @@ static void test_call_refusals(void)
         for (uint8_t byte = 2; byte != 0; byte++) {
             uint8_t pattern[] = {1, 0, 1, 1, 0};
             pattern[i] = byte;
-            call(__LINE__, "refused", four, len, 2, pattern, 5, 2, (lw_record){.outcome = 31}, NULL);
+            call(HERE, "refused", four, len, 2, pattern, 5, 2, (lw_record){.outcome = 31}, NULL);
         }
 
     /* 32: an output below the row's width. */
@@ -381,8 +377,6 @@ static void test_call_refusals(void)
 
     /* A fault of the table comes before all three, also behind the row asked for. */
     REFUSE_TABLE(TABLE(VARIABLE(3), VARIABLE(2), CUT(0, 1, 0), 5, 0, 0, 0), 12, 3);
-
-    group_done("refusals 30 to 32");
 }
 
 /* NULL with length 0 for each buffer. */
@@ -393,7 +387,7 @@ static void test_null(void)
     uint8_t value[2] = {9, 9};
 
 #define REFUSE_NULL(name, number, at, ...) \
-    check_record(__LINE__, name, lw_value(__VA_ARGS__), (lw_record){.outcome = (number), .row = (at)})
+    check_record(HERE, name, lw_value(__VA_ARGS__), (lw_record){.outcome = (number), .row = (at)})
     REFUSE_NULL("all NULL", 30, 0, NULL, 0, 0, NULL, 0, NULL, 0);
     REFUSE_NULL("all NULL, row SIZE_MAX", 30, 0, NULL, 0, SIZE_MAX, NULL, 0, NULL, 0);
     REFUSE_NULL("table NULL", 30, 0, NULL, 0, 0, pattern, 2, value, 2);
@@ -402,10 +396,9 @@ static void test_null(void)
     REFUSE_NULL("pattern and value NULL", 32, 0, fill, 4, 0, NULL, 0, NULL, 0);
     REFUSE_NULL("pattern and value NULL, table refused", 11, 512, fill, 3, 0, NULL, 0, NULL, 0);
 #undef REFUSE_NULL
-    check(value[0] == 9 && value[1] == 9, __FILE__, __LINE__, "value written by a refusal");
-    check_record(__LINE__, "pattern NULL", lw_value(fill, 4, 0, NULL, 0, value, 2), (lw_record){.free = 2});
-    check(value[0] == 1 && value[1] == 1, __FILE__, __LINE__, "value is %u %u, expected 1 1", value[0], value[1]);
-    group_done("NULL with length 0");
+    check(value[0] == 9 && value[1] == 9, HERE, "value written by a refusal");
+    check_record(HERE, "pattern NULL", lw_value(fill, 4, 0, NULL, 0, value, 2), (lw_record){.free = 2});
+    check(value[0] == 1 && value[1] == 1, HERE, "value is %u %u, expected 1 1", value[0], value[1]);
 }
 
 /* Random tables. */
@@ -438,7 +431,7 @@ static uint32_t test_random_call(unsigned long number)
 
     lw_record want = ref_value(d.t.numbers, d.t.len, row, pattern, pattern_len, value, value_len);
     snprintf(name, sizeof name, "random table %lu, row %zu", number, row);
-    call(__LINE__, name, d.t.numbers, d.t.len, row, pattern, pattern_len, value_len, want, value);
+    call(HERE, name, d.t.numbers, d.t.len, row, pattern, pattern_len, value_len, want, value);
     return want.outcome;
 }
 
@@ -450,27 +443,25 @@ static void test_random(unsigned long tables)
     for (unsigned long i = 0; i < tables; i++)
         seen[test_random_call(i)]++;
     printf("%lu random tables:", tables);
-    for (size_t i = 0; i < sizeof outcomes / sizeof outcomes[0]; i++)
+    for (size_t i = 0; i < COUNT(outcomes); i++)
         printf(" %s%u %lu", i == 0 ? "outcome " : "", outcomes[i], seen[outcomes[i]]);
     printf("\n");
-    for (size_t i = 0; i < sizeof outcomes / sizeof outcomes[0]; i++)
-        check(seen[outcomes[i]] != 0, __FILE__, __LINE__, "no random table has outcome %u", outcomes[i]);
-    group_done("random tables against the reference");
+    for (size_t i = 0; i < COUNT(outcomes); i++)
+        check(seen[outcomes[i]] != 0, HERE, "no random table has outcome %u", outcomes[i]);
 }
 
-int main(int argc, char **argv)
-{
-    unsigned long tables = argc > 1 ? strtoul(argv[1], NULL, 10) : 20000;
-
-    setvbuf(stdout, NULL, _IOLBF, BUFSIZ); /* a crash leaves the lines before it */
-    test_constants();
-    test_values();
-    test_widths();
-    test_limits();
-    test_chains();
-    test_table_refusals();
-    test_call_refusals();
-    test_null();
-    test_random(tables);
-    return run_done("value");
-}
+const test_list tests = {
+    .name = "value", .inputs = 20000,
+    .groups = {
+        {.name = "the header's constants", .run = test_constants},
+        {.name = "values worked by hand", .run = test_values},
+        {.name = "widths 1 to 1024", .run = test_widths},
+        {.name = "limits", .run = test_limits},
+        {.name = "chains of 500 rows and more", .run = test_chains},
+        {.name = "refusals 11 to 18, one by one", .run = test_table_refusals},
+        {.name = "refusals 11 to 18, two at once", .run = test_two_table_refusals},
+        {.name = "refusals 30 to 32", .run = test_call_refusals},
+        {.name = "NULL with length 0", .run = test_null},
+        {.name = "random tables against the reference", .run_random = test_random},
+    },
+};

@@ -30,20 +30,20 @@ static inline int by_size(const void *a, const void *b)
     return (x > y) - (x < y);
 }
 
-static inline double call_time(void (*call)(const void *), const void *input)
+static inline double call_time(void (*run)(const void *), const void *input)
 {
     double start = seconds();
     for (int i = 0; i < CALLS; i++)
-        call(input);
+        run(input);
     return (seconds() - start) / CALLS;
 }
 
-static inline medians time_both(void (*call)(const void *), const void *small, const void *large)
+static inline medians time_both(void (*run)(const void *), const void *small, const void *large)
 {
     double small_times[TIMES], large_times[TIMES];
     for (int i = 0; i < TIMES; i++) {
-        small_times[i] = call_time(call, small);
-        large_times[i] = call_time(call, large);
+        small_times[i] = call_time(run, small);
+        large_times[i] = call_time(run, large);
     }
     qsort(small_times, TIMES, sizeof small_times[0], by_size);
     qsort(large_times, TIMES, sizeof large_times[0], by_size);

@@ -163,6 +163,36 @@
   table which refuses a kind of 9.
 
 
+                         Refusals of a term table
+
+  A call that works on a table tests all of it, also rows that it does not need.
+  First the length is tested, then the rows, from the lowest up, and each by all
+  of 12 to 18 in this order before the next row. So the refusal is about the
+  lowest row at fault.
+
+     outcome                 cause                               field row
+     11 LW_REFUSED_TABLE     table_len is no multiple of 4, or   512
+                             is above 2048 (over 512 rows)
+     12 LW_REFUSED_KIND      the kind is above 4                 that row
+     13 LW_REFUSED_UNUSED    b or c of a variable is not 0, or   that row
+                             c of a fill, a join or an equation
+     14 LW_REFUSED_NAME      a or b of a join or an equation,    that row
+                             or a of a cut, is not the number
+                             of an earlier row, or is the number
+                             of an equation
+     15 LW_REFUSED_WIDTH     the width of a variable, a fill or  that row
+                             a join is outside 1 to 1024, or the
+                             bit of a fill is above 1
+     16 LW_REFUSED_CUT       high of a cut is not below the      that row
+                             width of the row it cuts, or low is
+                             above high
+     17 LW_REFUSED_MAXIMUM   the row is the 65th variable or the that row
+                             65th equation, or a variable with
+                             which the variable bits exceed 4096
+     18 LW_REFUSED_SIDES     the sides of an equation have       that row
+                             unequal widths
+
+
                                Every call
 
   Lengths count elements, not bytes: 16-bit numbers for a table, for a normal
@@ -180,19 +210,7 @@
   calls are reentrant, and threads may call at the same time as long as no
   buffer that one call writes is used by another.
 
-  The greatest stack use of each call, measured (the return address counts; what
-  a dynamic linker uses that binds memcpy or memset only at its first use does
-  not):
-
-     lw_value            44352 bytes
-     lw_normal_form      133248 bytes
-     lw_read_sheet       4288 bytes
-     lw_solve            181952 bytes
-     lw_right_side       64 bytes
-     lw_make_pattern     16576 bytes
-     lw_value_rows       48512 bytes
-     lw_normal_form_rows 137408 bytes
-     lw_solve_rows       186112 bytes
+  How much stack a call needs is said under Stack below.
 */
 
 #ifndef LINKWORDS_H
@@ -204,6 +222,15 @@
 #ifdef __cplusplus
 extern "C" {
 #endif
+
+/* version */
+
+/*
+  The version of the library, as text and as a number that grows from version to
+  version: major * 1000000 + minor * 1000 + patch.
+*/
+#define LW_VERSION_TEXT "0.11.0"
+#define LW_VERSION      11000
 
 /* constants */
 
@@ -260,6 +287,21 @@ extern "C" {
 #define LW_REFUSED_ANSWER    33 /* answer table not of its form, or over 4096 bits */
 #define LW_REFUSED_FRESH     34 /* fresh bits of another number, or a byte above 1 */
 
+/*
+  Stack: the most bytes that a call was seen to use, on tables made for that; it
+  is measured, not proved. The return address counts. What a dynamic linker uses
+  that binds memcpy or memset only at its first use does not.
+*/
+#define LW_STACK_VALUE             43456
+#define LW_STACK_NORMAL_FORM      125056
+#define LW_STACK_READ_SHEET         4288
+#define LW_STACK_SOLVE            173696
+#define LW_STACK_RIGHT_SIDE           64
+#define LW_STACK_MAKE_PATTERN      16576
+#define LW_STACK_VALUE_ROWS        47616
+#define LW_STACK_NORMAL_FORM_ROWS 129216
+#define LW_STACK_SOLVE_ROWS       177792
+
 /* the record */
 
 /*
@@ -295,32 +337,12 @@ lw_record lw_value(const uint16_t *table, size_t table_len, size_t row,
      content.
 
      Otherwise outcome is the first refusal that applies, in the order below,
-     and nothing is written to value. The table is tested first, all of it,
-     also behind the row asked for; then the row, the pattern and the output.
-     The table's rows are tested from the lowest up, and each by all of 12 to 18
-     before the next row, so that the refusal is about the lowest row at fault.
+     and nothing is written to value. The table is tested first, all of it, also
+     behind the row asked for; then the row, the pattern and the output.
 
      outcome                 cause                               field row
-     11 LW_REFUSED_TABLE     table_len is no multiple of 4, or   512
-                             is above 2048 (over 512 rows)
-     12 LW_REFUSED_KIND      the kind is above 4                 that row
-     13 LW_REFUSED_UNUSED    b or c of a variable is not 0, or   that row
-                             c of a fill, a join or an equation
-     14 LW_REFUSED_NAME      a or b of a join or an equation,    that row
-                             or a of a cut, is not the number
-                             of an earlier row, or is the number
-                             of an equation
-     15 LW_REFUSED_WIDTH     the width of a variable, a fill or  that row
-                             a join is outside 1 to 1024, or the
-                             bit of a fill is above 1
-     16 LW_REFUSED_CUT       high of a cut is not below the      that row
-                             width of the row it cuts, or low is
-                             above high
-     17 LW_REFUSED_MAXIMUM   the row is the 65th variable or the that row
-                             65th equation, or a variable with
-                             which the variable bits exceed 4096
-     18 LW_REFUSED_SIDES     the sides of an equation have       that row
-                             unequal widths
+     11 to 18                the table is refused: see Refusals  512, or
+                             of a term table above               that row
      30 LW_REFUSED_ROW       the table has no such row, or it is 0
                              an equation
      31 LW_REFUSED_PATTERN   pattern_len is not the number of    0
@@ -350,31 +372,11 @@ lw_record lw_normal_form(const uint16_t *table, size_t table_len, size_t row,
 
      Otherwise outcome is the first refusal that applies, in the order below,
      and nothing is written to form. The table is tested first, all of it, also
-     behind the row asked for; then the row, and then the output. The table's
-     rows are tested from the lowest up, and each by all of 12 to 18 before the
-     next row, so that the refusal is about the lowest row at fault.
+     behind the row asked for; then the row, and then the output.
 
      outcome                 cause                               field row
-     11 LW_REFUSED_TABLE     table_len is no multiple of 4, or   512
-                             is above 2048 (over 512 rows)
-     12 LW_REFUSED_KIND      the kind is above 4                 that row
-     13 LW_REFUSED_UNUSED    b or c of a variable is not 0, or   that row
-                             c of a fill, a join or an equation
-     14 LW_REFUSED_NAME      a or b of a join or an equation,    that row
-                             or a of a cut, is not the number
-                             of an earlier row, or is the number
-                             of an equation
-     15 LW_REFUSED_WIDTH     the width of a variable, a fill or  that row
-                             a join is outside 1 to 1024, or the
-                             bit of a fill is above 1
-     16 LW_REFUSED_CUT       high of a cut is not below the      that row
-                             width of the row it cuts, or low is
-                             above high
-     17 LW_REFUSED_MAXIMUM   the row is the 65th variable or the that row
-                             65th equation, or a variable with
-                             which the variable bits exceed 4096
-     18 LW_REFUSED_SIDES     the sides of an equation have       that row
-                             unequal widths
+     11 to 18                the table is refused: see Refusals  512, or
+                             of a term table above               that row
      30 LW_REFUSED_ROW       the table has no such row, or it is 0
                              an equation
      32 LW_REFUSED_OUTPUT    form_len is below LW_FORM_NUMBERS   0
@@ -467,34 +469,14 @@ lw_record lw_solve(const uint16_t *table, size_t table_len,
      Otherwise outcome is the first refusal that applies, in the order below,
      and nothing is written to answer nor to work. The lengths of the two are
      tested first, before anything of the table, and also where the outcome
-     would need no answer table; then the table. Its rows are tested from the
-     lowest up, and each by all of 12 to 18 before the next row, so that the
-     refusal is about the lowest row at fault.
+     would need no answer table; then the table.
 
      outcome                 cause                               field row
      10 LW_REFUSED_MEMORY    answer_len or work_len is below     0
                              LW_SOLVER_NUMBERS (16384), however
                              small the table is
-     11 LW_REFUSED_TABLE     table_len is no multiple of 4, or   512
-                             is above 2048 (over 512 rows)
-     12 LW_REFUSED_KIND      the kind is above 4                 that row
-     13 LW_REFUSED_UNUSED    b or c of a variable is not 0, or   that row
-                             c of a fill, a join or an equation
-     14 LW_REFUSED_NAME      a or b of a join or an equation,    that row
-                             or a of a cut, is not the number
-                             of an earlier row, or is the number
-                             of an equation
-     15 LW_REFUSED_WIDTH     the width of a variable, a fill or  that row
-                             a join is outside 1 to 1024, or the
-                             bit of a fill is above 1
-     16 LW_REFUSED_CUT       high of a cut is not below the      that row
-                             width of the row it cuts, or low is
-                             above high
-     17 LW_REFUSED_MAXIMUM   the row is the 65th variable or the that row
-                             65th equation, or a variable with
-                             which the variable bits exceed 4096
-     18 LW_REFUSED_SIDES     the sides of an equation have       that row
-                             unequal widths
+     11 to 18                the table is refused: see Refusals  512, or
+                             of a term table above               that row
 
      The table is only read. No two of table, answer and work may overlap.
 */

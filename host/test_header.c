@@ -1,0 +1,60 @@
+/*
+  test_header.c -- the header by itself, its version, and what is installed
+
+  The header comes first and twice, so that it needs no other and may be included
+  again. Its version as a number is that of the text, and both are the version of
+  the manual pages and of the pkg-config file that `make install-data` has put
+  into the folder INSTALLED.
+*/
+
+#include "linkwords.h"
+#include "linkwords.h"
+
+#include "test.h"
+
+static void test_version(void)
+{
+    unsigned major = LW_VERSION / 1000000, minor = LW_VERSION / 1000 % 1000, patch = LW_VERSION % 1000;
+    char text[64];
+
+    snprintf(text, sizeof text, "%u.%u.%u", major, minor, patch);
+    check(strcmp(text, LW_VERSION_TEXT) == 0, HERE, "LW_VERSION is that of %s, LW_VERSION_TEXT is %s", text,
+          LW_VERSION_TEXT);
+}
+
+/* An installed file has this line, or one with these words in it; and nothing in it is left to be filled in. */
+static void check_file(where at, const char *name, const char *words, bool whole)
+{
+    char path[256], line[1024];
+    bool found = false, filled = true;
+
+    snprintf(path, sizeof path, "%s/%s", INSTALLED, name);
+    FILE *file = fopen(path, "r");
+    if (!check(file != NULL, at, "%s cannot be read", path))
+        return;
+    while (fgets(line, sizeof line, file) != NULL) {
+        line[strcspn(line, "\n")] = '\0';
+        found = found || (whole ? strcmp(line, words) == 0 : strstr(line, words) != NULL);
+        filled = filled && strchr(line, '@') == NULL;
+    }
+    fclose(file);
+    check(found, at, "%s has no line '%s'", path, words);
+    check(filled, at, "%s has an @", path);
+}
+
+static void test_installed(void)
+{
+    check_file(HERE, "include/linkwords.h", "#define LW_VERSION_TEXT \"" LW_VERSION_TEXT "\"", true);
+    check_file(HERE, "lib/pkgconfig/linkwords.pc", "Version: " LW_VERSION_TEXT, true);
+    check_file(HERE, "lib/pkgconfig/linkwords.pc", "prefix=/usr", true);
+    check_file(HERE, "share/man/man1/linkwords.1", "\"linkwords " LW_VERSION_TEXT "\"", false);
+    check_file(HERE, "share/man/man3/linkwords.3", "\"linkwords " LW_VERSION_TEXT "\"", false);
+}
+
+const test_list tests = {
+    .name = "header",
+    .groups = {
+        {.name = "the version", .run = test_version},
+        {.name = "what is installed", .run = test_installed},
+    },
+};

@@ -1,0 +1,58 @@
+// test_header.cc -- the header from C++
+//
+// It comes first and twice, so that it needs no other and may be included again.
+// The calls have the types of the interface, and each of them is made, on nothing.
+
+#include "linkwords.h"
+#include "linkwords.h"
+
+#include <cstdio>
+#include <type_traits>
+
+// The interface: a buffer is a pointer and its length.
+#define LENT(type) const type *, size_t
+#define OUT(type)  type *, size_t
+#define INTERFACE(call, result, ...) \
+    static_assert(std::is_same<decltype(call), result(__VA_ARGS__)>::value, "the type of " #call)
+
+INTERFACE(lw_value, lw_record, LENT(uint16_t), size_t, LENT(uint8_t), OUT(uint8_t));
+INTERFACE(lw_normal_form, lw_record, LENT(uint16_t), size_t, OUT(uint16_t));
+INTERFACE(lw_read_sheet, lw_record, LENT(uint8_t), OUT(uint16_t));
+INTERFACE(lw_solve, lw_record, LENT(uint16_t), OUT(uint16_t), OUT(uint16_t));
+INTERFACE(lw_right_side, lw_part, LENT(uint16_t), size_t, size_t);
+INTERFACE(lw_make_pattern, lw_record, LENT(uint16_t), LENT(uint8_t), OUT(uint8_t));
+INTERFACE(lw_value_rows, lw_record, LENT(lw_row), size_t, LENT(uint8_t), OUT(uint8_t));
+INTERFACE(lw_normal_form_rows, lw_record, LENT(lw_row), size_t, OUT(uint16_t));
+INTERFACE(lw_solve_rows, lw_record, LENT(lw_row), OUT(uint16_t), OUT(uint16_t));
+
+static int made, failed;
+
+static void check(const char *call, size_t got, size_t want)
+{
+    made++;
+    if (got != want) {
+        std::printf("%s gives %zu, expected %zu\n", call, got, want);
+        failed++;
+    }
+}
+
+#define NOTHING nullptr, 0
+
+int main()
+{
+    check("lw_value", lw_value(NOTHING, 0, NOTHING, NOTHING).outcome, LW_REFUSED_ROW);
+    check("lw_normal_form", lw_normal_form(NOTHING, 0, NOTHING).outcome, LW_REFUSED_ROW);
+    check("lw_read_sheet", lw_read_sheet(NOTHING, NOTHING).outcome, LW_REFUSED_NAMES);
+    check("lw_solve", lw_solve(NOTHING, NOTHING, NOTHING).outcome, LW_REFUSED_MEMORY);
+    check("lw_right_side", lw_right_side(NOTHING, 0, 0).len, 0);
+    check("lw_make_pattern", lw_make_pattern(NOTHING, NOTHING, NOTHING).outcome, LW_ACCEPTED);
+    check("lw_value_rows", lw_value_rows(NOTHING, 0, NOTHING, NOTHING).outcome, LW_REFUSED_ROW);
+    check("lw_normal_form_rows", lw_normal_form_rows(NOTHING, 0, NOTHING).outcome, LW_REFUSED_ROW);
+    check("lw_solve_rows", lw_solve_rows(NOTHING, NOTHING, NOTHING).outcome, LW_REFUSED_MEMORY);
+    if (failed != 0) {
+        std::printf("header from C++: %d of %d calls FAILED\n", failed, made);
+        return 1;
+    }
+    std::printf("header from C++: %d calls made\n", made);
+    return 0;
+}

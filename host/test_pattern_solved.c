@@ -1,0 +1,253 @@
+/*
+  test_pattern_solved.c -- the patterns of solved tables: see test_pattern.c
+
+  Random tables with equations, a twentieth as many as there are random answer
+  tables, of up to 14 variable bits: lw_solve gives their answer table, and the
+  patterns of all its fillings must be those that meet the table, each once, as
+  many as the enumeration of all patterns (enumerate.c) finds. And 1000 such
+  tables of up to 4096 variable bits, with some fillings each.
+*/
+
+#include "enumerate.h"
+#include "reference.h"
+#include "test_pattern.h"
+
+enum {
+    LARGE_TABLES = 1000,
+    SMALL_BITS = 14,  /* most variable bits of a small table */
+    ALL_FILLINGS = 10 /* fresh bits of which all fillings are tried */
+};
+
+/* Whether the pattern meets the table, by the reference's values of both sides of each equation. */
+static bool meets(const uint16_t *numbers, const ref_table *facts, const uint8_t *pattern)
+{
+    static uint8_t values[REF_ROWS][REF_WIDTH];
+
+    ref_values(numbers, facts, facts->rows, pattern, values);
+    for (size_t r = 0; r < facts->rows; r++) {
+        const uint16_t *n = numbers + 4 * r;
+        if (n[0] == LW_EQUATION && memcmp(values[n[1]], values[n[2]], facts->width[n[1]]) != 0)
+            return false;
+    }
+    return true;
+}
+
+/* A table that lw_solve has solved. */
+typedef struct {
+    ref_table facts;
+    uint16_t answer[LW_SOLVER_NUMBERS];
+    lw_record record;
+} solved_table;
+
+/* Solves a table; whether the outcome is 2. The answer table is then of the form, and as wide as the pattern. */
+static bool solve(const char *name, const draft *d, solved_table *s)
+{
+    static uint16_t work[LW_SOLVER_NUMBERS];
+
+    lw_record accepted = ref_check(d->t.numbers, d->t.len, &s->facts);
+    if (!check(accepted.outcome == 0, HERE, "%s: refused %u, row %u", name, accepted.outcome, accepted.row))
+        return false;
+    s->record = lw_solve(d->t.numbers, d->t.len, s->answer, LW_SOLVER_NUMBERS, work, LW_SOLVER_NUMBERS);
+    if (s->record.outcome != 2)
+        return false;
+    size_t len = 4 * (size_t)s->record.pieces;
+    return check(plain_faults(s->answer, len) == 0 && plain_fresh_bits(s->answer, len) == s->record.free &&
+                 plain_pattern_bits(s->answer, len) == s->facts.bits, HERE,
+                 "%s: the solver's answer table is not of the form", name);
+}
+
+/* One filling: the pattern is that of the plain pattern maker, and it meets the table. */
+static void test_filling(const char *name, const draft *d, const solved_table *s, const uint8_t *fresh,
+                         uint8_t pattern[BITS])
+{
+    size_t len = 4 * (size_t)s->record.pieces, bits = s->facts.bits;
+    lw_record want = plain_make_pattern(s->answer, len, fresh, s->record.free, pattern, bits);
+
+    size_t output = bits + (one_in(4) ? below(20) : 0);
+    call(HERE, name, s->answer, len, fresh, s->record.free, NULL, output, want, pattern);
+    memset(pattern, 9, bits); /* from here on it is the library's */
+    check_record(HERE, name, lw_make_pattern(s->answer, len, fresh, s->record.free, pattern, bits),
+                 (lw_record){.free = (uint32_t)bits});
+    if (!check(meets(d->t.numbers, &s->facts, pattern), HERE, "%s: a pattern does not meet the table",
+               name) && checks_failed == 1) {
+        print_table(d->t.numbers, d->t.len);
+        print_answer(s->answer, len);
+    }
+}
+
+/* What occurs in the solved tables. */
+enum { WITH_FILL, ALL_FIXED, WITH_TWICE, WITH_WIDE_TWICE, WITH_TWO_VARIABLES, WITH_ONE_BIT, TRAITS };
+
+static const char *const trait_names[TRAITS] = {
+    "a fill", "every bit fixed", "a fresh piece that appears twice", "one wider than 1 that appears twice",
+    "a fresh piece in two variables", "a fresh piece of one bit",
+};
+
+static void note_traits(const solved_table *s, unsigned long traits[TRAITS])
+{
+    static size_t variable[BITS]; /* of each fresh piece seen: that of its first row */
+    bool has[TRAITS] = {false};
+    size_t seen = 0;
+
+    for (size_t r = 0; r < s->record.pieces; r++) {
+        const uint16_t *n = s->answer + 4 * r;
+        has[WITH_FILL] |= n[1] != LW_FRESH;
+        if (n[1] != LW_FRESH)
+            continue;
+        has[WITH_ONE_BIT] |= n[2] == 1;
+        if (n[3] == seen) {
+            variable[seen++] = n[0];
+            continue;
+        }
+        has[WITH_TWICE] = true;
+        has[WITH_WIDE_TWICE] |= n[2] > 1;
+        has[WITH_TWO_VARIABLES] |= variable[n[3]] != n[0];
+    }
+    has[ALL_FIXED] = s->record.fresh == 0;
+    for (size_t i = 0; i < TRAITS; i++)
+        traits[i] += has[i];
+}
+
+static void print_traits(const unsigned long traits[TRAITS])
+{
+    for (size_t i = 0; i < TRAITS; i++)
+        printf("    %-50s %lu\n", trait_names[i], traits[i]);
+    for (size_t i = 0; i < TRAITS; i++)
+        check(traits[i] != 0, HERE, "no answer has this: %s", trait_names[i]);
+}
+
+/* A variable's high end and low end are equal, and overlap often: a piece that comes again and again. */
+static void equate_ends(draft *d)
+{
+    size_t v = some_row(d, LW_VARIABLE, LW_VARIABLE), w = v == NONE ? 1 : d->width[v];
+    if (w == 1)
+        return;
+    size_t less = 1 + below(one_in(2) && w > 3 ? 3 : w - 1);
+    size_t high = add_row(d, w - less, CUT(v, w - 1, less)), low = add_row(d, w - less, CUT(v, w - 1 - less, 0));
+    add_row(d, 0, EQUATION(high, low));
+}
+
+/* Each variable is a fill. */
+static void fix_all(draft *d)
+{
+    size_t rows = d->rows;
+    for (size_t r = 0; r < rows && d->equations < 64; r++)
+        if (d->t.numbers[4 * r] == LW_VARIABLE) {
+            size_t fill = add_row(d, d->width[r], FILL(below(2), d->width[r]));
+            add_row(d, 0, EQUATION(r, fill));
+        }
+}
+
+/* So many variable bits in a few variables, and then rows of the other kinds, so many; the last is an equation. */
+static void make_equations(draft *d, size_t bits, size_t widest, size_t rows)
+{
+    static const size_t kinds[] = {LW_CUT, LW_CUT, LW_JOIN, LW_EQUATION, LW_EQUATION, LW_FILL};
+
+    clear(d);
+    while (bits != 0 && d->variables < 60) {
+        size_t most = bits < widest ? bits : widest, w = one_in(3) ? most : 1 + below(most);
+        if (d->rows != 0 && d->width[d->rows - 1] <= bits && one_in(2))
+            w = d->width[d->rows - 1]; /* as wide as the one before */
+        add_row(d, w, VARIABLE(w));
+        bits -= w;
+    }
+    if (one_in(4))
+        equate_ends(d);
+    if (one_in(30)) {
+        fix_all(d);
+        return;
+    }
+    for (size_t i = 0; i < rows; i++)
+        grow(d, kinds[below(COUNT(kinds))], widest < 4 ? widest : 4);
+    grow(d, LW_EQUATION, 1);
+}
+
+/* All fillings of a solved table, or some: different patterns, and as many as meet the table. */
+static void test_fillings(const char *name, const draft *d, const solved_table *s, unsigned long *patterns)
+{
+    static bool seen[1 << ENUM_BITS];
+    static enumeration found;
+    uint8_t fresh[ENUM_BITS], pattern[BITS];
+    size_t count = (size_t)1 << s->record.free;
+    bool all = s->record.free <= ALL_FILLINGS;
+
+    memset(seen, 0, sizeof seen);
+    for (size_t i = 0; i < (all ? count : 40); i++) {
+        size_t filling = all ? i : i * 2654435761U % count, number = 0; /* odd times i: different for each i */
+        for (size_t k = 0; k < s->record.free; k++)
+            fresh[k] = (uint8_t)(filling >> k & 1);
+        test_filling(name, d, s, fresh, pattern);
+        for (size_t k = 0; k < s->facts.bits; k++)
+            number = 2 * number + (pattern[k] & 1);
+        check(!seen[number], HERE, "%s: two fillings give one pattern", name);
+        seen[number] = true;
+        ++*patterns;
+    }
+    enumerate(d->t.numbers, &s->facts, &found);
+    check(found.met == count, HERE, "%s: %zu fillings, but %zu patterns meet it", name, count, found.met);
+}
+
+void test_small(unsigned long answer_tables)
+{
+    static draft d;
+    static solved_table s;
+    unsigned long solved = 0, complete = 0, patterns = 0, free_bits[ENUM_BITS + 1] = {0}, traits[TRAITS] = {0};
+    unsigned long tables = answer_tables / 20;
+    char name[64];
+
+    for (unsigned long i = 0; i < tables; i++) {
+        size_t bits = 1 + below(SMALL_BITS), widest = one_in(3) ? SMALL_BITS : 1 + below(6);
+        do
+            make_equations(&d, bits, widest, 1 + below(one_in(3) ? 16 : 6));
+        while (d.bits > SMALL_BITS); /* a variable more, where no row could be named */
+        snprintf(name, sizeof name, "small table %lu", i);
+        if (!solve(name, &d, &s))
+            continue;
+        test_fillings(name, &d, &s, &patterns);
+        solved++;
+        complete += s.record.free <= ALL_FILLINGS;
+        free_bits[s.record.free]++;
+        note_traits(&s, traits);
+    }
+    printf("%lu small tables: solved %lu, all fillings tried of %lu, patterns %lu\n  solved with free", tables, solved,
+           complete, patterns);
+    for (size_t i = 0; i <= ENUM_BITS; i++)
+        printf(" %zu: %lu%s", i, free_bits[i], i < ENUM_BITS ? "," : "\n");
+    print_traits(traits);
+    check(5 * solved >= tables, HERE, "solved tables are rare");
+    for (size_t i = 0; i <= ALL_FILLINGS; i++)
+        check(free_bits[i] != 0, HERE, "no small table has %zu free bits", i);
+}
+
+void test_large(void)
+{
+    static draft d;
+    static solved_table s;
+    static uint8_t fresh[BITS], pattern[BITS];
+    unsigned long solved = 0, full = 0, many = 0, most_free = 0, traits[TRAITS] = {0};
+    char name[64];
+
+    for (unsigned long i = 0; i < LARGE_TABLES; i++) {
+        static const size_t widths[] = {1024, 64, 300, 20};
+        size_t bits = one_in(3) ? BITS : 1 + below(BITS);
+        make_equations(&d, bits, widths[below(4)], 1 + below(one_in(3) ? 120 : 20));
+        snprintf(name, sizeof name, "large table %lu", i);
+        if (!solve(name, &d, &s))
+            continue;
+        for (size_t f = 0; f < 5; f++) { /* all 0, all 1, and random */
+            for (size_t k = 0; k < s.record.free; k++)
+                fresh[k] = (uint8_t)(f < 2 ? f : below(2));
+            test_filling(name, &d, &s, fresh, pattern);
+        }
+        solved++;
+        full += s.facts.bits == BITS;
+        many += s.record.pieces >= 500;
+        most_free = s.record.free > most_free ? s.record.free : most_free;
+        note_traits(&s, traits);
+    }
+    printf("%d large tables: solved %lu, of 4096 variable bits %lu, of 500 pieces %lu, most free bits %lu\n",
+           LARGE_TABLES, solved, full, many, most_free);
+    print_traits(traits);
+    check(5 * solved >= LARGE_TABLES && full != 0 && many != 0 && most_free > 3000, HERE,
+          "some kind of large table does not occur");
+}
