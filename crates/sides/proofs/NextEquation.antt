@@ -1,6 +1,6 @@
 -- The next equation of a table: what is left to search says what the whole search says, and no row passed is an equation. Assumes
 -- nothing.
-use mathlib.Core.Path.{_≡_, refl, sym, _∙_, ap}
+use mathlib.Core.Path.{_≡_, refl}
 use mathlib.Core.Bool.{Bool}
 use mathlib.Core.List.{List, []}
 use mathlib.Core.Logic.{_≢_}
@@ -17,6 +17,7 @@ use Rattle.terms.specs.Table.{rowsOf, rowAt}
 use Rattle.sides.specs.inner.Sides.{Prepared, SidesRead, nextEquation}
 use Rattle.sides.proofs.EquationPairs.{no-pairs}
 
+-- the search at an equation, at another row, and behind the last
 module _ (t : List Row) (r rows : ℕ) where
   pub next-found : r < rows → rowAt t r .kind ≡ 4 → r ≡ nextEquation t r rows
   unfolding nextEquation least

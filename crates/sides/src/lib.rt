@@ -1,5 +1,5 @@
-// An equation's bit pairs, from the normal forms of its sides: the sources of each side, high end first. And a copy of a table in which
-// each cut of a cut is made one cut, so that the forms take few calls.
+// The equations of a table: which row is the next one; and its bit pairs, from the normal forms of its sides: the sources of each side,
+// high end first. And a copy of a table in which each cut of a cut is made one cut, so that the forms take few calls.
 ghost use mathlib.Core.Path.{_≡_};
 ghost use Prim.Native.Nat.{_≤_, min};
 ghost use lib.ListN.{length};
@@ -104,7 +104,7 @@ pub fn equation_pairs(
     numbers::wide(numbers::load(widths, a))
 }
 
-// The first equation from row `from` on, of the first so many rows; the row behind them, if there is none.
+// The first equation from row `from` on and below row `rows`; where there is none, the greater of the two.
 pub fn next_equation(table: &[u16], from: usize, rows: usize) -> usize
     ensures { λ r. ⌜ r ≡ nextEquation (rowsOf (now (table .entry))) from rows ⌝ }
 {

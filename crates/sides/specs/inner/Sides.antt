@@ -16,7 +16,7 @@ pub record Prepared (table widths variables lows : List ℕ) : Type 0 where
   pub numbered : Numbered table widths variables
   pub lows-are : (v : ℕ) → v < countKind 0 (rowsOf table) → getD lows v 0 ≡ lowSource (rowsOf table) v
 
--- The first equation of a table from row `from` on, of its first so many rows; the row behind them, if there is none.
+-- The first equation of a table from row `from` on and below row `rows`; where there is none, the greater of the two.
 unfoldable pub nextEquation : List Row → ℕ → ℕ → ℕ
 nextEquation t from rows = least (λ r. eqb (rowAt t r .kind) 4) from (rows - from)
 
