@@ -29,11 +29,20 @@ double median(samples *s)
 
 /* Tables. */
 
-static uint16_t answer[LW_SOLVER_NUMBERS], work[LW_SOLVER_NUMBERS], parent[PLAIN_SOURCES];
+static uint16_t answer[LW_SOLVER_NUMBERS], work[LW_SOLVER_NUMBERS];
+static uint16_t plain_answer[LW_SOLVER_NUMBERS], parent[PLAIN_SOURCES];
 
 static lw_record solve(const subject *in, size_t rows)
 {
     return lw_solve(in->d.t.numbers, 4 * rows, answer, LW_SOLVER_NUMBERS, work, LW_SOLVER_NUMBERS);
+}
+
+/* All of it by the solver in C: the check of the table and the answer. */
+static lw_record plain(const subject *in)
+{
+    static ref_table facts;
+    lw_record check = ref_check(in->d.t.numbers, in->d.t.len, &facts);
+    return check.outcome != 0 ? check : plain_solve(in->d.t.numbers, &facts, plain_answer);
 }
 
 static size_t ties(const subject *in)
@@ -60,8 +69,6 @@ static void lay_out(subject *in)
 
 bool prepare(subject *in)
 {
-    static uint16_t plain[LW_SOLVER_NUMBERS];
-
     clear(&in->d);
     in->make(&in->d, in->size);
     lw_record check = ref_check(in->d.t.numbers, in->d.t.len, &in->facts);
@@ -70,11 +77,11 @@ bool prepare(subject *in)
         return false;
     }
     lay_out(in);
-    lw_record want = plain_solve(in->d.t.numbers, &in->facts, plain);
+    lw_record want = plain(in);
     in->record = solve(in, in->d.rows);
     if (in->record.outcome != (in->d.rows == 0 ? LW_ALWAYS : LW_SOLVED) ||
         memcmp(&in->record, &want, sizeof want) != 0 ||
-        memcmp(answer, plain, 4 * want.pieces * sizeof *answer) != 0 || ties(in) != want.ties) {
+        memcmp(answer, plain_answer, 4 * want.pieces * sizeof *answer) != 0 || ties(in) != want.ties) {
         fprintf(stderr, "%s %zu: %zu pairs, outcome %u, ties %u and %zu: not the answer of the plain solver\n",
                 in->name, in->size, in->pairs, in->record.outcome, in->record.ties, ties(in));
         return false;
@@ -97,6 +104,14 @@ static double solve_time(const subject *in, size_t rows)
     double start = seconds();
     for (size_t i = 0; i < in->calls; i++)
         sink += solve(in, rows).ties;
+    return (seconds() - start) / (double)in->calls;
+}
+
+static double plain_time(const subject *in)
+{
+    double start = seconds();
+    for (size_t i = 0; i < in->calls; i++)
+        sink += plain(in).ties;
     return (seconds() - start) / (double)in->calls;
 }
 
@@ -140,6 +155,7 @@ bool measure(subject *in, size_t count, size_t rounds, bool z3)
     for (size_t i = 0; i < rounds; i++) {
         for (size_t k = 0; k < count; k++) {
             note(&in[k].solve, solve_time(&in[k], in[k].d.rows));
+            note(&in[k].plain, plain_time(&in[k]));
             note(&in[k].ties, ties_time(&in[k]));
         }
         if (z3 && i % Z3_EVERY == 0 && !run_z3(in, count))

@@ -33,13 +33,14 @@ typedef struct {
     void (*make)(draft *, size_t);
     size_t size;   /* for make */
     size_t calls;  /* in one sample */
-    bool for_goal; /* whether the ratio has a goal */
+    double most;   /* goal: at most so many times the time of the solver in C; 0 for none */
+    bool for_goal; /* whether the ratio to the union-find has a goal */
     draft d;
     ref_table facts;
     lw_record record;
     uint16_t left[MAX_PAIRS], right[MAX_PAIRS];
     size_t pairs;
-    samples solve, ties, z3, z3_alone; /* the last without z3's start */
+    samples solve, plain, ties, z3, z3_alone; /* the last without z3's start */
 } subject;
 
 /* Tables in which something grows from step to step. */
@@ -64,7 +65,7 @@ bool same_pairs(const subject *a, const subject *b);
 
 bool z3_found(void);
 
-/* Times lw_solve, plain_ties and, if wanted, z3 on each table. The first has to be empty, for z3's start. */
+/* Times lw_solve, the solver in C, plain_ties and, if wanted, z3 on each table. The first has to be empty, for z3's start. */
 bool measure(subject *in, size_t count, size_t rounds, bool z3);
 
 /* A step is the first rows of a table. */

@@ -2,8 +2,6 @@
 
 #include "report.h"
 
-#include <stdio.h>
-
 /* Figures as text, which is kept for the next few only. */
 
 enum { TEXT = 32, TEXTS = 16 };
@@ -64,6 +62,38 @@ void print_subjects(const subject *in, size_t count)
                whole(in[k].pairs), outcomes[r.outcome]);
         printf("| %s | %s | %s | %s |\n", whole(r.pieces), whole(r.fresh), whole(r.free), whole(r.ties));
     }
+}
+
+/* One row of the comparison with the solver in C. Whether the goal is met, if there is one. */
+static bool print_plain_row(subject *in)
+{
+    double solve = median(&in->solve), plain = median(&in->plain);
+
+    printf("| %s | %s | %s ", in->name, micro(solve), micro(plain));
+    if (in->pairs == 0) {
+        printf("| | | |\n");
+        return true;
+    }
+    printf("| %s | %s |", figure(solve / plain), figure(quartile(&in->solve, 0) / quartile(&in->plain, 0)));
+    if (in->most > 0)
+        printf(" at most %.1f: %s", in->most, solve <= in->most * plain ? "met" : "MISSED");
+    printf(" |\n");
+    return in->most <= 0 || solve <= in->most * plain;
+}
+
+bool print_plain(subject *in, size_t count)
+{
+    bool met = true;
+
+    printf("\n## Against a complete solver in C\n\n");
+    printf("| table | `lw_solve`, µs | solver in C, µs | ratio | ratio of best times | goal |\n");
+    printf("|---|---:|---:|---:|---:|---|\n");
+    for (size_t k = 0; k < count; k++)
+        met &= print_plain_row(&in[k]);
+    printf("\nBoth check the table and write the same answer. `lw_solve` also leaves the work area's 16,384 numbers 0, which\n"
+           "is most of its time for the smallest tables; the solver in C keeps its arrays between calls, so two calls of it\n"
+           "cannot run at once. Without rows it has nothing to do.\n");
+    return met;
 }
 
 /* One row, with the fixed part of the time. Whether the goal is met, if there is one. */
@@ -165,4 +195,23 @@ bool print_growth(growth *g)
         printf("\nGoal at most %.1f times: %s.", g->goal, time <= g->goal ? "met" : "MISSED");
     printf("\n");
     return g->goal <= 0 || time <= g->goal;
+}
+
+/* The points of the growths that follow the rows, or of those that follow the pairs. */
+static void print_panel(FILE *out, growth *g, size_t count, bool by_rows)
+{
+    fprintf(out, "panel %s\n", by_rows ? "rows" : "bit pairs");
+    for (size_t i = 0; i < count; i++) {
+        if (g[i].by_rows != by_rows)
+            continue;
+        fprintf(out, "line %s\n", g[i].title);
+        for (size_t k = 0; k < g[i].count; k++)
+            fprintf(out, "%.0f %.3f\n", amount(&g[i], k), 1e6 * median(&g[i].steps[k].solve));
+    }
+}
+
+void print_points(FILE *out, growth *g, size_t count)
+{
+    print_panel(out, g, count, false);
+    print_panel(out, g, count, true);
 }

@@ -1,11 +1,12 @@
 /*
-  solve_bench.c -- how fast lw_solve is, against a plain union-find in C and
-  against z3
+  solve_bench.c -- how fast lw_solve is, against a complete solver in C, a plain
+  union-find in C and z3
 
       solve_bench [ROUNDS]
 
   Prints the measured part of docs/BENCHMARKS.md, in medians of ROUNDS rounds
-  (301 if not given); what is compared is said in run, which prints the rest. z3
+  (301 if not given); what is compared is said in run, which prints the rest. The
+  growth is written to build/growth.points too, for draw_growth. z3
   is slow and has its turn in every 25th round only; it is left out where it is
   not installed. The current directory has to be bench/.
 
@@ -21,6 +22,8 @@
 #include "report.h"
 #include "tables.h"
 
+#define MOST 1.1         /* lw_solve to the solver in C, at most; */
+#define MOST_SMALL 2.0   /* for the smallest tables */
 #define GOAL 3.0         /* lw_solve to the plain union-find, at most */
 #define GROWTH_GOAL 10.0 /* 64 equations to 8, at most */
 
@@ -29,26 +32,27 @@ enum { LONG = 3, SHORT = 30, SHORTEST = 100 };
 
 static subject subjects[] = {
     {.name = "empty", .says = "no rows.", .make = make_empty, .calls = SHORTEST},
-    {.name = "bit", .says = "a variable of 1 bit, equal to a fill.", .make = make_fixed, .size = 1, .calls = SHORTEST},
+    {.name = "bit", .says = "a variable of 1 bit, equal to a fill.",
+     .make = make_fixed, .size = 1, .calls = SHORTEST, .most = MOST_SMALL},
     {.name = "small",
      .says = "a variable of 16 bits, of which bits 14 to 3 are equal to bits 12 to 1.",
-     .make = make_overlap, .size = 16, .calls = SHORTEST},
+     .make = make_overlap, .size = 16, .calls = SHORTEST, .most = MOST_SMALL},
     {.name = "typical",
      .says = "64 words of 16 bits: 32 pixels and 32 link words. In 16 equations two link words are the low part of\n"
              "  a pixel, the next pixel and the high part of the one behind, cut at odd places; in 4 equations a link\n"
              "  word is a marker of three fixed bits and the low 13 bits of a pixel.",
-     .make = make_link, .size = 32, .calls = SHORT},
+     .make = make_link, .size = 32, .calls = SHORT, .most = MOST},
     {.name = "turned",
      .says = "of the largest size, as are the next two. 64 variables of 64 bits, joined by doubling to words of\n"
              "  1,024 bits, and these turned at odd places, one out of another.",
-     .make = make_turned, .size = 1024, .calls = LONG, .for_goal = true},
+     .make = make_turned, .size = 1024, .calls = LONG, .most = MOST, .for_goal = true},
     {.name = "chained",
      .says = "half of each side is the 512 bits that a chain of 300 cuts leaves, the other half is cut at an odd\n"
              "  place.",
-     .make = make_chained, .size = 300, .calls = LONG, .for_goal = true},
+     .make = make_chained, .size = 300, .calls = LONG, .most = MOST, .for_goal = true},
     {.name = "copied",
      .says = "each side is 16 copies of a variable under a chain of 300 cuts, turned at an odd place.",
-     .make = make_copied, .size = 300, .calls = LONG},
+     .make = make_copied, .size = 300, .calls = LONG, .most = MOST},
 };
 
 enum { SUBJECTS = sizeof subjects / sizeof subjects[0], TURNED = 4, CHAINED = 5 };
@@ -119,14 +123,26 @@ static void set_steps(void)
 static bool print_all(size_t rounds, bool z3)
 {
     print_subjects(subjects, SUBJECTS);
-    printf("\nTimes of `lw_solve` and of the union-find are medians of %zu rounds.\n", rounds);
-    bool met = print_ties(subjects, SUBJECTS, GOAL);
+    printf("\nTimes of `lw_solve`, of the solver in C and of the union-find are medians of %zu rounds.\n", rounds);
+    bool met = print_plain(subjects, SUBJECTS);
+    met &= print_ties(subjects, SUBJECTS, GOAL);
     print_z3(subjects, SUBJECTS, z3);
     printf("\n## Growth\n\n"
-           "Expected: the time grows no faster than the pairs, and with the depth of cuts no faster than the rows.\n");
+           "Expected: the time grows no faster than the pairs, and with the depth of cuts no faster than the rows.\n\n"
+           "![Time of lw_solve against bit pairs and against rows](growth.svg)\n");
     for (size_t i = 0; i < GROWTHS; i++)
         met &= print_growth(&growths[i]);
     return met;
+}
+
+static bool write_points(void)
+{
+    FILE *out = fopen("build/growth.points", "w");
+    if (out == NULL)
+        return false;
+    print_points(out, growths, GROWTHS);
+    bool written = ferror(out) == 0;
+    return fclose(out) == 0 && written;
 }
 
 int main(int argc, char **argv)
@@ -148,5 +164,5 @@ int main(int argc, char **argv)
     for (size_t i = 0; i < GROWTHS; i++)
         measure_growth(&growths[i], rounds);
     bool met = print_all(rounds, z3);
-    return fflush(stdout) != 0 || ferror(stdout) ? 2 : met ? 0 : 1;
+    return !write_points() || fflush(stdout) != 0 || ferror(stdout) ? 2 : met ? 0 : 1;
 }

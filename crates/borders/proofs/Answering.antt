@@ -16,7 +16,7 @@ use Rattle.terms.proofs.Values.{width-variable}
 use Rattle.answers.specs.Answer.{variableWidths}
 use Rattle.answers.specs.inner.Classes.{Represents}
 use Rattle.borders.specs.inner.Rows.{PutsRows}
-use Rattle.borders.specs.inner.Borders.{Zeros, MarksBegins, BeginsMarked, evenAt, MarksUneven, PutsPlaces, PlacesPut}
+use Rattle.borders.specs.inner.Borders.{Zeros, MarksBegins, BeginsMarked, evenAt, MarksUneven, PutsPlaces, PlacesPut, PutsWith}
 use Rattle.answers.proofs.Variables.{widths-sum, begins-first}
 use Rattle.borders.proofs.Beginning.{Positive, widths-positive, variable-tally}
 
@@ -39,14 +39,15 @@ bits-most table a =
     let t = accepted-table table a in
     omega (arith, totals-small (rowsOf table) (length (rowsOf table)) (t .sound) .1, ap bitsOf (take-all (length (rowsOf table)) (rowsOf table) (omega arith)))
 
-pub rows-put : (table c answer answer′ marks after before numbers : List ℕ) (room n pieces fresh : ℕ) → 4098 ≤ room → 4096 ≤ length numbers
-    → MarksBegins table (replicate room 0) marks n → MarksUneven marks c 1 n (replicate room 0) after → MarksUneven marks c 0 n (replicate room 0) before
-    → PutsPlaces n marks c after before numbers answer answer′ pieces fresh → PutsRows table c answer answer′ pieces fresh
-rows-put table c answer answer′ marks after before numbers room n pieces fresh h hn b a e p seen f inv one _ =
+pub rows-put : (table c answer answer′ marks₀ marks after₀ after before₀ before numbers : List ℕ) (n pieces fresh : ℕ)
+    → MarksBegins table marks₀ marks n → MarksUneven marks c 1 n after₀ after → MarksUneven marks c 0 n before₀ before
+    → PutsPlaces n marks c after before numbers answer answer′ pieces fresh
+    → PutsWith table c marks₀ after₀ before₀ (length numbers) answer answer′ pieces fresh
+rows-put table c answer answer′ marks₀ marks after₀ after before₀ before numbers n pieces fresh b a e p zm za ze lm la le ln seen f inv one _ =
     let small = bits-most table f in
-    let k : BeginsMarked table marks n = b f (zeros-at room) (omega (arith, length-replicate {A = ℕ} room 0)) in
-    let marked : (side : ℕ) (u : List ℕ) → MarksUneven marks c side n (replicate room 0) u → (r : ℕ) → r < n + 2 → getD u r 0 ≡ cond (evenAt marks c side r n) 0 1 =
-    λ side u s r l. s r (omega (arith, length-replicate {A = ℕ} room 0, k .bits)) ∙ ap (λ (x : ℕ). cond (evenAt marks c side r n) x 1) (zeros-at room r) in
+    let k : BeginsMarked table marks n = b f zm (omega (arith, inv .len)) in
+    let marked : (side : ℕ) (u₀ u : List ℕ) → Zeros u₀ → length c ≤ length u₀ → MarksUneven marks c side n u₀ u → (r : ℕ) → r < n + 2 → getD u r 0 ≡ cond (evenAt marks c side r n) 0 1 =
+    λ side u₀ u z h s r l. s r (omega (arith, inv .len, k .bits)) ∙ ap (λ (x : ℕ). cond (evenAt marks c side r n) x 1) (z r) in
     let q : PlacesPut n ws c answer answer′ pieces fresh =
     p ws seen
     (record {
@@ -56,11 +57,21 @@ rows-put table c answer answer′ marks after before numbers room n pieces fresh
       from = begins-first ws;
       counted = λ i l. variable-tally ws (positive table f) i (omega (arith, k .bits, widths-sum (rowsOf table)));
       marks-are = k .marks-are;
-      after-is = marked 1 after a;
-      before-is = marked 0 before e;
-    }) hn in
+      after-is = marked 1 after₀ after za la a;
+      before-is = marked 0 before₀ before ze le e;
+    }) (omega (arith, inv .len, k .bits)) in
     let m : n ≡ bitsOf (rowsOf table) = k .bits in
     record { pieces-are = rw (← m) (q .pieces-are); fresh-are = rw (← m) (q .fresh-are); answer-is = rw (← m) (q .answer-is) }
   where
     ws : List ℕ
     ws = variableWidths (rowsOf table)
+
+-- the lists that help are all 0 at first, and of one length: one that no table exceeds is enough
+module _ (table c answer answer′ : List ℕ) (room pieces fresh : ℕ) (p : PutsWith table c (replicate room 0) (replicate room 0) (replicate room 0) (length (replicate {A = ℕ} room 0)) answer answer′ pieces fresh) where
+  pub put-few : length c ≤ room → PutsRows table c answer answer′ pieces fresh
+  put-few h =
+      let l : length c ≤ length (replicate {A = ℕ} room 0) = omega (arith, length-replicate {A = ℕ} room 0) in
+      p (zeros-at room) (zeros-at room) (zeros-at room) l l l l
+
+  pub put-many : 4098 ≤ room → PutsRows table c answer answer′ pieces fresh
+  put-many h seen f inv = put-few (omega (arith, bits-most table f, inv .len)) seen f inv

@@ -16,6 +16,7 @@ use Rattle.terms.specs.Table.{rowsOf, rowAt, noRow, bitsIn, bitsOf}
 use Rattle.terms.specs.Faults.{firstFault}
 use Rattle.terms.proofs.AcceptedTable.{accepted-table}
 use Rattle.terms.proofs.Faults.{totals-small}
+use Rattle.terms.proofs.Values.{bits-part}
 use Rattle.terms.proofs.Widths.{bits-more}
 use Rattle.answers.specs.Answer.{variableWidths, begins}
 use Rattle.laws.proofs.Numbers.{dec-eq}
@@ -69,7 +70,7 @@ pub record Marking (table old marks : List ℕ) (bits r : ℕ) : Type 0 where
   pub n-bits : bits ≡ bitsOf (take r (rowsOf table))
   pub few : bits ≤ r * 65535
   pub len : length marks ≡ length old
-  pub done : firstFault table ≡ Accepted → Zeros old → 4096 < length old → MarkedTo (rowsOf table) r marks
+  pub done : firstFault table ≡ Accepted → Zeros old → bitsOf (rowsOf table) < length old → MarkedTo (rowsOf table) r marks
 
 pub marking-first : (table old : List ℕ) → Marking table old old 0 0
 unfolding bitsOf
@@ -97,7 +98,7 @@ module _ (table old marks : List ℕ) (bits r : ℕ) (k : Marking table old mark
         n-bits = omega (arith, bits-more rows r l, k .n-bits, rw er at em);
         few = omega (arith, k .few);
         len = el ∙ k .len;
-        done = λ a z n. rw (es, k .n-bits) (marked-more rows r l marks (k .done a z n) (omega (arith, small a, k .len)));
+        done = λ a z n. rw (es, k .n-bits) (marked-more rows r l marks (k .done a z n) (omega (arith, bits-part rows r, k .len)));
       })
 
   pub marking-done : r ≤ 512 → (512 ≤ r) ⊎ (length rows ≤ r) → (marks′ : List ℕ) (n : ℕ) → marks′ ≡ set marks bits 1 → n ≡ bits % 65536
@@ -121,7 +122,7 @@ module _ (table old marks : List ℕ) (bits r : ℕ) (k : Marking table old mark
 
       at : (i : ℕ) → i ≤ n → (i ≡ bitsOf (take r rows)) ⊎ (i ≢ bitsOf (take r rows)) → getD (set marks (bitsOf (take r rows)) 1) i 0 ≡ cond (begins ws i) 1 0
       at i l (inl d) =
-          ap (λ (x : ℕ). getD (set marks (bitsOf (take r rows)) 1) x 0) d ∙ getD-set-same marks (bitsOf (take r rows)) 1 0 (omega (arith, small a, k .len))
+          ap (λ (x : ℕ). getD (set marks (bitsOf (take r rows)) 1) x 0) d ∙ getD-set-same marks (bitsOf (take r rows)) 1 0 (omega (arith, bits-part rows r, k .len))
           ∙ ap (λ (x : Bool). cond {A = ℕ} x 1 0) (sym (begins-past ws i (omega (arith, total))))
       at i l (inr d) =
           getD-set-other marks (bitsOf (take r rows)) i 1 0 d ∙ k .done a z m .low i (omega (arith, n-is, ap bitsOf all))

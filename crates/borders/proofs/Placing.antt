@@ -1,4 +1,4 @@
--- The pass of `put_places`: with i places passed, the buffer has their rows, and the counts are those of these places.
+-- The pass of `put_places`: with i places passed, the buffer has their rows but the last, and the counts are those of these places.
 use mathlib.Core.Path.{_≡_, refl, sym, ap, _∙_, subst}
 use mathlib.Core.Logic.{_⊎_, inl, inr, _≢_}
 use mathlib.Core.Bool.{Bool, true, false, _&&_, cond, and-false, and-true}
@@ -22,10 +22,10 @@ use Rattle.laws.proofs.Numbers.{dec-eq}
 use Rattle.laws.proofs.Numbers.{lt-or-le}
 use Rattle.answers.proofs.Relation.{fixed-is, unfixed-is, lowest-is}
 use Rattle.borders.specs.declared.Progress.{Progress}
-use Rattle.borders.specs.inner.Borders.{numberIn, stepIn, rowWritten, Bordered, PutsPlaces}
+use Rattle.borders.specs.inner.Borders.{goesIn, numberIn, stepIn, rowWritten, Bordered, PutsPlaces}
 use Rattle.borders.proofs.Neighbours.{goes-is}
 use Rattle.borders.specs.inner.Borders.{rowOf}
-use Rattle.borders.proofs.RowNumbers.{row-next, row-anew}
+use Rattle.borders.proofs.RowNumbers.{row-next, row-none}
 use Rattle.laws.proofs.Tallies.{tally-most}
 
 placed-new : (r : AnswerRow) (rows : List AnswerRow) → placed false r rows ≡ r ∷ rows
@@ -33,17 +33,29 @@ unfolding placed
 placed-new r [] = refl
 placed-new r (s ∷ rows) = refl
 
--- the state after the first i places
+-- the state after the first i places: the last row, which may go on, is not written yet
 pub record Going (n : ℕ) (ws c numbers old answer : List ℕ) (p : Progress) (i : ℕ) : Type 0 where
   pub begun : p .begun ≡ tally i (begins ws)
   pub rows : p .rows ≡ length (rowsTo n ws (inClass c) i)
   pub few : p .rows ≤ i
   pub fresh : p .fresh ≡ tally i (appears n ws (inClass c))
   pub numbered : (j : ℕ) → j < i → getD numbers j 0 ≡ tally j (appears n ws (inClass c))
-  pub written : answer ≡ overwrite (answerNumbers (reverse (rowsTo n ws (inClass c) i))) old
   pub rest : List AnswerRow
+  pub none : i ≡ 0 → rest ≡ []
   pub last : 0 < i → rowsTo n ws (inClass c) i ≡ rowOf p ∷ rest
+  pub written : answer ≡ overwrite (answerNumbers (reverse rest)) old
   pub narrow : p .width ≤ i
+
+-- with the last row written, the buffer has all of them
+row-ended : (n : ℕ) (ws c numbers old answer : List ℕ) (p : Progress) (i : ℕ) → Going n ws c numbers old answer p i
+    → rowWritten answer p ≡ overwrite (answerNumbers (reverse (rowsTo n ws (inClass c) i))) old
+unfolding rowsTo
+row-ended n ws c numbers old answer p zero k =
+    row-none answer p (k .rows) ∙ k .written ∙ ap (λ (r : List AnswerRow). overwrite (answerNumbers (reverse r)) old) (k .none refl)
+row-ended n ws c numbers old answer p (suc i) k =
+    let e = k .last (omega arith) in
+    ap (λ (o : List ℕ). rowWritten o p) (k .written) ∙ row-next old p (k .rest) (k .rows ∙ ap length e)
+    ∙ ap (λ (r : List AnswerRow). overwrite (answerNumbers (reverse r)) old) (sym e)
 
 module _ (n : ℕ) (ws c : List ℕ) (seen : List Pair) (m after before : List ℕ) (B : Bordered n ws c seen m after before) (i : ℕ) (l : i < n) where
   abbrev C : ℕ → ℕ
@@ -108,7 +120,7 @@ module _ (n : ℕ) (ws c : List ℕ) (seen : List Pair) (m after before : List �
     abbrev wider : Progress
     wider = record { begun = (p .begun + getD m i 0) % 65536; rows = p .rows; fresh = p .fresh; variable = p .variable; kind = p .kind; width = (p .width + 1) % 65536; number = p .number }
 
-    going-on : on ≡ true → Going n ws c (set numbers i (p .fresh)) old (rowWritten answer wider) wider (suc i)
+    going-on : on ≡ true → Going n ws c (set numbers i (p .fresh)) old answer wider (suc i)
     unfolding tally
     going-on h = record {
       begun = unfold tally in (begun-next (p .begun) (k .begun));
@@ -116,12 +128,10 @@ module _ (n : ℕ) (ws c : List ℕ) (seen : List Pair) (m after before : List �
       few = omega (arith, k .few);
       fresh = rw (appears-on h) (omega (arith, k .fresh));
       numbered = numbers-next;
-      written =
-          ap (λ (o : List ℕ). rowWritten o wider) (k .written ∙ ap (λ (r : List AnswerRow). overwrite (answerNumbers (reverse r)) old) before-is)
-          ∙ row-anew old wider (k .rest) (k .rows ∙ ap length before-is) (rowOf p)
-          ∙ ap (λ (r : List AnswerRow). overwrite (answerNumbers (reverse r)) old) (sym after-wider);
       rest = k .rest;
+      none = λ z. absurd (omega arith);
       last = λ z. after-wider;
+      written = k .written;
       narrow = omega (arith, k .narrow, B .few);
     }
       where
@@ -153,19 +163,17 @@ module _ (n : ℕ) (ws c : List ℕ) (seen : List Pair) (m after before : List �
       number = numberIn new (C i);
     }
 
-    going-new : on ≡ false → Going n ws c (set numbers i (p .fresh)) old (rowWritten answer begin) begin (suc i)
+    going-new : on ≡ false → Going n ws c (set numbers i (p .fresh)) old (rowWritten answer p) begin (suc i)
     going-new h = record {
       begun = begun-next (p .begun) (k .begun);
       rows = rows-is ∙ sym (ap length after-is);
       few = omega (arith, k .few);
       fresh = fresh-is;
       numbered = numbers-next;
-      written =
-          ap (λ (o : List ℕ). rowWritten o begin) (k .written)
-          ∙ row-next old begin (rowsTo n ws (inClass c) i) rows-is
-          ∙ ap (λ (r : List AnswerRow). overwrite (answerNumbers (reverse r)) old) (sym after-begin);
       rest = rowsTo n ws (inClass c) i;
+      none = λ z. absurd (omega arith);
       last = λ z. after-begin;
+      written = row-ended n ws c numbers old answer p i k;
       narrow = omega arith;
     }
       where
@@ -187,20 +195,18 @@ module _ (n : ℕ) (ws c : List ℕ) (seen : List Pair) (m after before : List �
         after-begin : rowsTo n ws (inClass c) (suc i) ≡ rowOf begin ∷ rowsTo n ws (inClass c) i
         after-begin = after-is ∙ ap (λ (r : AnswerRow). r ∷ rowsTo n ws (inClass c) i) (sym row-is)
 
-    pub going-more : (q : Progress) → q ≡ stepIn m c after before (set numbers i (p .fresh)) p i → Going n ws c (set numbers i (p .fresh)) old (rowWritten answer q) q (suc i)
+    pub going-more : (t : Bool) → t ≡ goesIn m c after before i
+        → Going n ws c (set numbers i (p .fresh)) old (cond t answer (rowWritten answer p)) (stepIn m c (set numbers i (p .fresh)) t p i) (suc i)
     unfolding stepIn
-    going-more q e = rw (e, goes-is n ws c seen m after before B i l) (go on refl)
-      where
-        go : (t : Bool) → on ≡ t → Going n ws c new old (rowWritten answer (cond t wider begin)) (cond t wider begin) (suc i)
-        go true h = going-on h
-        go false h = going-new h
+    going-more true e = going-on (sym (e ∙ goes-is n ws c seen m after before B i l))
+    going-more false e = going-new (sym (e ∙ goes-is n ws c seen m after before B i l))
 
 -- the pass over the places, whatever it reads; where borders are marked, the state is that of the places passed
 pub record Putting (n : ℕ) (m c after before numbers₀ old numbers answer : List ℕ) (p : Progress) (i : ℕ) : Type 0 where
   pub within : i ≤ n
   pub numbers-len : length numbers ≡ length numbers₀
   pub answer-len : length answer ≡ length old
-  pub going : (ws : List ℕ) (seen : List Pair) → Bordered n ws c seen m after before → 4096 ≤ length numbers₀ → Going n ws c numbers old answer p i
+  pub going : (ws : List ℕ) (seen : List Pair) → Bordered n ws c seen m after before → n ≤ length numbers₀ → Going n ws c numbers old answer p i
 
 abbrev pub noPlace : Progress
 noPlace = record { begun = 0; rows = 0; fresh = 0; variable = 0; kind = 0; width = 0; number = 0 }
@@ -217,18 +223,19 @@ putting-first n m c after before numbers old = record {
     few = omega arith;
     fresh = refl;
     numbered = λ j l. absurd (omega arith);
-    written = refl;
     rest = [];
+    none = λ z. refl;
     last = λ z. absurd (omega arith);
+    written = refl;
     narrow = omega arith;
   };
 }
 
 module _ (n : ℕ) (m c after before numbers₀ old numbers answer : List ℕ) (p : Progress) (i : ℕ) (k : Putting n m c after before numbers₀ old numbers answer p i) where
-  pub putting-more : i < n → (at : ℕ) (numbers′ answer′ : List ℕ) (q : Progress) → at ≡ i → numbers′ ≡ set numbers at (p .fresh) → length numbers′ ≡ length numbers
-      → q ≡ stepIn m c after before numbers′ p i → answer′ ≡ rowWritten answer q → length answer′ ≡ length answer
-      → Putting n m c after before numbers₀ old numbers′ answer′ q (i + 1)
-  putting-more l at numbers′ answer′ q et en ln eq ea la =
+  pub putting-more : i < n → (at : ℕ) (numbers′ answer′ : List ℕ) (on : Bool) (q : Progress) → at ≡ i → numbers′ ≡ set numbers at (p .fresh)
+      → length numbers′ ≡ length numbers → on ≡ goesIn m c after before i → answer′ ≡ cond on answer (rowWritten answer p) → length answer′ ≡ length answer
+      → q ≡ stepIn m c numbers′ on p i → Putting n m c after before numbers₀ old numbers′ answer′ q (i + 1)
+  putting-more l at numbers′ answer′ on q et en ln eo ea la eq =
       let e : numbers′ ≡ set numbers i (p .fresh) = en ∙ ap (λ (x : ℕ). set numbers x (p .fresh)) et in
       rw add-one
       (record {
@@ -236,18 +243,18 @@ module _ (n : ℕ) (m c after before numbers₀ old numbers answer : List ℕ) (
         numbers-len = ln ∙ k .numbers-len;
         answer-len = la ∙ k .answer-len;
         going = λ ws seen B room.
-            rw (ea, e)
-            (going-more n ws c seen m after before B i l numbers old answer p (k .going ws seen B room) (omega (arith, B .few, k .numbers-len)) q
-            (eq ∙ ap (λ (x : List ℕ). stepIn m c after before x p i) e));
+            rw (eq, ea, e)
+            (going-more n ws c seen m after before B i l numbers old answer p (k .going ws seen B room) (omega (arith, k .numbers-len)) on eo);
       })
 
-  pub putting-done : n ≤ i → (pieces fresh : ℕ) → pieces ≡ p .rows → fresh ≡ p .fresh → PutsPlaces n m c after before numbers₀ old answer pieces fresh
+  pub putting-done : n ≤ i → (pieces fresh : ℕ) (answer′ : List ℕ) → answer′ ≡ rowWritten answer p → pieces ≡ p .rows → fresh ≡ p .fresh
+      → PutsPlaces n m c after before numbers₀ old answer′ pieces fresh
   unfolding answerRows
-  putting-done h pieces fresh ep ef ws seen B room =
+  putting-done h pieces fresh answer′ ea ep ef ws seen B room =
       let e : i ≡ n = omega (arith, k .within) in
       let g : Going n ws c numbers old answer p n = subst (λ (x : ℕ). Going n ws c numbers old answer p x) e (k .going ws seen B room) in
       record {
         pieces-are = ep ∙ g .rows ∙ sym (length-reverse (rowsTo n ws (inClass c) n));
         fresh-are = ef ∙ g .fresh;
-        answer-is = g .written;
+        answer-is = ea ∙ row-ended n ws c numbers old answer p n g;
       }

@@ -1,11 +1,12 @@
--- The answer table in a buffer: the row behind the others written, or the last one written anew.
+-- The answer table in a buffer: the row behind the others written.
 use mathlib.Core.Path.{_≡_, sym, ap, _∙_}
 use mathlib.Core.List.{List, [], _∷_, _++_, reverse, reverse-cons}
 use Prim.Native.Nat.{ℕ, suc, _+_, _-_, _*_}
 use native.Mathlib.Omega.{arith}
 use lib.ListN.{length, length-reverse}
+use borrow.Author.Tests.{eq-eqb, ne-eqb}
 use Rattle.laws.specs.Buffers.{overwrite}
-use Rattle.laws.proofs.Buffers.{four-more, four-anew}
+use Rattle.laws.proofs.Buffers.{four-more}
 use Rattle.answers.proofs.AnswerNumbers.{answer-append, numbers-length}
 use Rattle.answer_table.specs.inner.Rows.{answerRowPut}
 use Rattle.answers.specs.declared.AnswerRow.{AnswerRow}
@@ -26,11 +27,10 @@ module _ (old : List ℕ) (p : Progress) (rest : List AnswerRow) (n : p .rows �
 
   pub row-next : rowWritten (overwrite (answerNumbers (reverse rest)) old) p ≡ overwrite (answerNumbers (reverse (rowOf p ∷ rest))) old
   unfolding rowWritten answerRowPut
-  row-next = four-more s old ((p .rows - 1) * 4) (p .variable) (p .kind) (p .width) (p .number) at-row ∙ ap (λ (l : List ℕ). overwrite l old) (sym (rows-next (rowOf p)))
+  row-next =
+      rw (ne-eqb (p .rows) 0 (omega arith))
+      (four-more s old ((p .rows - 1) * 4) (p .variable) (p .kind) (p .width) (p .number) at-row ∙ ap (λ (l : List ℕ). overwrite l old) (sym (rows-next (rowOf p))))
 
-  pub row-anew : (r : AnswerRow) → rowWritten (overwrite (answerNumbers (reverse (r ∷ rest))) old) p ≡ overwrite (answerNumbers (reverse (rowOf p ∷ rest))) old
-  unfolding rowWritten answerRowPut
-  row-anew r =
-      rw (rows-next r)
-      (four-anew s old ((p .rows - 1) * 4) (p .variable) (p .kind) (p .width) (p .number) (r .variable) (r .kind) (r .width) (r .fresh) at-row
-      ∙ ap (λ (l : List ℕ). overwrite l old) (sym (rows-next (rowOf p))))
+pub row-none : (answer : List ℕ) (p : Progress) → p .rows ≡ 0 → rowWritten answer p ≡ answer
+unfolding rowWritten
+row-none answer p e = rw (eq-eqb (p .rows) 0 e)

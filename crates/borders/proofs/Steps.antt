@@ -1,12 +1,13 @@
 -- What the functions of one place compute, from what they read.
 use mathlib.Core.Path.{_≡_, sym, ap, ap₂, _∙_}
 use mathlib.Core.Logic.{_≢_}
-use mathlib.Core.Bool.{true, false, cond}
+use mathlib.Core.Bool.{Bool, true, false, cond}
 use mathlib.Core.List.{List}
 use Prim.Native.Nat.{ℕ, suc, _+_, _-_, _%_, _≤_, _<_, min}
 use native.Mathlib.Omega.{arith}
 use lib.Dec.{eqb}
 use lib.ListN.{getD, set}
+use lib.Seq.{set-getD}
 use borrow.Author.Tests.{eq-eqb, ne-eqb, lt-ltb, le-ltb}
 use Rattle.answers.specs.inner.Classes.{rep}
 use Rattle.borders.specs.declared.Progress.{Progress}
@@ -27,15 +28,26 @@ module _ (m c : List ℕ) (side k a b x : ℕ) (ea : a ≡ k) (eb : b ≡ side) 
       let f : x ≡ getD m (k + side) 0 = ex ∙ ap₂ (λ (i j : ℕ). getD m (i + j) 0) ea eb in
       rw (ne-eqb (getD m (k + side) 0) 0 (λ e. o (f ∙ e)))
 
--- a mark for the representative of a place
-pub place-marked : (m c u u′ : List ℕ) (side k w r r2 h l at old x : ℕ) → w ≡ k → r ≡ getD c (w + 2) 0 → h ≡ besideIn m c side k
-    → r2 ≡ r - 2 → l ≡ besideIn m c side r2 → at ≡ r → old ≡ getD u at 0 → x ≡ cond (eqb h l) old 1 → u′ ≡ set u at x
-    → u′ ≡ unevenWith m c side k u
-unfolding unevenWith
-place-marked m c u u′ side k w r r2 h l at old x ew er eh e2 el ea eo ex eu =
-    let i : w + 2 ≡ suc (suc k) = omega arith in
-    let f : r ≡ rep c (suc (suc k)) = er ∙ ap (rep c) i in
-    rw (← f, ← e2, ← eh, ← el, ← ea, ← eo, ← ex) eu
+-- a mark for the representative of a place, where its lowest place has another neighbour
+module _ (m c u : List ℕ) (side k w r low : ℕ) (ew : w ≡ k) (er : r ≡ getD c (w + 2) 0) (el : low ≡ r - 2) where
+  read-r : rep c (suc (suc k)) ≡ r
+  read-r = let e : suc (suc k) ≡ w + 2 = omega arith in ap (rep c) e ∙ sym er
+
+  place-even : besideIn m c side k ≡ besideIn m c side low → u ≡ unevenWith m c side k u
+  unfolding unevenWith
+  place-even e = rw (read-r, ← el, eq-eqb (besideIn m c side k) (besideIn m c side low) e, set-getD u r 0)
+
+  pub place-lowest : low ≡ k → u ≡ unevenWith m c side k u
+  place-lowest e = place-even (ap (besideIn m c side) (sym e))
+
+  module _ (h l : ℕ) (eh : h ≡ besideIn m c side k) (es : l ≡ besideIn m c side low) where
+    pub place-alike : h ≡ l → u ≡ unevenWith m c side k u
+    place-alike e = place-even (sym eh ∙ e ∙ es)
+
+    pub place-unlike : h ≢ l → (at : ℕ) (u′ : List ℕ) → at ≡ r → u′ ≡ set u at 1 → u′ ≡ unevenWith m c side k u
+    unfolding unevenWith
+    place-unlike d at u′ ea eu =
+        rw (read-r, ← el, ne-eqb (besideIn m c side k) (besideIn m c side low) (λ e. d (eh ∙ e ∙ sym es)), ← ea) eu
 
 -- whether a place goes on
 module _ (m c af be : List ℕ) (i at x : ℕ) (et : at ≡ i) (ex : x ≡ getD m at 0) where
@@ -86,18 +98,18 @@ module _ (m c af be : List ℕ) (i at x : ℕ) (et : at ≡ i) (ex : x ≡ getD 
         goes-both q = rw (read-mark, eq-eqb x 0 o, read-b, le-ltb b 2 l, read-a, le-ltb a 2 h, read-y, eq-eqb y 0 n, read-z, eq-eqb z 0 q)
 
 -- one place more
-module _ (m c af be numbers : List ℕ) (p : Progress) (i at x begun : ℕ) (et : at ≡ i) (ex : x ≡ getD m at 0) (eb : begun ≡ (p .begun + x) % 65536) where
+module _ (m c numbers : List ℕ) (on : Bool) (p : Progress) (i at x begun : ℕ) (et : at ≡ i) (ex : x ≡ getD m at 0) (eb : begun ≡ (p .begun + x) % 65536) where
   begun-is : begun ≡ (p .begun + getD m i 0) % 65536
   begun-is = eb ∙ ap (λ (y : ℕ). (p .begun + y) % 65536) (ex ∙ ap (λ (j : ℕ). getD m j 0) et)
 
-  pub step-on : goesIn m c af be i ≡ true → (width : ℕ) → width ≡ (p .width + 1) % 65536
-      → record { begun = begun; rows = p .rows; fresh = p .fresh; variable = p .variable; kind = p .kind; width = width; number = p .number } ≡ stepIn m c af be numbers p i
+  pub step-on : on ≡ true → (width : ℕ) → width ≡ (p .width + 1) % 65536
+      → record { begun = begun; rows = p .rows; fresh = p .fresh; variable = p .variable; kind = p .kind; width = width; number = p .number } ≡ stepIn m c numbers on p i
   unfolding stepIn
   step-on g width ew = rw (g, ← begun-is, ← ew)
 
-  pub step-new : goesIn m c af be i ≡ false → (r rows own fresh variable kind number : ℕ) → r ≡ getD c (at + 2) 0 → rows ≡ (p .rows + 1) % 65536
+  pub step-new : on ≡ false → (r rows own fresh variable kind number : ℕ) → r ≡ getD c (at + 2) 0 → rows ≡ (p .rows + 1) % 65536
       → own ≡ cond (eqb r (suc (suc i))) 1 0 → fresh ≡ (p .fresh + own) % 65536 → variable ≡ begun - 1 → kind ≡ min r 2 → number ≡ numberIn numbers r
-      → record { begun = begun; rows = rows; fresh = fresh; variable = variable; kind = kind; width = 1; number = number } ≡ stepIn m c af be numbers p i
+      → record { begun = begun; rows = rows; fresh = fresh; variable = variable; kind = kind; width = 1; number = number } ≡ stepIn m c numbers on p i
   unfolding stepIn
   step-new g r rows own fresh variable kind number er e1 e2 e3 e4 e5 e6 =
       let e : at + 2 ≡ suc (suc i) = omega arith in

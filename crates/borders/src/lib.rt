@@ -2,10 +2,11 @@
 // the representatives whose places have different neighbours; then one pass over the places writes the rows.
 ghost use mathlib.Core.Path.{_≡_};
 ghost use mathlib.Core.Bool.{cond};
-ghost use Prim.Native.Nat.{suc, min};
+ghost use Prim.Native.Nat.{suc, min, _≤_};
 ghost use lib.Dec.{eqb};
+ghost use lib.ListN.{length};
 ghost use Rattle.borders.specs.inner.Rows.{PutsRows};
-ghost use Rattle.borders.specs.inner.Borders.{MarksBegins, besideIn, unevenWith, MarksUneven, goesIn, numberIn, stepIn, rowWritten, PutsPlaces};
+ghost use Rattle.borders.specs.inner.Borders.{MarksBegins, besideIn, unevenWith, MarksUneven, goesIn, numberIn, stepIn, rowWritten, PutsPlaces, PutsWith};
 use answers::AnswerRow;
 
 // How many rows an answer has, and how many fresh pieces.
@@ -56,26 +57,19 @@ fn beside(marks: &[u16], links: &[u16], side: u16, k: u16) -> u16
     0
 }
 
-// A mark after two numbers were compared: 1 if they differ.
-fn marked(old: u16, a: u16, b: u16) -> u16
-    ensures { λ r. ⌜ r ≡ cond (eqb a b) old 1 ⌝ }
-{
-    if a == b {
-        return old;
-    }
-    1
-}
-
 // Marks the representative of place k if its lowest place has another neighbour than place k.
 fn mark_place(marks: &[u16], links: &[u16], side: u16, k: u16, uneven: &mut [u16])
     ensures { λ _. ⌜ now (uneven .exit) ≡ unevenWith (now (marks .entry)) (now (links .entry)) side k (now (uneven .entry)) ⌝ }
 {
     let r = numbers::load(links, numbers::wide(k) + 2);
-    let here = beside(marks, links, side, k);
-    let lowest = beside(marks, links, side, numbers::difference(r, 2));
-    let at = numbers::wide(r);
-    let old = numbers::load(uneven, at);
-    numbers::store(uneven, at, marked(old, here, lowest));
+    let low = numbers::difference(r, 2);
+    if low == k {
+        return;
+    }
+    if beside(marks, links, side, k) == beside(marks, links, side, low) {
+        return;
+    }
+    numbers::store(uneven, numbers::wide(r), 1);
 }
 
 // Marks each representative whose places have different neighbours on one side.
@@ -149,20 +143,12 @@ fn number_of(numbers: &[u16], r: u16) -> u16
 }
 
 // One place more: the last row goes on, or a row begins.
-fn step(
-    marks: &[u16],
-    links: &[u16],
-    after: &[u16],
-    before: &[u16],
-    numbers: &[u16],
-    p: Progress,
-    i: u16,
-) -> Progress
-    ensures { λ q. ⌜ q ≡ stepIn (now (marks .entry)) (now (links .entry)) (now (after .entry)) (now (before .entry)) (now (numbers .entry)) p i ⌝ }
+fn step(marks: &[u16], links: &[u16], numbers: &[u16], on: bool, p: Progress, i: u16) -> Progress
+    ensures { λ q. ⌜ q ≡ stepIn (now (marks .entry)) (now (links .entry)) (now (numbers .entry)) on p i ⌝ }
 {
     let at = numbers::wide(i);
     let begun = numbers::plus(p.begun, numbers::load(marks, at));
-    if goes_on(marks, links, after, before, i) {
+    if on {
         return Progress {
             begun: begun,
             rows: p.rows,
@@ -185,10 +171,13 @@ fn step(
     }
 }
 
-// Writes the last row.
+// Writes the last row, if there is one.
 fn put_row(answer: &mut [u16], p: Progress)
     ensures { λ _. ⌜ now (answer .exit) ≡ rowWritten (now (answer .entry)) p ⌝ }
 {
+    if p.rows == 0 {
+        return;
+    }
     let row = AnswerRow {
         variable: p.variable,
         kind: p.kind,
@@ -196,6 +185,16 @@ fn put_row(answer: &mut [u16], p: Progress)
         fresh: p.number,
     };
     answer_table::put_row(answer, numbers::difference(p.rows, 1), row);
+}
+
+// Writes the last row, unless it goes on.
+fn end_row(answer: &mut [u16], on: bool, p: Progress)
+    ensures { λ _. ⌜ now (answer .exit) ≡ cond on (now (answer .entry)) (rowWritten (now (answer .entry)) p) ⌝ }
+{
+    if on {
+        return;
+    }
+    put_row(answer, p);
 }
 
 // Writes the rows of n places. `numbers` has afterwards, for each place, how many fresh pieces appear before it.
@@ -222,34 +221,83 @@ fn put_places(
     let mut i: u16 = 0;
     while i < n {
         numbers::store(numbers, numbers::wide(i), p.fresh);
-        p = step(marks, links, after, before, numbers, p, i);
-        put_row(answer, p);
+        let on = goes_on(marks, links, after, before, i);
+        end_row(answer, on, p);
+        p = step(marks, links, numbers, on, p, i);
         i += 1;
     }
+    put_row(answer, p);
     Counts {
         pieces: numbers::wide(p.rows),
         fresh: numbers::wide(p.fresh),
     }
 }
 
+// Writes the rows, with the help of lists that have a number for each source.
+fn put_with(
+    table: &[u16],
+    links: &[u16],
+    marks: &mut [u16],
+    after: &mut [u16],
+    before: &mut [u16],
+    numbers: &mut [u16],
+    answer: &mut [u16],
+) -> Counts
+    ensures { λ r. ⌜ PutsWith (now (table .entry)) (now (links .entry)) (now (marks .entry)) (now (after .entry)) (now (before .entry)) (length (now (numbers .entry))) (now (answer .entry)) (now (answer .exit)) (r .pieces) (r .fresh) ⌝ }
+{
+    let n = mark_begins(table, marks);
+    mark_uneven(&marks[..], links, 1, n, &mut after[..]);
+    mark_uneven(&marks[..], links, 0, n, &mut before[..]);
+    put_places(marks, links, after, before, n, numbers, answer)
+}
+
+// The sources of a small table, at most: the two fixed bits and 128 places.
+const FEW: usize = 130;
+
+// Writes the rows of a small table: its lists are short, since each of their numbers is set to 0 first.
+fn put_few(table: &[u16], links: &[u16], answer: &mut [u16]) -> Counts
+    ensures { λ r. ⌜ (length (now (links .entry)) ≤ 130 → PutsRows (now (table .entry)) (now (links .entry)) (now (answer .entry)) (now (answer .exit)) (r .pieces) (r .fresh)) ⌝ }
+{
+    let mut marks = [0u16; FEW];
+    let mut after = [0u16; FEW];
+    let mut before = [0u16; FEW];
+    let mut numbers = [0u16; FEW];
+    put_with(
+        table,
+        links,
+        &mut marks[..],
+        &mut after[..],
+        &mut before[..],
+        &mut numbers[..],
+        answer,
+    )
+}
+
+// Writes the rows of any table.
+fn put_many(table: &[u16], links: &[u16], answer: &mut [u16]) -> Counts
+    ensures { λ r. ⌜ PutsRows (now (table .entry)) (now (links .entry)) (now (answer .entry)) (now (answer .exit)) (r .pieces) (r .fresh) ⌝ }
+{
+    let mut marks = [0u16; 4098];
+    let mut after = [0u16; 4098];
+    let mut before = [0u16; 4098];
+    let mut numbers = [0u16; 4098];
+    put_with(
+        table,
+        links,
+        &mut marks[..],
+        &mut after[..],
+        &mut before[..],
+        &mut numbers[..],
+        answer,
+    )
+}
+
 // Writes the rows of an accepted table whose classes are given: each link is a source's representative.
 pub fn put_rows(table: &[u16], links: &[u16], answer: &mut [u16]) -> Counts
     ensures { λ r. ⌜ PutsRows (now (table .entry)) (now (links .entry)) (now (answer .entry)) (now (answer .exit)) (r .pieces) (r .fresh) ⌝ }
 {
-    let mut marks = [0u16; 4098];
-    let n = mark_begins(table, &mut marks[..]);
-    let mut after = [0u16; 4098];
-    mark_uneven(&marks[..], links, 1, n, &mut after[..]);
-    let mut before = [0u16; 4098];
-    mark_uneven(&marks[..], links, 0, n, &mut before[..]);
-    let mut numbers = [0u16; 4096];
-    put_places(
-        &marks[..],
-        links,
-        &after[..],
-        &before[..],
-        n,
-        &mut numbers[..],
-        answer,
-    )
+    if links.len() <= FEW {
+        return put_few(table, links, answer);
+    }
+    put_many(table, links, answer)
 }

@@ -221,6 +221,16 @@ finding-near h₀ h s x p f e = record {
   same = f .same;
 }
 
+-- two that link to the same source are of one class
+pub link-alike : (h : List ℕ) (s t : ℕ) → getD h s 0 ≡ getD h t 0 → Linked h h s t 0
+link-alike h s t e = record {
+  what = λ c w. sym (linked-same (rep c s) (rep c t) (at c w));
+  next = λ c w n. rw (merge-same c (pair s t) (at c w)) w;
+}
+  where
+    at : (c : List ℕ) → Stands h c → rep c s ≡ rep c t
+    at c w = sym (w .keep s) ∙ ap (rep c) e ∙ w .keep t
+
 -- a pair taken, after its two finds
 module _ (h h1 h2 : List ℕ) (s t a b : ℕ) (f : Found h h1 s a) (g : Found h1 h2 t b) where
   pub link-same : a ≡ b → Linked h h2 s t 0

@@ -14,7 +14,7 @@ use Rattle.laws.proofs.Lists.{map-read}
 use Rattle.laws.proofs.CountUp.{count-at, count-past, count-up}
 use Rattle.laws.proofs.Numbers.{lt-or-le}
 use Rattle.classes.specs.inner.Links.{Low, climb, rootsOf, RootFound, pair, linked, PairTaken}
-use Rattle.classes.proofs.Links.{Canon, start, Stands, Found, Linked, set-low, link-tie}
+use Rattle.classes.proofs.Links.{Canon, start, Stands, Found, Linked, set-low, link-alike, link-tie}
 
 module _ (h : List ℕ) (low : Low h) where
   climb-stay : (n x : ℕ) → getD h x 0 ≡ x → climb n h x ≡ x
@@ -135,6 +135,11 @@ taken-rel h h′ s t r f = record {
   what = λ c w. f .what ∙ ap (λ (v : List ℕ). linked (rep v s) (rep v t)) (roots-are h (w .low) c w);
   next = λ c w n. stands-of h′ (merge c (pair s t)) (f .low) (f .next n ∙ ap (λ (v : List ℕ). merge v (pair s t)) (roots-are h (w .low) c w));
 }
+
+-- a pair of two that link to the same source
+pub taken-alike : (h : List ℕ) (s t a b p q : ℕ) → a ≡ s → p ≡ getD h a 0 → b ≡ t → q ≡ getD h b 0 → p ≡ q → Low h → PairTaken h h s t 0
+taken-alike h s t a b p q ea ep eb eq e k =
+    taken-is h h s t 0 k k (link-alike h s t (ap (λ (i : ℕ). getD h i 0) (sym ea) ∙ sym ep ∙ e ∙ eq ∙ ap (λ (i : ℕ). getD h i 0) eb))
 
 pub taken-tie : (h h1 h2 : List ℕ) (s t a b : ℕ) → Low h → Found h h1 s a → Found h1 h2 t b → length h1 ≡ length h → length h2 ≡ length h1 → a ≢ b → max a b ≢ 1
     → PairTaken h (set h2 (max a b) (min a b)) s t 1

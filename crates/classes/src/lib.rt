@@ -31,8 +31,8 @@ pub enum Pairing {
     Conflict,
 }
 
-// Takes the pair of two sources.
-pub fn take_pair(links: &mut [u16], s: u16, t: u16) -> Pairing
+// Takes the pair of two sources by their roots.
+fn join(links: &mut [u16], s: u16, t: u16) -> Pairing
     ensures { λ r. ⌜ Takes (now (links .entry)) (now (links .exit)) s t (numberOf r) ⌝ }
 {
     let a = find(links, s);
@@ -46,6 +46,19 @@ pub fn take_pair(links: &mut [u16], s: u16, t: u16) -> Pairing
     }
     numbers::store(links, numbers::wide(top), numbers::lower(a, b));
     Pairing::Tie
+}
+
+// Takes the pair of two sources. Two that link to the same source are of one class already, as most are once there are many ties.
+pub fn take_pair(links: &mut [u16], s: u16, t: u16) -> Pairing
+    ensures { λ r. ⌜ Takes (now (links .entry)) (now (links .exit)) s t (numberOf r) ⌝ }
+{
+    let p = numbers::load(links, numbers::wide(s));
+    let q = numbers::load(links, numbers::wide(t));
+    if p == q {
+        Pairing::Nothing
+    } else {
+        join(links, s, t)
+    }
 }
 
 // The closing sweep: each link its root.

@@ -55,22 +55,14 @@ module _ (new old : List ℕ) where
   pub write-all : (i : ℕ) (out : List ℕ) → length new ≤ i → out ≡ overwrite (take i new) old → out ≡ overwrite new old
   write-all i out h o = o ∙ ap (λ (l : List ℕ). overwrite l old) (take-all i new h)
 
--- a store within the new beginning of a buffer, and behind a list
-pub overwrite-set : (new old : List ℕ) (i x : ℕ) → i < length new → set (overwrite new old) i x ≡ overwrite (set new i x) old
-unfolding overwrite
-overwrite-set [] old i x l = absurd (omega arith)
-overwrite-set (y ∷ new) [] zero x l = refl
-overwrite-set (y ∷ new) [] (suc i) x l = refl
-overwrite-set (y ∷ new) (z ∷ old) zero x l = refl
-overwrite-set (y ∷ new) (z ∷ old) (suc i) x l = ap (λ (s : List ℕ). y ∷ s) (overwrite-set new old i x (omega arith))
-
+-- a store behind a list
 pub set-behind : (p q : List ℕ) (j x : ℕ) → set (p ++ q) (length p + j) x ≡ p ++ set q j x
 set-behind [] q j x = let e : 0 + j ≡ j = omega arith in ap (λ (k : ℕ). set q k x) e
 set-behind (y ∷ p) q j x =
     let e : suc (length p) + j ≡ suc (length p + j) = omega arith in
     ap (λ (k : ℕ). set (y ∷ (p ++ q)) k x) e ∙ ap (λ (l : List ℕ). y ∷ l) (set-behind p q j x)
 
--- four stores, in place or behind
+-- four stores behind a list
 pub four-more : (s old : List ℕ) (at a b c d : ℕ) → length s ≡ at
     → setFour (overwrite s old) at a b c d ≡ overwrite (s ++ (a ∷ b ∷ c ∷ d ∷ [])) old
 unfolding setFour
@@ -83,22 +75,6 @@ four-more s old at a b c d e =
     let n3 : length s3 ≡ at + 3 = omega (arith, length-append s2 (c ∷ [])) in
     rw (overwrite-more s old a at e, overwrite-more s1 old b (at + 1) n1, overwrite-more s2 old c (at + 2) n2, overwrite-more s3 old d (at + 3) n3)
     (ap (λ (l : List ℕ). overwrite l old) (simp append-assoc))
-
-pub four-anew : (s old : List ℕ) (at a b c d x y z w : ℕ) → length s ≡ at
-    → setFour (overwrite (s ++ (x ∷ y ∷ z ∷ w ∷ [])) old) at a b c d ≡ overwrite (s ++ (a ∷ b ∷ c ∷ d ∷ [])) old
-unfolding setFour
-four-anew s old at a b c d x y z w e =
-    let e0 : at ≡ length s + 0 = omega arith in
-    let e1 : at + 1 ≡ length s + 1 = omega arith in
-    let e2 : at + 2 ≡ length s + 2 = omega arith in
-    let e3 : at + 3 ≡ length s + 3 = omega arith in
-    ap (λ (o : List ℕ). set (set (set o (at + 1) b) (at + 2) c) (at + 3) d) (one 0 at (x ∷ y ∷ z ∷ w ∷ []) a e0 (omega arith))
-    ∙ ap (λ (o : List ℕ). set (set o (at + 2) c) (at + 3) d) (one 1 (at + 1) (a ∷ y ∷ z ∷ w ∷ []) b e1 (omega arith))
-    ∙ ap (λ (o : List ℕ). set o (at + 3) d) (one 2 (at + 2) (a ∷ b ∷ z ∷ w ∷ []) c e2 (omega arith))
-    ∙ one 3 (at + 3) (a ∷ b ∷ c ∷ w ∷ []) d e3 (omega arith)
-  where
-    one : (j k : ℕ) (q : List ℕ) (v : ℕ) → k ≡ length s + j → j < length q → set (overwrite (s ++ q) old) k v ≡ overwrite (s ++ set q j v) old
-    one j k q v h l = overwrite-set (s ++ q) old k v (omega (arith, length-append s q)) ∙ ap (λ (i : ℕ). overwrite (set (s ++ q) i v) old) h ∙ ap (λ (t : List ℕ). overwrite t old) (set-behind s q j v)
 
 -- four stores one after the other; and none where there is no room
 pub four-stored : (b₀ b₁ b₂ b₃ b₄ : List ℕ) (at a b c d : ℕ) → b₁ ≡ set b₀ at a → b₂ ≡ set b₁ (at + 1) b → b₃ ≡ set b₂ (at + 2) c → b₄ ≡ set b₃ (at + 3) d

@@ -55,7 +55,8 @@ module _ (t : List Row) (p : List ℕ) (r : ℕ) (h : r < length t) where
   unfolding valueIn
   value-equation e = value-row t p r h ∙ rw else-kind
 
-bits-part : (t : List Row) (r : ℕ) → bitsOf (take r t) ≤ bitsOf t
+-- the first rows have no more bits than all
+pub bits-part : (t : List Row) (r : ℕ) → bitsOf (take r t) ≤ bitsOf t
 unfolding bitsOf
 bits-part [] zero = omega arith
 bits-part [] (suc r) = omega arith

@@ -1,5 +1,4 @@
 -- `step` meets its contract. Assumes nothing.
-use mathlib.Core.Path.{sym, _∙_}
 use Rattle.borders.proofs.Steps.{step-on, step-new}
 use borrow.Author.Needs.{needs}
 use Rattle.borders.proofs.step.Statement.{statement}
@@ -14,14 +13,11 @@ load-requires c κs = search needs
 plus-requires : tie.Need-plus-requires
 plus-requires c κs = search needs
 
-goes-on-requires : tie.Need-goes-on-requires
-goes-on-requires c κs = search needs
-
 plus-requires-2 : tie.Need-plus-requires-2
 plus-requires-2 c κs = search needs
 
 returns : tie.Need-returns
-returns c = step-on _ _ _ _ _ _ _ _ _ _ (c .before .before .before .before .before .wide .ensures .0) (c .before .before .before .before .load .ensures) (c .before .before .before .plus .ensures) (sym (c .before .before .goes-on .ensures) ∙ c .before .if1 .taken) _ (c .plus2 .ensures)
+returns c = step-on _ _ _ _ _ _ _ _ _ (c .before .before .before .before .wide .ensures .0) (c .before .before .before .load .ensures) (c .before .before .plus .ensures) (c .before .if1 .taken) _ (c .plus2 .ensures)
 
 add-load : tie.Need-add-load
 add-load c = search needs
@@ -48,7 +44,7 @@ number-of-requires : tie.Need-number-of-requires
 number-of-requires c κs = search needs
 
 returns-2 : tie.Need-returns-2
-returns-2 c = step-new _ _ _ _ _ _ _ _ _ _ (c .before .before .before .before .before .before .before .before .before .before .before .wide .ensures .0) (c .before .before .before .before .before .before .before .before .before .before .load .ensures) (c .before .before .before .before .before .before .before .before .before .plus .ensures) (sym (c .before .before .before .before .before .before .before .before .goes-on .ensures) ∙ c .before .before .before .before .before .before .before .if1 .left) _ _ _ _ _ _ _ (c .before .before .before .before .before .before .load2 .ensures) (c .before .before .before .before .before .plus3 .ensures) (c .before .before .before .before .own .ensures) (c .before .before .before .plus4 .ensures) (c .before .before .difference .ensures) (c .before .kind-of .ensures) (c .number-of .ensures)
+returns-2 c = step-new _ _ _ _ _ _ _ _ _ (c .before .before .before .before .before .before .before .before .before .before .wide .ensures .0) (c .before .before .before .before .before .before .before .before .before .load .ensures) (c .before .before .before .before .before .before .before .before .plus .ensures) (c .before .before .before .before .before .before .before .if1 .left) _ _ _ _ _ _ _ (c .before .before .before .before .before .before .load2 .ensures) (c .before .before .before .before .before .plus3 .ensures) (c .before .before .before .before .own .ensures) (c .before .before .before .plus4 .ensures) (c .before .before .difference .ensures) (c .before .kind-of .ensures) (c .number-of .ensures)
 
 pub step-spec : {M : Type 1} → statement M
 step-spec =
@@ -57,7 +53,6 @@ step-spec =
     wide-requires
     load-requires
     plus-requires
-    goes-on-requires
     plus-requires-2
     returns
     add-load

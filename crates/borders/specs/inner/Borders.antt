@@ -17,6 +17,7 @@ use Rattle.laws.specs.Lists.{below, tally}
 use Rattle.answers.specs.declared.AnswerRow.{AnswerRow}
 use Rattle.answer_table.specs.inner.Rows.{answerRowPut}
 use Rattle.borders.specs.declared.Progress.{Progress}
+use Rattle.borders.specs.inner.Rows.{PutsRows}
 
 -- A list of zeros.
 abbrev pub Zeros : List ℕ → Type 0
@@ -29,7 +30,7 @@ pub record BeginsMarked (table marks : List ℕ) (n : ℕ) : Type 0 where
 
 -- What the marking of an accepted table promises.
 abbrev pub MarksBegins : List ℕ → List ℕ → List ℕ → ℕ → Type 0
-MarksBegins table old marks n = firstFault table ≡ Accepted → Zeros old → 4096 < length old → BeginsMarked table marks n
+MarksBegins table old marks n = firstFault table ≡ Accepted → Zeros old → bitsOf (rowsOf table) < length old → BeginsMarked table marks n
 
 -- The representative of the neighbour of place k: side 0 the place before it, side 1 the place after it; 0 where a variable begins
 -- between the two.
@@ -64,9 +65,9 @@ unfoldable pub numberIn : List ℕ → ℕ → ℕ
 numberIn numbers r = cond (ltb r 2) 0 (getD numbers (r - 2) 0)
 
 -- One place more: the last row goes on, or a row begins.
-unfoldable pub stepIn : List ℕ → List ℕ → List ℕ → List ℕ → List ℕ → Progress → ℕ → Progress
-stepIn marks classes after before numbers p i =
-    cond (goesIn marks classes after before i)
+unfoldable pub stepIn : List ℕ → List ℕ → List ℕ → Bool → Progress → ℕ → Progress
+stepIn marks classes numbers on p i =
+    cond on
     (record {
       begun = (p .begun + getD marks i 0) % 65536;
       rows = p .rows;
@@ -86,12 +87,12 @@ stepIn marks classes after before numbers p i =
       number = numberIn numbers (rep classes (suc (suc i)));
     })
 
--- The last row of the places passed, and the answer table with it written.
+-- The last row of the places passed, and the answer table with it written; no place has none.
 abbrev pub rowOf : Progress → AnswerRow
 rowOf p = record { variable = p .variable; kind = p .kind; width = p .width; fresh = p .number }
 
 unfoldable pub rowWritten : List ℕ → Progress → List ℕ
-rowWritten answer p = answerRowPut answer (p .rows - 1) (rowOf p)
+rowWritten answer p = cond (eqb (p .rows) 0) answer (answerRowPut answer (p .rows - 1) (rowOf p))
 
 -- The lists that the pass over the places reads: the n places of the variables ws, their classes, the places where a variable begins,
 -- and the representatives whose places have different neighbours after or before them.
@@ -114,5 +115,11 @@ pub record PlacesPut (n : ℕ) (ws classes answer answer′ : List ℕ) (pieces 
 -- What the pass over the places promises, where `numbers` has room for a number for each place.
 abbrev pub PutsPlaces : ℕ → List ℕ → List ℕ → List ℕ → List ℕ → List ℕ → List ℕ → List ℕ → ℕ → ℕ → Type 0
 PutsPlaces n marks classes after before numbers answer answer′ pieces fresh =
-    (ws : List ℕ) (seen : List Pair) → Bordered n ws classes seen marks after before → 4096 ≤ length numbers
+    (ws : List ℕ) (seen : List Pair) → Bordered n ws classes seen marks after before → n ≤ length numbers
     → PlacesPut n ws classes answer answer′ pieces fresh
+
+-- What the writing of a table's rows promises, where the lists that help have a number for each source, and those of marks are 0.
+abbrev pub PutsWith : List ℕ → List ℕ → List ℕ → List ℕ → List ℕ → ℕ → List ℕ → List ℕ → ℕ → ℕ → Type 0
+PutsWith table classes marks after before numbersRoom answer answer′ pieces fresh =
+    Zeros marks → Zeros after → Zeros before → length classes ≤ length marks → length classes ≤ length after → length classes ≤ length before
+    → length classes ≤ numbersRoom → PutsRows table classes answer answer′ pieces fresh

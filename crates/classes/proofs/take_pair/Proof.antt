@@ -1,79 +1,46 @@
--- `take_pair` meets its contract, for each of the three that a pair can be. Assumes nothing.
-use mathlib.Core.Path.{sym, _∙_}
-use native.Mathlib.Omega.{arith}
-use Rattle.classes.proofs.Roots.{found-rel, taken-is, taken-tie}
-use Rattle.classes.proofs.Links.{link-same, link-conflict}
+-- `take_pair` meets its contract: two that link to the same source say nothing new. Assumes nothing.
+use Rattle.classes.proofs.Roots.{taken-alike}
+use borrow.Author.Needs.{needs}
 use Rattle.classes.proofs.take_pair.Statement.{statement}
 use Rattle.classes.proofs.take_pair.Tie as tie
 
-find-requires : tie.Need-find-requires
-find-requires c κs = tt
+wide-requires : tie.Need-wide-requires
+wide-requires c κs = search needs
 
-find-requires-2 : tie.Need-find-requires-2
-find-requires-2 c κs = tt
+load-requires : tie.Need-load-requires
+load-requires c κs = search needs
+
+wide-requires-2 : tie.Need-wide-requires-2
+wide-requires-2 c κs = search needs
+
+load-requires-2 : tie.Need-load-requires-2
+load-requires-2 c κs = search needs
+
+join-requires : tie.Need-join-requires
+join-requires c κs = search needs
 
 same-length : tie.Need-same-length
-same-length c = c .before .before .before .find2 .kept .0 ∙ c .before .before .before .before .before .before .before .find .kept .0
+same-length c = search needs
 
 returns : tie.Need-returns
-returns c =
-    let a = c .before .before .before .before .before .before .before .find in
-    let b = c .before .before .before .find2 in
-    λ low hs ht.
-    let f = a .ensures low hs in
-    let g = b .ensures (f .low) (omega (arith, ht, a .kept .0)) in
-    taken-is _ _ _ _ _ low (g .low) (link-same _ (a .last .0) (b .last .0) _ _ (a .result) (b .result) (found-rel _ _ _ _ f) (found-rel _ _ _ _ g) (c .if1 .taken))
-
-higher-requires : tie.Need-higher-requires
-higher-requires c κs = tt
+returns c = λ low hs ht. taken-alike _ _ _ _ _ _ _ (c .before .before .before .before .before .wide .ensures .0) (c .before .before .before .before .load .ensures) (c .before .before .wide2 .ensures .0) (c .before .load2 .ensures) (c .if1 .taken) low
 
 same-length-2 : tie.Need-same-length-2
-same-length-2 c = c .before .before .before .before .before .find2 .kept .0 ∙ c .before .before .before .before .before .before .before .before .before .find .kept .0
+same-length-2 c = search needs
 
 returns-2 : tie.Need-returns-2
-returns-2 c =
-    let a = c .before .before .before .before .before .before .before .before .before .find in
-    let b = c .before .before .before .before .before .find2 in
-    λ low hs ht.
-    let f = a .ensures low hs in
-    let g = b .ensures (f .low) (omega (arith, ht, a .kept .0)) in
-    taken-is _ _ _ _ _ low (g .low) (link-conflict _ (a .last .0) (b .last .0) _ _ (a .result) (b .result) (found-rel _ _ _ _ f) (found-rel _ _ _ _ g) (c .before .before .if1 .left) (sym (c .before .higher .ensures) ∙ c .if2 .taken))
-
-wide-requires : tie.Need-wide-requires
-wide-requires c κs = tt
-
-lower-requires : tie.Need-lower-requires
-lower-requires c κs = tt
-
-store-requires : tie.Need-store-requires
-store-requires c κs = tt
-
-same-length-3 : tie.Need-same-length-3
-same-length-3 c = c .before .before .store .kept .0 ∙ c .before .before .before .before .before .before .before .before .before .before .before .find2 .kept .0 ∙ c .before .before .before .before .before .before .before .before .before .before .before .before .before .before .before .find .kept .0
-
-returns-3 : tie.Need-returns-3
-returns-3 c =
-    let a = c .before .before .before .before .before .before .before .before .before .before .before .before .before .before .before .find in
-    let b = c .before .before .before .before .before .before .before .before .before .before .before .find2 in
-    λ low hs ht.
-    let f = a .ensures low hs in
-    let g = b .ensures (f .low) (omega (arith, ht, a .kept .0)) in
-    rw (c .before .before .store .ensures, c .before .before .before .before .wide .ensures .0, c .before .before .before .lower .ensures, c .before .before .before .before .before .before .before .higher .ensures)
-    (taken-tie _ (a .last .0) (b .last .0) _ _ (a .result) (b .result) low (found-rel _ _ _ _ f) (found-rel _ _ _ _ g) (a .kept .0) (b .kept .0) (c .before .before .before .before .before .before .before .before .if1 .left) (λ e. c .before .before .before .before .before .before .if2 .left (c .before .before .before .before .before .before .before .higher .ensures ∙ e)))
+returns-2 c = c .before .before .join .ensures
 
 pub take-pair-spec : {M : Type 1} → statement M
 take-pair-spec =
     tie.close
     (tie.spec
-    find-requires
-    find-requires-2
+    wide-requires
+    load-requires
+    wide-requires-2
+    load-requires-2
+    join-requires
     same-length
     returns
-    higher-requires
     same-length-2
-    returns-2
-    wide-requires
-    lower-requires
-    store-requires
-    same-length-3
-    returns-3)
+    returns-2)
