@@ -39,7 +39,8 @@ read-came bytes len (pos zero) e = absurd (omega (arith, ltb-false 0 1 e))
 read-came bytes len (pos (suc k)) e = refl
 read-came bytes len (negsuc k) e = let z : _≡_ {A = ℕ} 0 1 = cc in absurd (omega arith)
 
-pub came-within : (room : ℕ) (got : ℤ) → ltZ got (pos 1) ≡ false → Moved room got → T (nonNeg got) × (natAbs got ≤ room)
+-- not below 0
+pub came-within : (room : ℕ) (got : ℤ) → ltZ got (pos 0) ≡ false → Moved room got → T (nonNeg got) × (natAbs got ≤ room)
 came-within room (pos k) e m = (tt, m)
 came-within room (negsuc k) e m = let z : _≡_ {A = ℕ} 0 1 = cc in absurd (omega arith)
 

@@ -18,7 +18,7 @@ back d = toZ-ofZ w64 (d .args .got) (d .fits .got)
 
 -- what has come lies within the room
 within : (d : tie.Else2) → T (nonNeg (d .before .before .args .got)) × (natAbs (d .before .before .args .got) ≤ 16385 - d .before .before .args .len)
-within d = came-within _ (d .before .before .args .got) (rw (back (d .before .before)) at (d .if2 .left)) (d .before .before .pre .1)
+within d = came-within _ (d .before .before .args .got) (rw (back (d .before .before)) at (d .before .if1 .left)) (d .before .before .pre .1)
 
 returns : tie.Need-returns
 returns c = read-failed _ _ (c .before .args .got) (rw (back (c .before)) at (c .if1 .taken))
