@@ -105,7 +105,8 @@ static const char *const texture[TEXTURES] = {"none", "url(#stripes)", "url(#dot
 
 static const char textures[] =
     "<defs>\n"
-    "<pattern id=\"stripes\" width=\"7\" height=\"7\" patternUnits=\"userSpaceOnUse\" patternTransform=\"rotate(45)\">\n"
+    "<pattern id=\"stripes\" width=\"7\" height=\"7\" patternUnits=\"userSpaceOnUse\""
+    " patternTransform=\"rotate(45)\">\n"
     "<rect width=\"3\" height=\"7\" fill-opacity=\"0.4\"/></pattern>\n"
     "<pattern id=\"dots\" width=\"8\" height=\"8\" patternUnits=\"userSpaceOnUse\">\n"
     "<circle cx=\"4\" cy=\"4\" r=\"2\" fill-opacity=\"0.5\"/></pattern>\n"
@@ -178,8 +179,8 @@ static void begin_picture(lw_record r, unsigned width, unsigned height)
     bool none = r.outcome != LW_ALWAYS && r.outcome != LW_SOLVED;
     unsigned x = none ? MARGIN + SIGN : MARGIN;
 
-    printf("<svg xmlns=\"http://www.w3.org/2000/svg\" width=\"%u\" height=\"%u\" viewBox=\"0 0 %u %u\" role=\"img\">\n",
-           width, height, width, height);
+    printf("<svg xmlns=\"http://www.w3.org/2000/svg\" width=\"%u\" height=\"%u\" viewBox=\"0 0 %u %u\""
+           " role=\"img\">\n", width, height, width, height);
     printf("<title>");
     print_heading(r, false);
     printf("</title>\n%s%s", style, r.fresh > COLOURS ? textures : "");
@@ -193,8 +194,8 @@ static void begin_picture(lw_record r, unsigned width, unsigned height)
     print_heading(r, true);
     printf("</text>\n");
     begin_text("record", x, MARGIN + 42);
-    printf("outcome %" PRIu32 ", pieces %" PRIu32 ", fresh %" PRIu32 ", free %" PRIu32 ", ties %" PRIu32 ", row %" PRIu32
-           "</text>\n", r.outcome, r.pieces, r.fresh, r.free, r.ties, r.row);
+    printf("outcome %" PRIu32 ", pieces %" PRIu32 ", fresh %" PRIu32 ", free %" PRIu32 ", ties %" PRIu32
+           ", row %" PRIu32 "</text>\n", r.outcome, r.pieces, r.fresh, r.free, r.ties, r.row);
 }
 
 static void end_picture(void)
