@@ -90,9 +90,9 @@ bool print_plain(subject *in, size_t count)
     printf("|---|---:|---:|---:|---:|---|\n");
     for (size_t k = 0; k < count; k++)
         met &= print_plain_row(&in[k]);
-    printf("\nBoth check the table and write the same answer. `lw_solve` also leaves the work area's 16,384 numbers 0, which\n"
-           "is most of its time for the smallest tables; the solver in C keeps its arrays between calls, so two calls of it\n"
-           "cannot run at once. Without rows it has nothing to do.\n");
+    printf("\nBoth check the table and write the same answer. `lw_solve` also leaves the work area's 16,384 numbers 0,\n"
+           "which is most of its time for the smallest tables. The solver in C keeps its arrays between calls, so that\n"
+           "two threads cannot use it at once; without rows it has nothing to do.\n");
     return met;
 }
 

@@ -34,7 +34,8 @@ positive table a =
     rows : List Row
     rows = rowsOf table
 
-bits-most : (table : List ℕ) → firstFault table ≡ Accepted → bitsOf (rowsOf table) ≤ 4096
+-- and all variables together have at most 4,096
+pub bits-most : (table : List ℕ) → firstFault table ≡ Accepted → bitsOf (rowsOf table) ≤ 4096
 bits-most table a =
     let t = accepted-table table a in
     omega (arith, totals-small (rowsOf table) (length (rowsOf table)) (t .sound) .1, ap bitsOf (take-all (length (rowsOf table)) (rowsOf table) (omega arith)))

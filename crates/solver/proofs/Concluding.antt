@@ -6,7 +6,6 @@ use mathlib.Core.List.{List}
 use Prim.Native.Nat.{ℕ, suc, _-_, _%_, _≤_, _<_}
 use native.Mathlib.Omega.{arith}
 use lib.ListN.{length}
-use lib.Seq.{take-all}
 use Rattle.terms.specs.declared.Record.{Record}
 use Rattle.terms.specs.declared.Row.{Row}
 use Rattle.terms.specs.declared.Fault.the-variants.{Accepted}
@@ -16,7 +15,6 @@ use Rattle.terms.specs.Faults.{firstFault}
 use Rattle.laws.specs.Buffers.{overwrite}
 use Rattle.terms.specs.Calls.{completed}
 use Rattle.terms.proofs.AcceptedTable.{accepted-table}
-use Rattle.terms.proofs.Faults.{totals-small}
 use Rattle.laws.proofs.Tallies.{tally-most}
 use Rattle.answers.specs.Pairs.{Pair, equationPairs}
 use Rattle.answers.specs.inner.Classes.{inClass}
@@ -28,6 +26,7 @@ use Rattle.answers.proofs.Theorems.{links-before}
 use Rattle.answers.proofs.Demands.{solved-sum, solved-appear}
 use Rattle.classes.specs.inner.Links.{rootsOf}
 use Rattle.borders.specs.inner.Rows.{RowsPut, PutsRows}
+use Rattle.borders.proofs.Answering.{bits-most}
 use Rattle.solver.specs.inner.Equations.{EquationsTaken}
 use Rattle.solver.specs.inner.Call.{answerOver, Answered}
 
@@ -62,7 +61,7 @@ module _ (table : List ℕ) (accepted : firstFault table ≡ Accepted) (links an
       record { record-is = b; answer-is = rw a refl }
 
   few-bits : n ≤ 4096
-  few-bits = rw (take-all (length t) t (omega arith)) at (totals-small t (length t) (accepted-table table accepted .sound) .1)
+  few-bits = bits-most table accepted
 
   pub conclude-always : length t ≤ row → ties ≡ 0 → (bits : ℕ) → bits ≡ n → (r : Record) → r ≡ completed 0 (bits % 4294967296) → Answered t answer answer r
   unfolding answerOver

@@ -2,7 +2,7 @@
 // sides); each pair joins the classes of its two bits (classes), until two different fixed bits meet; the classes give the answer's
 // rows (borders).
 ghost use mathlib.Core.Path.{_≡_};
-ghost use Prim.Native.Nat.{_%_};
+ghost use Prim.Native.Nat.{_%_, _≤_, suc};
 ghost use lib.ListN.{length};
 ghost use Rattle.answers.specs.Solve.{solveRecord, answerAfter, workAfter};
 ghost use Rattle.solver.specs.inner.Equations.{TakesEquations};
@@ -109,14 +109,14 @@ fn answer_table(
     places: &[u16],
     bits: usize,
     links: &mut [u16],
+    form: &mut [u16],
     answer: &mut [u16],
 ) -> Record
-    ensures { λ r. ⌜ AnswersTable (now (table .entry)) (now (widths .entry)) (now (places .entry)) bits (now (links .entry)) (now (answer .entry)) (now (answer .exit)) r ⌝ }
+    ensures { λ r. ⌜ (length (now (links .entry)) ≡ suc (suc bits) → AnswersTable (now (table .entry)) (now (widths .entry)) (now (places .entry)) bits (length (now (form .entry))) (now (answer .entry)) (now (answer .exit)) r) ⌝ }
 {
     let mut short = [0u16; 2048];
     let len = sides::shorten(table, &mut short[..]);
     let lows = numbers::lesser(terms::MAX_ROWS + 1, places.len());
-    let mut form = [0u16; 4096];
     let mut left = [0u16; 1024];
     let mut right = [0u16; 1024];
     unlink(links);
@@ -125,7 +125,7 @@ fn answer_table(
         widths,
         places,
         &places[lows..],
-        &mut form[..],
+        form,
         &mut left[..],
         &mut right[..],
         links,
@@ -133,21 +133,64 @@ fn answer_table(
     conclude(table, bits, taken.row, taken.ties, links, answer)
 }
 
-// The answer of an accepted table, in a work area that has room for it.
+// The same for a small table, of at most 128 variable bits: its links are few, since each is set to 0 first.
+fn answer_few(
+    table: &[u16],
+    widths: &[u16],
+    places: &[u16],
+    bits: usize,
+    form: &mut [u16],
+    answer: &mut [u16],
+) -> Record
+    ensures { λ r. ⌜ (bits ≤ 128 → AnswersTable (now (table .entry)) (now (widths .entry)) (now (places .entry)) bits (length (now (form .entry))) (now (answer .entry)) (now (answer .exit)) r) ⌝ }
+{
+    let mut links = [0u16; 130];
+    let sources = numbers::lesser(bits, 128) + 2;
+    answer_table(
+        table,
+        widths,
+        places,
+        bits,
+        &mut links[..sources],
+        form,
+        answer,
+    )
+}
+
+// The same for any table.
+fn answer_many(
+    table: &[u16],
+    widths: &[u16],
+    places: &[u16],
+    bits: usize,
+    form: &mut [u16],
+    answer: &mut [u16],
+) -> Record
+    ensures { λ r. ⌜ AnswersTable (now (table .entry)) (now (widths .entry)) (now (places .entry)) bits (length (now (form .entry))) (now (answer .entry)) (now (answer .exit)) r ⌝ }
+{
+    let mut links = [0u16; 4098];
+    let sources = numbers::lesser(bits, terms::MAX_BITS) + 2;
+    answer_table(
+        table,
+        widths,
+        places,
+        bits,
+        &mut links[..sources],
+        form,
+        answer,
+    )
+}
+
+// The answer of an accepted table, in a work area that has room for the normal form of a side.
 fn solve_accepted(table: &[u16], widths: &[u16], answer: &mut [u16], work: &mut [u16]) -> Record
     ensures { λ r. ⌜ SolvesAccepted (now (table .entry)) (now (widths .entry)) (now (answer .entry)) (now (answer .exit)) (length (now (work .entry))) r ⌝ }
 {
     let mut places = [0u16; 577];
     let bits = checker::place(table, &mut places[..]);
-    let sources = numbers::lesser(numbers::lesser(bits, terms::MAX_BITS) + 2, work.len());
-    answer_table(
-        table,
-        widths,
-        &places[..],
-        bits,
-        &mut work[..sources],
-        answer,
-    )
+    if bits <= 128 {
+        return answer_few(table, widths, &places[..], bits, work, answer);
+    }
+    answer_many(table, widths, &places[..], bits, work, answer)
 }
 
 // How many numbers the answer table and the work area have at least.

@@ -6,7 +6,7 @@ use native.Mathlib.Omega.{arith}
 use lib.ListN.{length, take, drop}
 use lib.Seq.{take-length, length-take-le}
 use denote.Ref.{now}
-use Rattle.terms.specs.Table.{rowsOf}
+use Rattle.terms.specs.Table.{rowsOf, bitsOf}
 use Rattle.laws.specs.Lists.{countUp}
 use Rattle.terms.proofs.AcceptedTable.{accepted-table}
 use Rattle.terms.proofs.Faults.{totals-small}
@@ -56,9 +56,6 @@ slice-aggregate-take-equations-2 c = search needs
 slice-aggregate-take-equations-3 : tie.Need-slice-aggregate-take-equations-3
 slice-aggregate-take-equations-3 c = search needs
 
-slice-aggregate-take-equations-4 : tie.Need-slice-aggregate-take-equations-4
-slice-aggregate-take-equations-4 c = search needs
-
 take-equations-requires : tie.Need-take-equations-requires
 take-equations-requires c κs = search needs
 
@@ -71,21 +68,25 @@ same-length c = search needs
 same-length-2 : tie.Need-same-length-2
 same-length-2 c = search needs
 
+same-length-3 : tie.Need-same-length-3
+same-length-3 c = search needs
+
 returns : tie.Need-returns
 returns c =
-    λ accepted widths variables sources long bits len room.
-    let table = now (c .before .before .before .before .before .before .before .before .before .before .before .before .before .before .before .before .before .before .before .before .before .before .before .before .before .before .before .before .before .before .before .before .args .table) in
+    λ linked accepted widths variables sources long bits form room.
+    let table = now (c .before .before .before .before .before .before .before .before .before .before .before .before .before .before .before .before .before .before .before .before .before .before .before .before .before .before .before .before .before .before .before .before .before .before .args .table) in
+    let len : length (now (c .before .before .before .before .before .before .before .before .before .before .before .before .before .before .before .before .before .before .before .before .before .before .before .before .before .before .before .before .before .before .before .before .before .before .args .links)) ≡ suc (suc (bitsOf (rowsOf table))) = linked ∙ ap (λ (n : ℕ). suc (suc n)) bits in
     let totals = rw (take-length (rowsOf table)) at (totals-small (rowsOf table) (length (rowsOf table)) (accepted-table table accepted .sound)) in
-    let made = c .before .before .before .before .before .before .before .before .before .before .before .before .before .before .before .before .before .before .before .before .before .before .before .before .before .shorten .ensures .1 accepted (omega arith) in
-    let short : List ℕ = take (c .before .before .before .before .before .before .before .before .before .before .before .before .before .before .before .before .before .before .before .before .before .before .before .before .before .shorten .result) (c .before .before .before .before .before .before .before .before .before .before .before .before .before .before .before .before .before .before .before .before .before .before .before .before .before .shorten .last .1 .0) in
-    let size : length short ≡ length table = copy-length table (c .before .before .before .before .before .before .before .before .before .before .before .before .before .before .before .before .before .before .before .before .before .before .before .before .before .shorten .last .1 .0) (c .before .before .before .before .before .before .before .before .before .before .before .before .before .before .before .before .before .before .before .before .before .before .before .before .before .shorten .result) 2048 (made .0) (c .before .before .before .before .before .before .before .before .before .before .before .before .before .before .before .before .before .before .before .before .before .before .before .before .before .shorten .ensures .0) (c .before .before .before .before .before .before .before .before .before .before .before .before .before .before .before .before .before .before .before .before .before .before .before .before .before .shorten .kept .1 .0) in
-    let places = now (c .before .before .before .before .before .before .before .before .before .before .before .before .before .before .before .before .before .before .before .before .before .before .before .before .before .before .before .before .before .before .before .before .args .places) in
-    let ready : Prepared short (now (c .before .before .before .before .before .before .before .before .before .before .before .before .before .before .before .before .before .before .before .before .before .before .before .before .before .before .before .before .before .before .before .before .args .widths)) places (take (length places - c .before .before .before .before .before .before .before .before .before .before .before .before .before .before .before .before .before .before .before .before .before .before .before .lesser .result) (drop (c .before .before .before .before .before .before .before .before .before .before .before .before .before .before .before .before .before .before .before .before .before .before .before .lesser .result) places)) =
+    let made = c .before .before .before .before .before .before .before .before .before .before .before .before .before .before .before .before .before .before .before .before .before .before .before .before .before .before .shorten .ensures .1 accepted (omega arith) in
+    let short : List ℕ = take (c .before .before .before .before .before .before .before .before .before .before .before .before .before .before .before .before .before .before .before .before .before .before .before .before .before .before .shorten .result) (c .before .before .before .before .before .before .before .before .before .before .before .before .before .before .before .before .before .before .before .before .before .before .before .before .before .before .shorten .last .1 .0) in
+    let size : length short ≡ length table = copy-length table (c .before .before .before .before .before .before .before .before .before .before .before .before .before .before .before .before .before .before .before .before .before .before .before .before .before .before .shorten .last .1 .0) (c .before .before .before .before .before .before .before .before .before .before .before .before .before .before .before .before .before .before .before .before .before .before .before .before .before .before .shorten .result) 2048 (made .0) (c .before .before .before .before .before .before .before .before .before .before .before .before .before .before .before .before .before .before .before .before .before .before .before .before .before .before .shorten .ensures .0) (c .before .before .before .before .before .before .before .before .before .before .before .before .before .before .before .before .before .before .before .before .before .before .before .before .before .before .shorten .kept .1 .0) in
+    let places = now (c .before .before .before .before .before .before .before .before .before .before .before .before .before .before .before .before .before .before .before .before .before .before .before .before .before .before .before .before .before .before .before .before .before .before .args .places) in
+    let ready : Prepared short (now (c .before .before .before .before .before .before .before .before .before .before .before .before .before .before .before .before .before .before .before .before .before .before .before .before .before .before .before .before .before .before .before .before .before .before .args .widths)) places (take (length places - c .before .before .before .before .before .before .before .before .before .before .before .before .before .before .before .before .before .before .before .before .before .before .before .before .lesser .result) (drop (c .before .before .before .before .before .before .before .before .before .before .before .before .before .before .before .before .before .before .before .before .before .before .before .before .lesser .result) places)) =
     copy-prepared table short accepted size (made .1) _ _ _ widths variables
-    (λ v h. lows-part places (c .before .before .before .before .before .before .before .before .before .before .before .before .before .before .before .before .before .before .before .before .before .before .before .lesser .result) v (c .before .before .before .before .before .before .before .before .before .before .before .before .before .before .before .before .before .before .before .before .before .before .before .lesser .ensures .0) long (omega (arith, totals .0)) ∙ sources (suc v) h) in
-    let alone : c .before .before .before .before .before .before .before .before .before .before .before .before .before .before .before .before .before .before .before .before .before .unlink .last .0 ≡ unlinked (rowsOf short) =
-    c .before .before .before .before .before .before .before .before .before .before .before .before .before .before .before .before .before .before .before .before .before .unlink .ensures (omega (arith, len, totals .1)) ∙ ap (countUp 0) len ∙ ap (λ (n : ℕ). countUp 0 (suc (suc n))) (sym (copy-bits table short accepted size (made .1))) in
-    let taken = c .before .before .before .before .before .before .before .before .before .before .before .before .take-equations .ensures ready (omega arith) (omega arith) (omega arith) alone in
+    (λ v h. lows-part places (c .before .before .before .before .before .before .before .before .before .before .before .before .before .before .before .before .before .before .before .before .before .before .before .before .lesser .result) v (c .before .before .before .before .before .before .before .before .before .before .before .before .before .before .before .before .before .before .before .before .before .before .before .before .lesser .ensures .0) long (omega (arith, totals .0)) ∙ sources (suc v) h) in
+    let alone : c .before .before .before .before .before .before .before .before .before .before .before .before .before .before .before .before .before .before .before .before .before .before .unlink .last .0 ≡ unlinked (rowsOf short) =
+    c .before .before .before .before .before .before .before .before .before .before .before .before .before .before .before .before .before .before .before .before .before .before .unlink .ensures (omega (arith, len, totals .1)) ∙ ap (countUp 0) len ∙ ap (λ (n : ℕ). countUp 0 (suc (suc n))) (sym (copy-bits table short accepted size (made .1))) in
+    let taken = c .before .before .before .before .before .before .before .before .before .before .before .before .before .take-equations .ensures ready form (omega arith) (omega arith) alone in
     c .before .before .before .before .conclude .ensures accepted bits (copy-taken table short accepted size (made .1) _ _ _ taken) room
 
 pub answer-table-spec : {M : Type 1} → statement M
@@ -105,9 +106,9 @@ answer-table-spec =
     part-take-equations-end
     slice-aggregate-take-equations-2
     slice-aggregate-take-equations-3
-    slice-aggregate-take-equations-4
     take-equations-requires
     conclude-requires
     same-length
     same-length-2
+    same-length-3
     returns)

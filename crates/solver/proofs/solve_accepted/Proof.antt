@@ -1,14 +1,11 @@
 -- `solve_accepted` meets its contract. Assumes nothing.
-use borrow.Author.Needs.{needs}
-use mathlib.Core.Path.{_≡_, sym, ap, _∙_}
-use Prim.Native.Nat.{_≤_}
+use mathlib.Core.Path.{ap, _∙_}
 use native.Mathlib.Omega.{arith}
-use lib.ListN.{length}
-use lib.Seq.{take-all, take-length, length-take-le}
+use lib.Seq.{take-all}
 use denote.Ref.{now}
 use Rattle.terms.specs.Table.{rowsOf, bitsOf}
 use Rattle.terms.proofs.AcceptedTable.{accepted-table}
-use Rattle.terms.proofs.Faults.{totals-small}
+use borrow.Author.Needs.{needs}
 use Rattle.solver.proofs.solve_accepted.Statement.{statement}
 use Rattle.solver.proofs.solve_accepted.Tie as tie
 
@@ -18,26 +15,11 @@ slice-aggregate-place c = search needs
 place-requires : tie.Need-place-requires
 place-requires c κs = search needs
 
-lesser-requires : tie.Need-lesser-requires
-lesser-requires c κs = search needs
+slice-aggregate-answer-few : tie.Need-slice-aggregate-answer-few
+slice-aggregate-answer-few c = search needs
 
-add-lesser : tie.Need-add-lesser
-add-lesser c = search needs
-
-lesser-requires-2 : tie.Need-lesser-requires-2
-lesser-requires-2 c κs = search needs
-
-slice-aggregate-answer-table : tie.Need-slice-aggregate-answer-table
-slice-aggregate-answer-table c = search needs
-
-slice-relend-prefix-answer-table : tie.Need-slice-relend-prefix-answer-table
-slice-relend-prefix-answer-table c = search needs
-
-slice-aggregate-answer-table-2 : tie.Need-slice-aggregate-answer-table-2
-slice-aggregate-answer-table-2 c = sym (length-take-le (c .before .before .lesser2 .result) (now (c .before .before .before .before .before .before .before .before .before .before .before .args .work)) (c .before .before .lesser2 .ensures .1))
-
-answer-table-requires : tie.Need-answer-table-requires
-answer-table-requires c κs = search needs
+answer-few-requires : tie.Need-answer-few-requires
+answer-few-requires c κs = search needs
 
 same-length : tie.Need-same-length
 same-length c = search needs
@@ -48,14 +30,28 @@ same-length-2 c = search needs
 returns : tie.Need-returns
 returns c =
     λ accepted widths room memory.
-    let bits : c .before .before .before .before .before .before .before .before .before .before .before .place .result ≡ bitsOf (rowsOf (now (c .before .before .before .before .before .before .before .before .before .before .before .before .before .before .before .before .before .args .table))) =
-    c .before .before .before .before .before .before .before .before .before .before .before .place .ensures .0 ∙ ap bitsOf (take-all 512 (rowsOf (now (c .before .before .before .before .before .before .before .before .before .before .before .before .before .before .before .before .before .args .table))) (accepted-table _ accepted .few)) in
-    let few = totals-small (rowsOf (now (c .before .before .before .before .before .before .before .before .before .before .before .before .before .before .before .before .before .args .table))) (length (rowsOf (now (c .before .before .before .before .before .before .before .before .before .before .before .before .before .before .before .before .before .args .table)))) (accepted-table _ accepted .sound) .1 in
-    let small : bitsOf (rowsOf (now (c .before .before .before .before .before .before .before .before .before .before .before .before .before .before .before .before .before .args .table))) ≤ 4096 = rw (take-length (rowsOf (now (c .before .before .before .before .before .before .before .before .before .before .before .before .before .before .before .before .before .args .table)))) at few in
-    c .before .before .before .before .answer-table .ensures accepted widths (c .before .before .before .before .before .before .before .before .before .before .before .place .ensures .1 .0 accepted (omega arith)) (c .before .before .before .before .before .before .before .before .before .before .before .place .ensures .1 .1 accepted (omega arith))
-    (omega (arith, c .before .before .before .before .before .before .before .before .before .before .before .place .kept .1 .0)) bits
-    (length-take-le (c .before .before .before .before .before .before .before .before .lesser2 .result) (now (c .before .before .before .before .before .before .before .before .before .before .before .before .before .before .before .before .before .args .work)) (c .before .before .before .before .before .before .before .before .lesser2 .ensures .1)
-    ∙ omega (arith, c .before .before .before .before .before .before .before .before .lesser2 .ensures .0, c .before .before .before .before .before .before .before .before .before .lesser .ensures .0, bits, small, memory)) room
+    let bits = c .before .before .before .before .before .before .before .before .before .before .place .ensures .0 ∙ ap bitsOf (take-all 512 (rowsOf (now (c .before .before .before .before .before .before .before .before .before .before .before .before .before .before .before .before .args .table))) (accepted-table _ accepted .few)) in
+    c .before .before .before .before .answer-few .ensures (c .before .before .before .before .before .before .before .before .if1 .taken) accepted widths (c .before .before .before .before .before .before .before .before .before .before .place .ensures .1 .0 accepted (omega arith)) (c .before .before .before .before .before .before .before .before .before .before .place .ensures .1 .1 accepted (omega arith))
+    (omega (arith, c .before .before .before .before .before .before .before .before .before .before .place .kept .1 .0)) bits (omega arith) room
+
+slice-aggregate-answer-many : tie.Need-slice-aggregate-answer-many
+slice-aggregate-answer-many c = search needs
+
+answer-many-requires : tie.Need-answer-many-requires
+answer-many-requires c κs = search needs
+
+same-length-3 : tie.Need-same-length-3
+same-length-3 c = search needs
+
+same-length-4 : tie.Need-same-length-4
+same-length-4 c = search needs
+
+returns-2 : tie.Need-returns-2
+returns-2 c =
+    λ accepted widths room memory.
+    let bits = c .before .before .before .before .before .before .before .before .before .before .place .ensures .0 ∙ ap bitsOf (take-all 512 (rowsOf (now (c .before .before .before .before .before .before .before .before .before .before .before .before .before .before .before .before .args .table))) (accepted-table _ accepted .few)) in
+    c .before .before .before .before .answer-many .ensures accepted widths (c .before .before .before .before .before .before .before .before .before .before .place .ensures .1 .0 accepted (omega arith)) (c .before .before .before .before .before .before .before .before .before .before .place .ensures .1 .1 accepted (omega arith))
+    (omega (arith, c .before .before .before .before .before .before .before .before .before .before .place .kept .1 .0)) bits (omega arith) room
 
 pub solve-accepted-spec : {M : Type 1} → statement M
 solve-accepted-spec =
@@ -63,13 +59,13 @@ solve-accepted-spec =
     (tie.spec
     slice-aggregate-place
     place-requires
-    lesser-requires
-    add-lesser
-    lesser-requires-2
-    slice-aggregate-answer-table
-    slice-relend-prefix-answer-table
-    slice-aggregate-answer-table-2
-    answer-table-requires
+    slice-aggregate-answer-few
+    answer-few-requires
     same-length
     same-length-2
-    returns)
+    returns
+    slice-aggregate-answer-many
+    answer-many-requires
+    same-length-3
+    same-length-4
+    returns-2)

@@ -36,13 +36,13 @@ Concludes table bits row ties links answer answer′ found =
     firstFault table ≡ Accepted → bits ≡ bitsOf (rowsOf table) → EquationsTaken (rowsOf table) links row ties → 16384 ≤ length answer
     → Answered (rowsOf table) answer answer′ found
 
--- The same, from the table's widths and the places of its variables, with a link for each source.
-abbrev pub AnswersTable : List ℕ → List ℕ → List ℕ → ℕ → List ℕ → List ℕ → List ℕ → Record → Type 0
-AnswersTable table widths places bits links answer answer′ found =
+-- The same, from the table's widths and the places of its variables, with room for the normal form of a side.
+abbrev pub AnswersTable : List ℕ → List ℕ → List ℕ → ℕ → ℕ → List ℕ → List ℕ → Record → Type 0
+AnswersTable table widths places bits formRoom answer answer′ found =
     firstFault table ≡ Accepted → ((r : ℕ) → r < length (rowsOf table) → getD widths r 0 ≡ widthOf (rowsOf table) r)
     → ((r : ℕ) → r < length (rowsOf table) → getD places r 0 ≡ countKind 0 (take r (rowsOf table)))
     → ((v : ℕ) → v ≤ countKind 0 (rowsOf table) → getD places (512 + v) 0 ≡ sourceBefore (rowsOf table) v) → 577 ≤ length places
-    → bits ≡ bitsOf (rowsOf table) → length links ≡ suc (suc (bitsOf (rowsOf table))) → 16384 ≤ length answer
+    → bits ≡ bitsOf (rowsOf table) → 4096 ≤ formRoom → 16384 ≤ length answer
     → Answered (rowsOf table) answer answer′ found
 
 -- The same, from the table's widths, with room in the answer table and in the work area.
