@@ -4,6 +4,7 @@ use mathlib.Core.Path.{_≡_, refl, sym, ap, _∙_}
 use mathlib.Core.Bool.{true}
 use mathlib.Core.List.{List}
 use Prim.Native.Nat.{ℕ, _<_}
+use native.Mathlib.Omega.{arith}
 use lib.ListN.{length, getD, replicate}
 use denote.Ref.{now}
 use borrow.Author.Tests.{not-true, not-false}
@@ -24,7 +25,7 @@ refuse-requires : tie.Need-refuse-requires
 refuse-requires c κs = search needs
 
 returns : tie.Need-returns
-returns c = stop-answer _ _ _ (c .before .if1 .taken) _ (c .refuse .ensures)
+returns c = stop-answer _ (now (c .before .before .before .before .before .args .answer)) _ (omega (arith, c .before .if1 .taken)) _ (c .refuse .ensures)
 
 refuse-requires-2 : tie.Need-refuse-requires-2
 refuse-requires-2 c κs = search needs
