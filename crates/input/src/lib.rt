@@ -66,7 +66,8 @@ impl Input {
         }
     }
 
-    // One read more: what was read stays where it is, and what comes stands behind it.
+    // One read more: what was read stays where it is, and what comes stands behind it. No contract says what a read gives, so nothing proves
+    // that the bytes and the answer handed on here are those of the read.
     fn more(self) -> Input
         requires { ⌜ InBounds self ⌝ }
         ensures { λ r. ⌜ GoesOn self r ⌝ }

@@ -16,10 +16,6 @@ use Rattle.input.proofs.after.Tie as tie
 back : (d : tie.Start) → toZ w64 (ofZ w64 (d .args .got)) ≡ d .args .got
 back d = toZ-ofZ w64 (d .args .got) (d .fits .got)
 
--- what has come lies within the room
-within : (d : tie.Else2) → T (nonNeg (d .before .before .args .got)) × (natAbs (d .before .before .args .got) ≤ 16385 - d .before .before .args .len)
-within d = came-within _ (d .before .before .args .got) (rw (back (d .before .before)) at (d .before .if1 .left)) (d .before .before .pre .1)
-
 returns : tie.Need-returns
 returns c = read-failed _ _ (c .before .args .got) (rw (back (c .before)) at (c .if1 .taken))
 
@@ -27,6 +23,10 @@ returns-2 : tie.Need-returns-2
 returns-2 c =
     let e = back (c .before .before) in
     read-ended _ _ (c .before .before .args .got) (rw e at (c .before .if1 .left)) (rw e at (c .if2 .taken))
+
+-- what has come lies within the room
+within : (d : tie.Else2) → T (nonNeg (d .before .before .args .got)) × (natAbs (d .before .before .args .got) ≤ 16385 - d .before .before .args .len)
+within d = came-within _ (d .before .before .args .got) (rw (back (d .before .before)) at (d .before .if1 .left)) (d .before .before .pre .1)
 
 cast-t7 : tie.Need-cast-t7
 cast-t7 c = rw (back (c .before .before)) (within c .0, record { fits = omega (arith, within c .1) })
