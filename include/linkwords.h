@@ -295,12 +295,12 @@ extern "C" {
 #define LW_STACK_VALUE             43456
 #define LW_STACK_NORMAL_FORM      125056
 #define LW_STACK_READ_SHEET         4288
-#define LW_STACK_SOLVE            173696
+#define LW_STACK_SOLVE            174144
 #define LW_STACK_RIGHT_SIDE           64
 #define LW_STACK_MAKE_PATTERN      16576
 #define LW_STACK_VALUE_ROWS        47616
 #define LW_STACK_NORMAL_FORM_ROWS 129216
-#define LW_STACK_SOLVE_ROWS       177792
+#define LW_STACK_SOLVE_ROWS       178240
 
 /* the record */
 
