@@ -6,3 +6,4 @@ pub mod Numbers
 pub mod Tallies
 pub mod CountUp
 pub mod Least
+pub mod Binary

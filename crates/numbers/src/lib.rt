@@ -1,7 +1,7 @@
 // Numbers: read and written where they are there, added and compared within their widths.
 ghost use mathlib.Core.Path.{_≡_};
 ghost use mathlib.Core.Bool.{cond};
-ghost use Prim.Native.Nat.{_+_, _-_, _%_, _≤_, min, max};
+ghost use Prim.Native.Nat.{_+_, _-_, _/_, _%_, _^_, _≤_, min, max};
 ghost use lib.Dec.{eqb};
 ghost use lib.ListN.{getD, length, replicate, set, take};
 ghost use Rattle.laws.specs.Lists.{allBits};
@@ -131,6 +131,16 @@ pub fn lower(a: u16, b: u16) -> u16
         return a;
     }
     b
+}
+
+// Bit i of a number, counted from the low end.
+pub fn bit_of(x: u16, i: usize) -> u16
+    ensures { λ r. ⌜ (r ≡ x / 2 ^ i % 2) × (r ≤ 1) ⌝ }
+{
+    if 15 < i {
+        return 0;
+    }
+    (x >> i) % 2
 }
 
 // x in 32 bits.
