@@ -1,17 +1,20 @@
--- What was appended to a buffer's form: sources one after the other, and the sources of one piece.
-use mathlib.Core.Path.{_≡_, refl, sym, _∙_, ap}
+-- What was appended to a buffer's form: sources one after the other, the sources of one piece, and the bits of a number.
+use mathlib.Core.Path.{_≡_, refl, sym, _∙_, ap, ap₂}
 use mathlib.Core.List.{List, [], _∷_, _++_, map, append-assoc, append-nil}
-use Prim.Native.Nat.{ℕ, _+_, _-_, _≤_}
+use Prim.Native.Nat.{ℕ, suc, _+_, _-_, _/_, _%_, _^_, _≤_}
 use native.Mathlib.Omega.{arith}
 use lib.ListN.{length, length-append}
 use Rattle.terms.specs.declared.Row.{Row}
+use Rattle.laws.specs.Binary.{binary}
 use Rattle.laws.specs.Buffers.{overwrite}
+use Rattle.laws.proofs.Binary.{bit-half}
 use Rattle.laws.proofs.Buffers.{overwrite-length}
 use Rattle.laws.proofs.Lists.{map-append}
 use Rattle.forms.specs.declared.Piece.{Piece}
-use Rattle.forms.specs.Form.{group, pieceOf, formFrom, numbersOf, pieceWidth, formWidth, formOf, addAll}
+use Rattle.forms.specs.Form.{fill, add, group, pieceOf, formFrom, numbersOf, pieceWidth, formWidth, formOf, addAll}
 use Rattle.appender.specs.inner.Append.{Has, Appended}
 use Rattle.pieces.specs.inner.Pieces.{pushedCount, pushedNumbers}
+use Rattle.forms.proofs.Places.{constant-piece}
 use Rattle.forms.proofs.Maximal.{pushed, group-push}
 use Rattle.forms.specs.Proper.{Proper, AllProper, some}
 use Rattle.pieces.proofs.Pushing.{pushed-form}
@@ -66,6 +69,26 @@ module _ (t : List Row) (xs : List ℕ) (q : Piece) (single : formFrom t xs ≡ 
 
   pub appended-push : (n : ℕ) (out : List ℕ) (m : ℕ) (out′ : List ℕ) → m ≡ pushedCount out n q → out′ ≡ pushedNumbers out n q → Appended t xs n out m out′
   appended-push n out m out′ em eo = rw (em, eo) (appended-piece n out)
+
+-- one bit
+single-bit : (t : List Row) (b : ℕ) → b ≤ 1 → formFrom t (b ∷ []) ≡ fill b 0 ∷ []
+unfolding formFrom group addAll add
+single-bit t b h = ap (λ (p : Piece). p ∷ []) (constant-piece t b h)
+
+-- one bit more of bits top down of a number, behind k of them: bit top - k
+pub appended-bit : (t : List Row) (a top k n m : ℕ) (out out₁ : List ℕ) → k ≤ top → Appended t (binary k (a / 2 ^ (top + 1 - k))) n out m out₁
+    → (i b : ℕ) → i ≡ top - k → b ≡ a / 2 ^ i % 2 → (q : Piece) → q ≡ fill b 0 → (m′ : ℕ) (out₂ : List ℕ) → m′ ≡ pushedCount out₁ m q → out₂ ≡ pushedNumbers out₁ m q
+    → Appended t (binary (k + 1) (a / 2 ^ (top + 1 - (k + 1)))) n out m′ out₂
+unfolding binary
+appended-bit t a top k n m out out₁ l f i b ei eb q eq m′ out₂ em eo =
+    let more : k + 1 ≡ suc k = omega arith in
+    let last : top + 1 - (k + 1) ≡ i = omega arith in
+    let before : top + 1 - k ≡ suc i = omega arith in
+    rw (last, more)
+    (appended-same t (binary k (a / 2 ^ (top + 1 - k)) ++ (b ∷ [])) (binary (suc k) (a / 2 ^ i)) n m′ out out₂
+    (ap₂ (λ (h x : ℕ). binary k h ++ (x ∷ [])) (ap (λ (e : ℕ). a / 2 ^ e) before ∙ sym (bit-half a i)) eb)
+    (appended-both t (binary k (a / 2 ^ (top + 1 - k))) (b ∷ []) n m m′ out out₁ out₂ f
+    (appended-push t (b ∷ []) q (single-bit t b (omega arith) ∙ ap (λ (p : Piece). p ∷ []) (sym eq)) m out₁ m′ out₂ em eo)))
 
 -- what was appended to nothing is a row's form
 pub appended-form : (t : List Row) (row : ℕ) (base : List ℕ) (n : ℕ) (out : List ℕ) → length (sourceOf t row) ≤ 1024 → 4096 ≤ length base

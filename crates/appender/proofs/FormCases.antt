@@ -1,44 +1,56 @@
 -- What the form functions append, case by case, from what the calls in them append (document 001, figure 3).
 use mathlib.Core.Path.{_≡_, refl, sym, _∙_, ap}
-use mathlib.Core.Bool.{Bool, true, false}
+use mathlib.Core.Bool.{Bool, true, false, _||_}
 use mathlib.Core.List.{List, [], _∷_, _++_, append-nil}
 use mathlib.Core.Logic.{_⊎_, inl, inr}
-use Prim.Native.Nat.{ℕ, _+_, _-_, _%_, _<_, _≤_}
+use Prim.Native.Nat.{ℕ, _+_, _-_, _/_, _%_, _^_, _<_, _≤_}
 use native.Mathlib.Omega.{arith}
 use lib.Dec.{eqb, ltb}
 use lib.ListN.{getD}
 use borrow.Author.Tests.{eqb-true, eqb-false, eq-eqb, ne-eqb, lt-ltb, le-ltb}
 use Rattle.laws.proofs.Bools.{or-first, or-second}
 use Rattle.laws.proofs.Numbers.{lt-or-le}
+use Rattle.laws.specs.Binary.{binary}
 use Rattle.terms.specs.declared.Row.{Row}
 use Rattle.terms.specs.Table.{rowsOf, rowAt, widthOf, sourceOf, extract}
 use Rattle.terms.specs.Faults.{absent}
-use Rattle.forms.specs.declared.Piece.{Piece}
 use Rattle.forms.specs.Form.{part, formFrom}
 use Rattle.forms.specs.inner.Numbered.{Numbered}
-use Rattle.forms.proofs.RowForms.{width-some, width-read, whole-cut, first-earlier, concat-left, variable-cut, constant-cut, cut-there, cut-bounds, cut-sources, shifted-within, shifted-small, cut-cut, left-there, right-there, right-earlier, both-sources, right-cut, left-cut, left-within, across}
-use Rattle.pieces.specs.inner.Pieces.{pushedCount, pushedNumbers}
+use Rattle.forms.proofs.RowForms.{width-some, width-value, width-read, whole-cut, first-earlier, concat-left, variable-cut, constant-cut, value-cut, cut-there, cut-bounds, cut-sources, shifted-within, shifted-small, cut-cut, left-there, right-there, right-earlier, both-sources, right-cut, left-cut, left-within, across}
 use Rattle.appender.specs.declared.Cut.{Cut}
 use Rattle.appender.specs.declared.Part.{Part}
-use Rattle.appender.specs.inner.Cuts.{isLeaf, leafPiece, AppendsForm, AppendsCut, leftBits, rightBits, partSources, Within, AppendsPart, AppendsParts}
-use Rattle.appender.proofs.Appending.{appended-none, appended-push, appended-same, appended-both}
+use Rattle.appender.specs.inner.Cuts.{isLeaf, leafPiece, AppendsLeaf, AppendsForm, AppendsCut, leftBits, rightBits, partSources, Within, AppendsPart, AppendsParts}
+use Rattle.appender.proofs.Appending.{appended-none, appended-same, appended-both}
 
--- a row that is no leaf is neither a variable nor a constant
-no-variable : (kind : ℕ) → isLeaf kind ≡ false → kind ≡ 0 → ⊥
-unfolding isLeaf
-no-variable kind h = eqb-false kind 0 (or-first (eqb kind 0) (eqb kind 1) h)
+-- a row that is no leaf is neither a variable nor a constant nor a value
+record Inner (kind : ℕ) : Type 0 where
+  no-variable : kind ≡ 0 → ⊥
+  no-constant : kind ≡ 1 → ⊥
+  no-value : kind ≡ 5 → ⊥
 
-no-constant : (kind : ℕ) → isLeaf kind ≡ false → kind ≡ 1 → ⊥
+inner-kind : (kind : ℕ) → isLeaf kind ≡ false → Inner kind
 unfolding isLeaf
-no-constant kind h = eqb-false kind 1 (or-second (eqb kind 0) (eqb kind 1) h)
+inner-kind kind h =
+    let first = or-first (eqb kind 0 || eqb kind 1) (eqb kind 5) h in
+    record {
+      no-variable = eqb-false kind 0 (or-first (eqb kind 0) (eqb kind 1) first);
+      no-constant = eqb-false kind 1 (or-second (eqb kind 0) (eqb kind 1) first);
+      no-value = eqb-false kind 5 (or-second (eqb kind 0 || eqb kind 1) (eqb kind 5) h);
+    }
 
-leaf-kind : (kind : ℕ) → isLeaf kind ≡ true → (kind ≡ 0) ⊎ (kind ≡ 1)
+data Leaf (kind : ℕ) : Type 0 where
+  a-variable : kind ≡ 0 → Leaf kind
+  a-constant : kind ≡ 1 → Leaf kind
+  a-value : kind ≡ 5 → Leaf kind
+
+leaf-kind : (kind : ℕ) → isLeaf kind ≡ true → Leaf kind
 unfolding isLeaf
-leaf-kind kind h = go (eqb kind 0) refl
+leaf-kind kind h = go (eqb kind 0) refl (eqb kind 1) refl
   where
-    go : (b : Bool) → eqb kind 0 ≡ b → (kind ≡ 0) ⊎ (kind ≡ 1)
-    go true e = inl (eqb-true kind 0 e)
-    go false e = inr (eqb-true kind 1 (rw e at h))
+    go : (b : Bool) → eqb kind 0 ≡ b → (c : Bool) → eqb kind 1 ≡ c → Leaf kind
+    go true e c f = a-variable (eqb-true kind 0 e)
+    go false e true f = a-constant (eqb-true kind 1 f)
+    go false e false f = a-value (eqb-true kind 5 (rw (e, f) at h))
 
 -- a row of an accepted table, which was read as r
 module _ (table widths variables : List ℕ) (num : Numbered table widths variables) (row : ℕ) (there : absent (rowsOf table) row ≡ false)
@@ -52,50 +64,59 @@ module _ (table widths variables : List ℕ) (num : Numbered table widths variab
   kind-is : r .kind ≡ at .kind
   kind-is = ap (λ (x : Row). x .kind) read
 
-  -- bits of a leaf are one piece
-  leaf-cut : isLeaf (r .kind) ≡ true → (high low : ℕ) → low ≤ high → high < widthOf rows row
+  -- bits of a variable or of a constant are one piece, bits of a value those of its number
+  leaf-cut : isLeaf (r .kind) ≡ true → (r .kind ≡ 5 → ⊥) → (high low : ℕ) → low ≤ high → high < widthOf rows row
       → formFrom rows (extract (sourceOf rows row) high low) ≡ leafPiece r (getD variables row 0) high low ∷ []
   unfolding leafPiece
-  leaf-cut e high low l h = go (leaf-kind (r .kind) e)
+  leaf-cut e other high low l h = go (leaf-kind (r .kind) e)
     where
-      go : (r .kind ≡ 0) ⊎ (r .kind ≡ 1) → formFrom rows (extract (sourceOf rows row) high low) ≡ leafPiece r (getD variables row 0) high low ∷ []
-      go (inl k) = rw (eq-eqb (r .kind) 0 k) (variable-cut table widths variables num row there (sym kind-is ∙ k) high low l h)
-      go (inr k) = rw (k, ap (λ (x : Row). x .a) read) (constant-cut table widths variables num row there (sym kind-is ∙ k) high low l h)
+      go : Leaf (r .kind) → formFrom rows (extract (sourceOf rows row) high low) ≡ leafPiece r (getD variables row 0) high low ∷ []
+      go (a-variable k) = rw (eq-eqb (r .kind) 0 k) (variable-cut table widths variables num row there (sym kind-is ∙ k) high low l h)
+      go (a-constant k) = rw (k, ap (λ (x : Row). x .a) read) (constant-cut table widths variables num row there (sym kind-is ∙ k) high low l h)
+      go (a-value k) = absurd (other k)
+
+  bits-cut : r .kind ≡ 5 → (high low : ℕ) → low ≤ high → high < widthOf rows row
+      → extract (sourceOf rows row) high low ≡ binary (high + 1 - low) (r .a / 2 ^ low)
+  bits-cut k high low l h =
+      value-cut table widths variables num row there (sym kind-is ∙ k) high low l h ∙ ap (λ (x : Row). binary (high + 1 - low) (x .a / 2 ^ low)) (sym read)
 
   leaf-wide : isLeaf (r .kind) ≡ true → 1 ≤ widthOf rows row
   leaf-wide e = go (leaf-kind (r .kind) e)
     where
-      go : (r .kind ≡ 0) ⊎ (r .kind ≡ 1) → 1 ≤ widthOf rows row
-      go (inl k) = width-some table widths variables num row there (omega (arith, kind-is))
-      go (inr k) = width-some table widths variables num row there (omega (arith, kind-is))
+      go : Leaf (r .kind) → 1 ≤ widthOf rows row
+      go (a-variable k) = width-some table widths variables num row there (omega (arith, kind-is))
+      go (a-constant k) = width-some table widths variables num row there (omega (arith, kind-is))
+      go (a-value k) = width-value table widths variables num row there (sym kind-is ∙ k)
 
   -- what is named is earlier
   named-first : isLeaf (r .kind) ≡ false → r .a < row
   named-first inner =
+      let i = inner-kind (r .kind) inner in
       omega (
         arith,
         ap (λ (x : Row). x .a) read,
-        first-earlier table widths variables num row there (λ h. no-variable (r .kind) inner (kind-is ∙ h)) (λ h. no-constant (r .kind) inner (kind-is ∙ h)),
+        first-earlier table widths variables num row there (λ h. i .no-variable (kind-is ∙ h)) (λ h. i .no-constant (kind-is ∙ h)) (λ h. i .no-value (kind-is ∙ h)),
       )
 
   is-join : isLeaf (r .kind) ≡ false → (r .kind ≡ 3 → ⊥) → at .kind ≡ 2
   is-join inner other =
-      concat-left table widths variables num row there (λ h. no-variable (r .kind) inner (kind-is ∙ h)) (λ h. no-constant (r .kind) inner (kind-is ∙ h)) (λ h. other (kind-is ∙ h))
+      let i = inner-kind (r .kind) inner in
+      concat-left table widths variables num row there (λ h. i .no-variable (kind-is ∙ h)) (λ h. i .no-constant (kind-is ∙ h)) (λ h. i .no-value (kind-is ∙ h)) (λ h. other (kind-is ∙ h))
 
   named-second : isLeaf (r .kind) ≡ false → (r .kind ≡ 3 → ⊥) → r .b < row
   named-second inner other = omega (arith, ap (λ (x : Row). x .b) read, right-earlier table widths variables num row there (is-join inner other))
 
 -- `put_form` at a row, which it read as r
 module _ (table widths variables : List ℕ) (row : ℕ) (r : Row) (read : r ≡ rowAt (rowsOf table) row) (n : ℕ) (out : List ℕ) (m : ℕ) (out′ : List ℕ) where
-  pub form-leaf : isLeaf (r .kind) ≡ true → (v high : ℕ) → v ≡ getD variables row 0 → high ≡ getD widths row 0 - 1 → (q : Piece) → q ≡ leafPiece r v high 0
-      → m ≡ pushedCount out n q → out′ ≡ pushedNumbers out n q → AppendsForm table widths variables row n out m out′
-  form-leaf e v high ev eh q eq em eo num there =
+  pub form-leaf : isLeaf (r .kind) ≡ true → (v high : ℕ) → v ≡ getD variables row 0 → high ≡ getD widths row 0 - 1
+      → AppendsLeaf r v high 0 n out m out′ → AppendsForm table widths variables row n out m out′
+  form-leaf e v high ev eh f num there =
       let w = width-read table widths variables num row there row there in
       let some = leaf-wide table widths variables num row there r read e in
       let whole = whole-cut table widths variables num row there high 0 (omega arith) refl in
-      appended-push _ _ q
-      (ap (formFrom (rowsOf table)) (sym whole) ∙ leaf-cut table widths variables num row there r read e high 0 (omega arith) (omega arith) ∙ rw (eq, ev))
-      n out m out′ em eo
+      f (rowsOf table) (sourceOf (rowsOf table) row) (omega arith)
+      (λ k. sym whole ∙ bits-cut table widths variables num row there r read k high 0 (omega arith) (omega arith))
+      (λ k. ap (formFrom (rowsOf table)) (sym whole) ∙ leaf-cut table widths variables num row there r read e k high 0 (omega arith) (omega arith) ∙ rw ev)
 
   pub form-first-later : isLeaf (r .kind) ≡ false → (a : ℕ) → a ≡ r .a → row ≤ a → AppendsForm table widths variables row n out m out′
   form-first-later inner a ea l num there = absurd (omega (arith, named-first table widths variables num row there r read inner))
@@ -220,10 +241,12 @@ module _ (table widths variables : List ℕ) (cut : Cut) (row : ℕ) (er : row �
   abbrev here : Row
   here = rowAt (rowsOf table) (cut .row)
 
-  pub cut-leaf : isLeaf (r .kind) ≡ true → (v : ℕ) → v ≡ getD variables row 0 → (q : Piece) → q ≡ leafPiece r v (cut .high) (cut .low)
-      → m ≡ pushedCount out n q → out′ ≡ pushedNumbers out n q → AppendsCut table widths variables cut n out m out′
-  cut-leaf e v ev q eq em eo num there l h =
-      appended-push _ _ q (leaf-cut table widths variables num (cut .row) there r read-at e (cut .high) (cut .low) l h ∙ rw (eq, ev, er)) n out m out′ em eo
+  pub cut-leaf : isLeaf (r .kind) ≡ true → (v : ℕ) → v ≡ getD variables row 0
+      → AppendsLeaf r v (cut .high) (cut .low) n out m out′ → AppendsCut table widths variables cut n out m out′
+  cut-leaf e v ev f num there l h =
+      f (rowsOf table) _ l
+      (λ k. bits-cut table widths variables num (cut .row) there r read-at k (cut .high) (cut .low) l h)
+      (λ k. leaf-cut table widths variables num (cut .row) there r read-at e k (cut .high) (cut .low) l h ∙ rw (ev, er))
 
   pub cut-first-later : isLeaf (r .kind) ≡ false → (a : ℕ) → a ≡ r .a → row ≤ a → AppendsCut table widths variables cut n out m out′
   cut-first-later inner a ea s num there l h = absurd (omega (arith, er, named-first table widths variables num (cut .row) there r read-at inner))

@@ -1,10 +1,11 @@
 // Normal forms appended to a buffer (document 01, "Normal form"; document 001, section 5 and figure 3).
 // Normalising a row and normalising a cut of a row call each other, a cut of a join by way of its parts, and the row number falls from each
-// of their calls to the next. Each leaf, a variable or a constant or a part of one, is appended to the form so far as one piece, and made one
-// with the last piece where they meet. So the two phases of figure 3 are one pass, and what stands in the buffer is always the normal form of
-// the bits that were met.
+// of their calls to the next. Each leaf, a variable or a constant or a part of one, is appended to the form so far as one piece, a value or a
+// part of one as one piece for each bit, and each piece is made one with the last one where they meet. So the two phases of figure 3 are one
+// pass, and what stands in the buffer is always the normal form of the bits that were met.
 ghost use mathlib.Core.Path.{_≡_};
-ghost use Rattle.appender.specs.inner.Cuts.{isLeaf, leafPiece, AppendsForm, AppendsCut, leftBits, rightBits, AppendsPart, AppendsParts};
+ghost use Rattle.forms.specs.Form.{fill};
+ghost use Rattle.appender.specs.inner.Cuts.{isLeaf, leafPiece, AppendsBits, AppendsLeaf, AppendsForm, AppendsCut, leftBits, rightBits, AppendsPart, AppendsParts};
 use forms::Piece;
 use terms::Row;
 
@@ -72,17 +73,20 @@ fn right_bits(row: u16, right: u16, cut: Cut) -> Part
     part_of(row, right, numbers::difference(right, 1), cut.low)
 }
 
-// Whether a row of this kind names no other row: a variable or a constant.
+// Whether a row of this kind names no other row: a variable, a constant or a value.
 fn leaf(kind: u16) -> bool
     ensures { λ r. ⌜ r ≡ isLeaf kind ⌝ }
 {
     if kind == terms::VARIABLE {
         return true;
     }
-    kind == terms::CONSTANT
+    if kind == terms::CONSTANT {
+        return true;
+    }
+    kind == terms::VALUE
 }
 
-// The piece that bits high to low of a leaf are, where v is a variable's number.
+// The piece that bits high to low of a variable or a constant are, where v is a variable's number.
 fn leaf_piece(r: Row, v: u16, high: u16, low: u16) -> Piece
     ensures { λ p. ⌜ p ≡ leafPiece r v high low ⌝ }
 {
@@ -103,6 +107,45 @@ fn leaf_piece(r: Row, v: u16, high: u16, low: u16) -> Piece
     }
 }
 
+// The piece of one bit.
+fn bit_piece(bit: u16) -> Piece
+    ensures { λ p. ⌜ p ≡ fill bit 0 ⌝ }
+{
+    Piece {
+        kind: bit,
+        variable: 0,
+        high: 0,
+        low: 0,
+    }
+}
+
+// Appends bits high to low of a number, one by one from the high end.
+fn put_bits(number: u16, high: u16, low: u16, out: &mut [u16], n: usize) -> usize
+    ensures { λ m. ⌜ AppendsBits number high low n (now (out .entry)) m (now (out .exit)) ⌝ }
+{
+    let top = numbers::wide(high);
+    let count = numbers::minus(top + 1, numbers::wide(low));
+    let mut m = n;
+    let mut k = 0;
+    while k < count {
+        let bit = numbers::bit_of(number, numbers::minus(top, k));
+        m = pieces::push(out, m, bit_piece(bit));
+        k += 1;
+    }
+    m
+}
+
+// Appends bits high to low of a leaf, where v is a variable's number.
+fn put_leaf(r: Row, v: u16, high: u16, low: u16, out: &mut [u16], n: usize) -> usize
+    ensures { λ m. ⌜ AppendsLeaf r v high low n (now (out .entry)) m (now (out .exit)) ⌝ }
+{
+    let kind = r.kind;
+    if kind == terms::VALUE {
+        return put_bits(r.a, high, low, out, n);
+    }
+    pieces::push(out, n, leaf_piece(r, v, high, low))
+}
+
 // Appends the normal form of a row.
 pub fn put_form(
     table: &[u16],
@@ -119,7 +162,7 @@ pub fn put_form(
     if leaf(kind) {
         let v = numbers::load(variables, row);
         let high = numbers::difference(numbers::load(widths, row), 1);
-        return pieces::push(out, n, leaf_piece(r, v, high, 0));
+        return put_leaf(r, v, high, 0, out, n);
     }
     let a = numbers::wide(r.a);
     if row <= a {
@@ -153,7 +196,7 @@ fn put_cut(
     let kind = r.kind;
     if leaf(kind) {
         let v = numbers::load(variables, row);
-        return pieces::push(out, n, leaf_piece(r, v, cut.high, cut.low));
+        return put_leaf(r, v, cut.high, cut.low, out, n);
     }
     let a = numbers::wide(r.a);
     if row <= a {

@@ -15,7 +15,7 @@ use Rattle.terms.specs.declared.Row.{Row}
 use Rattle.terms.specs.declared.Fault.{Fault}
 use Rattle.terms.specs.declared.Fault.the-variants.{Accepted, Shape}
 use Rattle.terms.specs.Table.{rowsOf, rowAt, widthIn, widthsOf, widthOf, bitsIn, bitsOf, countKind}
-use Rattle.terms.specs.Faults.{breaks11, breaks12, breaks13, breaks14, breaks15, breaks16, breaks17, breaks18, misnamed, wrongWidth, wrongBounds, tooMany, unequalSides, firstRule, rulesAt, faultAt, isAccepted, lowestFault, firstFault}
+use Rattle.terms.specs.Faults.{breaks11, breaks12, breaks13, breaks14, breaks15, breaks40, breaks16, breaks17, breaks18, misnamed, wrongWidth, wrongBounds, tooMany, unequalSides, firstRule, rulesAt, faultAt, isAccepted, lowestFault, firstFault}
 use Rattle.checker.specs.inner.Check.{faultIn, rowsBefore, rowsPassed, rulesIn}
 use Rattle.laws.specs.Buffers.{overwrite}
 use Rattle.terms.proofs.RowKinds.{kind-same}
@@ -72,7 +72,7 @@ first-row r n (s ∷ rules) all h = go (s .0) (first-row r n rules (all .1)) h
 
 fault-row : (t : List Row) (r n : ℕ) → isAccepted (faultAt t r) ≡ false → rowsBefore (faultAt t r) n ≡ r
 unfolding faultAt rulesAt
-fault-row t r n h = first-row r n (rulesAt t r) (refl, (refl, (refl, (refl, (refl, (refl, (refl, tt))))))) h
+fault-row t r n h = first-row r n (rulesAt t r) (refl, (refl, (refl, (refl, (refl, (refl, (refl, (refl, tt)))))))) h
 
 pub record Checking (table ws₀ ws : List ℕ) (variables bits equations r : ℕ) : Type 0 where
   pub within : r ≤ length (rowsOf table)
@@ -159,7 +159,7 @@ module _ (table ws₀ ws : List ℕ) (variables bits equations r : ℕ) (k : Che
     -- what the code asks of row r is the row's fault
     pub checking-fault : firstRule (rulesIn rows ws r (rowAt rows r) (variables + cond (eqb (rowAt rows r .kind) 0) 1 0) (bits + bitsIn (rowAt rows r)) (equations + cond (eqb (rowAt rows r .kind) 4) 1 0))
         ≡ faultAt rows r
-    unfolding rulesIn faultAt rulesAt breaks12 breaks13 breaks14 breaks15 breaks16 breaks18
+    unfolding rulesIn faultAt rulesAt breaks12 breaks13 breaks14 breaks15 breaks40 breaks16 breaks18
     checking-fault =
         let small : r % 65536 ≡ r = omega (arith, few) in
         rw small
@@ -167,9 +167,10 @@ module _ (table ws₀ ws : List ℕ) (variables bits equations r : ℕ) (k : Che
         rule-same _ _ _ _ _ refl (λ _.
         rule-same _ _ _ _ _ refl (λ m.
         rule-same _ _ _ _ _ (ap (wrongWidth (rowAt rows r)) (width-read m)) (λ _.
+        rule-same _ _ _ _ _ refl (λ _.
         rule-same _ _ _ _ _ (bounds-read m) (λ _.
         rule-same _ _ _ _ _ totals-are (λ _.
-        rule-same _ _ _ _ _ (sides-read m) (λ _. refl))))))))
+        rule-same _ _ _ _ _ (sides-read m) (λ _. refl)))))))))
 
     pub checking-answer : (row : Row) (v b e : ℕ) (f : Fault) → row ≡ rowAt rows r
         → v ≡ variables + cond (eqb (row .kind) 0) 1 0 → b ≡ bits + bitsIn row → e ≡ equations + cond (eqb (row .kind) 4) 1 0

@@ -1,10 +1,10 @@
-// The check of document 01's rules 11 to 18, each row's width, and where the variables stand. A table is lent as numbers, four to a row. The check is one
+// The check of document 01's rules 11 to 18 and of document 02's 40, each row's width, and where the variables stand. A table is lent as numbers, four to a row. The check is one
 // pass: a row's rules ask only for the kinds and widths of earlier rows and for three running totals.
 ghost use mathlib.Core.Path.{_≡_};
 ghost use Prim.Native.Nat.{_+_, _-_, _%_, _≤_};
 ghost use lib.ListN.{getD, length, take};
 ghost use Rattle.terms.specs.Table.{rowsOf, widthIn, widthsOf, bitsIn, bitsOf};
-ghost use Rattle.terms.specs.Faults.{unusedColumn, notTerm, misnamed, wrongWidth, wrongBounds, tooMany, unequalSides, firstRule};
+ghost use Rattle.terms.specs.Faults.{unusedColumn, notTerm, misnamed, wrongWidth, wrongValue, wrongBounds, tooMany, unequalSides, firstRule};
 ghost use Rattle.terms.specs.inner.Places.{NumbersVariables, FindsSources};
 ghost use Rattle.checker.specs.inner.Check.{rulesIn, faultIn, rowsPassed};
 ghost use Rattle.laws.specs.Buffers.{overwrite};
@@ -55,6 +55,9 @@ fn bad_names(table: &[u16], r: usize, row: Row) -> bool
     if kind < terms::CONCAT {
         return false;
     }
+    if terms::EQUATION < kind {
+        return false;
+    }
     if not_term(table, r, numbers::wide(row.a)) {
         return true;
     }
@@ -98,7 +101,10 @@ fn row_width(widths: &[u16], row: Row) -> usize
         }
         return 0;
     }
-    0
+    if kind == terms::EQUATION {
+        return 0;
+    }
+    numbers::wide(row.b)
 }
 
 // Rule 15: a width outside 1 to 1,024, or a constant's bit above 1.
@@ -107,7 +113,10 @@ fn bad_width(row: Row, width: usize) -> bool
 {
     let kind = row.kind;
     let a = row.a;
-    if terms::CONCAT < kind {
+    if kind == terms::EXTRACT {
+        return false;
+    }
+    if kind == terms::EQUATION {
         return false;
     }
     if width == 0 {
@@ -120,6 +129,24 @@ fn bad_width(row: Row, width: usize) -> bool
         if 1 < a {
             return true;
         }
+    }
+    false
+}
+
+// Rule 40: a value's width is above 16, or its number does not fit the width.
+fn bad_value(row: Row) -> bool
+    ensures { λ r. ⌜ r ≡ wrongValue row ⌝ }
+{
+    let kind = row.kind;
+    if kind != terms::VALUE {
+        return false;
+    }
+    let width = numbers::wide(row.b);
+    if terms::MAX_VALUE_WIDTH < width {
+        return true;
+    }
+    if 1usize << width <= numbers::wide(row.a) {
+        return true;
     }
     false
 }
@@ -163,7 +190,7 @@ fn bad_sides(row: Row, left: usize, right: usize) -> bool
     ensures { λ r. ⌜ r ≡ unequalSides row left right ⌝ }
 {
     let kind = row.kind;
-    if kind < terms::EQUATION {
+    if kind != terms::EQUATION {
         return false;
     }
     if left != right {
@@ -186,7 +213,7 @@ fn row_fault(
 {
     let at = numbers::narrow(r);
     let kind = row.kind;
-    if terms::EQUATION < kind {
+    if terms::VALUE < kind {
         return Fault::Kind(at);
     }
     if unused(row) {
@@ -197,6 +224,9 @@ fn row_fault(
     }
     if bad_width(row, row_width(widths, row)) {
         return Fault::Width(at);
+    }
+    if bad_value(row) {
+        return Fault::Value(at);
     }
     let left = width_at(widths, row.a);
     if bad_bounds(row, left) {

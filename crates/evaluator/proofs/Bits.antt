@@ -1,18 +1,47 @@
 -- One bit of a row's value, kind by kind: where it stands in the pattern, or which bit of an earlier row it is.
-use mathlib.Core.Path.{_≡_, sym, _∙_, ap}
+use mathlib.Core.Path.{_≡_, refl, sym, _∙_, ap}
+use mathlib.Core.Bool.{Bool, true, false}
 use mathlib.Core.List.{List, _++_}
-use Prim.Native.Nat.{ℕ, _+_, _-_, _<_, _≤_}
+use mathlib.Core.Logic.{inl, inr, ⊎-elim}
+use Prim.Native.Nat.{ℕ, _+_, _-_, _/_, _%_, _^_, _<_, _≤_}
 use native.Mathlib.Omega.{arith}
+use lib.Dec.{eqb}
 use lib.ListN.{length, getD, take, drop, getD-replicate, List·getD-append}
 use lib.Seq.{getD-take, getD-drop, getD-append-add}
+use borrow.Author.Tests.{eqb-true, eqb-false}
+use Rattle.laws.proofs.Bools.{or-first, or-second}
+use Rattle.laws.proofs.Binary.{binary-at}
 use Rattle.terms.specs.declared.Row.{Row}
-use Rattle.terms.specs.Table.{rowsOf, rowAt, widthOf, bitsOf, countKind, valueOf}
+use Rattle.terms.specs.Table.{rowsOf, rowAt, widthOf, bitsOf, countKind, fixedWord, valueOf}
+use Rattle.terms.proofs.RowKinds.{Fixed}
 use Rattle.terms.proofs.Places.{place-row, count-part}
 use Rattle.terms.proofs.AcceptedTable.{Table, accepted-table}
 use Rattle.terms.proofs.Faults.{Term, Kept, kept, kept-names, kept-kind, kept-first, kept-bit, kept-bounds, concat-names, extract-names, totals-small}
-use Rattle.terms.proofs.Values.{value-length, value-variable, value-constant, value-concat, value-extract, width-variable, width-constant, width-concat, width-extract, variable-fits}
+use Rattle.terms.proofs.Values.{value-length, fill-word, value-word, value-variable, value-fixed, value-concat, value-extract, width-variable, width-fixed, width-concat, width-extract, variable-fits}
 use Rattle.terms.proofs.Words.{extract-bit}
-use Rattle.evaluator.specs.inner.Ready.{Ready, IsTerm}
+use Rattle.evaluator.specs.inner.Ready.{Ready, IsTerm, isFixed}
+
+-- a kind that is none of a fixed word, and one that is
+not-fixed : (kind : ℕ) → isFixed kind ≡ false → (kind ≡ 1 → ⊥) × (kind ≡ 5 → ⊥)
+unfolding isFixed
+not-fixed kind h = (eqb-false kind 1 (or-first (eqb kind 1) (eqb kind 5) h), eqb-false kind 5 (or-second (eqb kind 1) (eqb kind 5) h))
+
+is-fixed : (kind : ℕ) → isFixed kind ≡ true → Fixed kind
+unfolding isFixed
+is-fixed kind h = go (eqb kind 1) refl
+  where
+    go : (b : Bool) → eqb kind 1 ≡ b → Fixed kind
+    go true e = inl (eqb-true kind 1 e)
+    go false e = let five : kind ≡ 5 = eqb-true kind 5 (rw e at h) in inr (omega arith)
+
+-- a bit of a fixed word
+pub fill-at : (r : Row) (i : ℕ) → r .kind ≡ 1 → i < r .b → r .a ≡ getD (fixedWord r) i 0
+fill-at r i e h = sym (ap (λ (v : List ℕ). getD v i 0) (fill-word r e) ∙ getD-replicate (r .b) i (r .a) 0 h)
+
+pub value-at : (r : Row) (i : ℕ) → isFixed (r .kind) ≡ true → (r .kind ≡ 1 → ⊥) → i < r .b → r .a / 2 ^ (r .b - 1 - i) % 2 ≡ getD (fixedWord r) i 0
+value-at r i e h l =
+    let five : 5 ≤ r .kind = ⊎-elim (λ k. absurd (h k)) (λ k. k) (is-fixed (r .kind) e) in
+    sym (ap (λ (v : List ℕ). getD v i 0) (value-word r five) ∙ binary-at (r .b) (r .a) i l)
 
 module _ (table widths places pattern : List ℕ) (ready : Ready table widths places pattern) (row : ℕ) (is : IsTerm table row) where
   abbrev rows : List Row
@@ -40,11 +69,17 @@ module _ (table widths places pattern : List ℕ) (ready : Ready table widths pl
   row-small = omega (arith, is .there, sound .few)
 
   -- a concatenation and an extraction name an earlier row first
-  pub first-lower : (at .kind ≡ 0 → ⊥) → (at .kind ≡ 1 → ⊥) → at .a < row
-  first-lower = kept-first rows row row-kept
+  pub first-lower : (at .kind ≡ 0 → ⊥) → isFixed (at .kind) ≡ false → at .a < row
+  first-lower h₀ h₁ =
+      let n = not-fixed (at .kind) h₁ in
+      kept-first rows row row-kept h₀ (λ f. ⊎-elim (λ e. n .0 e) (λ l. n .1 (omega (arith, kept-kind rows row row-kept))) f)
 
-  pub extract-left-over : (at .kind ≡ 0 → ⊥) → (at .kind ≡ 1 → ⊥) → (at .kind ≡ 2 → ⊥) → at .kind ≡ 3
-  extract-left-over h₀ h₁ h₂ = omega (arith, kept-kind rows row row-kept, is .no-equation)
+  pub extract-left-over : (at .kind ≡ 0 → ⊥) → isFixed (at .kind) ≡ false → (at .kind ≡ 2 → ⊥) → at .kind ≡ 3
+  extract-left-over h₀ h₁ h₂ =
+      let n = not-fixed (at .kind) h₁ in
+      let n₁ = n .0 in
+      let n₅ = n .1 in
+      omega (arith, kept-kind rows row row-kept, is .no-equation)
 
   -- the source before the variable
   few-before : countKind 0 (take row rows) ≤ 64
@@ -73,14 +108,14 @@ module _ (table widths places pattern : List ℕ) (ready : Ready table widths pl
         ∙ getD-drop (bitsOf (take row rows)) pattern i 0 ∙ ap (λ (j : ℕ). getD pattern j 0) n)
 
   module _ (i : ℕ) (inside : i < widthOf rows row) where
-    pub constant-small : at .kind ≡ 1 → at .a ≤ 1
-    constant-small e = kept-bit rows row row-kept e
+    pub fill-small : at .kind ≡ 1 → at .a ≤ 1
+    fill-small e = kept-bit rows row row-kept e
 
-    pub constant-bit : at .kind ≡ 1 → at .a ≡ getD (valueOf rows pattern row) i 0
-    constant-bit e =
-        sym
-        (ap (λ (v : List ℕ). getD v i 0) (value-constant rows pattern row (is .there) e)
-        ∙ getD-replicate (at .b) i (at .a) 0 (omega (arith, width-constant rows row (is .there) e)))
+    pub fixed-within : isFixed (at .kind) ≡ true → i < at .b
+    fixed-within e = omega (arith, width-fixed rows row (is .there) (is-fixed (at .kind) e))
+
+    pub fixed-value : isFixed (at .kind) ≡ true → getD (fixedWord at) i 0 ≡ getD (valueOf rows pattern row) i 0
+    fixed-value e = ap (λ (v : List ℕ). getD v i 0) (sym (value-fixed rows pattern row (is .there) (is-fixed (at .kind) e)))
 
     module _ (e : at .kind ≡ 2) where
       names : Term rows row (at .a) × Term rows row (at .b)

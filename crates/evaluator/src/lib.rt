@@ -1,13 +1,14 @@
 // A row's value under a pattern (document 01, "a join sets two values side by side, a cut keeps bits").
 // Each bit is found by recursion into earlier rows: a concatenation passes the bit on to one of its sides, an
-// extraction to the row that it is cut from, until a variable or a constant is met.
+// extraction to the row that it is cut from, until a variable or a fixed word is met.
 ghost use mathlib.Core.Path.{_≡_};
+ghost use mathlib.Core.Bool.{true};
 ghost use Prim.Native.Nat.{_+_, _/_, _<_, _≤_};
 ghost use lib.ListN.{getD, length};
-ghost use Rattle.terms.specs.Table.{rowsOf, rowAt, widthOf, valueOf};
+ghost use Rattle.terms.specs.Table.{rowsOf, rowAt, fixedWord, widthOf, valueOf};
 ghost use Rattle.laws.specs.Buffers.{overwrite};
 ghost use Rattle.terms.specs.Value.{valueRecord, valueAfter};
-ghost use Rattle.evaluator.specs.inner.Ready.{Ready, IsTerm};
+ghost use Rattle.evaluator.specs.inner.Ready.{Ready, IsTerm, isFixed};
 use terms::Record;
 use terms::Row;
 
@@ -36,6 +37,31 @@ fn source_before(places: &[u16], row: usize) -> usize
     numbers::wide(places[terms::MAX_ROWS + v])
 }
 
+// Whether a row of this kind is a fixed word: a constant (fill) or a value.
+fn fixed(kind: u16) -> bool
+    ensures { λ r. ⌜ r ≡ isFixed kind ⌝ }
+{
+    if kind == terms::CONSTANT {
+        return true;
+    }
+    kind == terms::VALUE
+}
+
+// Bit i of a fixed word, counted from its high end.
+fn fixed_bit(r: Row, i: usize) -> u8
+    requires { ⌜ (r .kind ≡ 1 → r .a ≤ 1) ⌝ }
+    requires { ⌜ isFixed (r .kind) ≡ true ⌝ }
+    requires { ⌜ i < r .b ⌝ }
+    ensures { λ b. ⌜ b ≡ getD (fixedWord r) i 0 ⌝ }
+{
+    let kind = r.kind;
+    if kind == terms::CONSTANT {
+        return r.a as u8;
+    }
+    let last = numbers::wide(r.b) - 1;
+    numbers::bit_of(r.a, numbers::minus(last, i)) as u8
+}
+
 // Bit i of a row's value, counted from its high end.
 fn bit(table: &[u16], widths: &[u16], places: &[u16], pattern: &[u8], row: usize, i: usize) -> u8
     requires { ⌜ Ready (now table) (now widths) (now places) (now pattern) ⌝ }
@@ -50,8 +76,8 @@ fn bit(table: &[u16], widths: &[u16], places: &[u16], pattern: &[u8], row: usize
     if kind == terms::VARIABLE {
         return pattern[source_before(places, row) + i - 1];
     }
-    if kind == terms::CONSTANT {
-        return a as u8;
+    if fixed(kind) {
+        return fixed_bit(r, i);
     }
     let width = numbers::wide(widths[a]);
     if kind == terms::CONCAT {

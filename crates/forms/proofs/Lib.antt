@@ -6,6 +6,7 @@ pub mod Units
 pub mod RowForms
 pub mod FormValues
 pub mod Theorems
+pub mod Markers
 pub mod FormCall
 pub mod FormNumbers
 pub mod Numbered

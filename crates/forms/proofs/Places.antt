@@ -2,6 +2,7 @@
 use mathlib.Core.Path.{_≡_, refl, sym, _∙_, ap, ap₂}
 use mathlib.Core.Bool.{cond}
 use mathlib.Core.List.{List, [], _∷_, _++_, map, append-assoc}
+use mathlib.Core.Logic.{inl}
 use Prim.Native.Nat.{ℕ, zero, suc, _+_, _-_, _<_, _≤_}
 use native.Mathlib.Omega.{arith}
 use lib.Dec.{eqb}
@@ -13,7 +14,7 @@ use Rattle.terms.specs.Table.{rowAt, noRow, ifVariable, bitsIn, bitsOf, countKi
 use Rattle.laws.specs.Lists.{countUp}
 use Rattle.terms.proofs.RowKinds.{of-variable, of-other, by-variable, bits-variable, bits-other}
 use Rattle.laws.proofs.Lists.{map-take, map-drop, map-replicate, read-places}
-use Rattle.terms.proofs.Values.{value-variable, value-constant}
+use Rattle.terms.proofs.Values.{fill-word, value-variable, value-fixed}
 use Rattle.forms.specs.declared.Piece.{Piece}
 use Rattle.forms.specs.Form.{fill, part, bitsUp, placePieces, pieceOf, meets, merged, add, addAll, group}
 
@@ -102,7 +103,7 @@ variable-pieces t r h e =
     ∙ ap (take (rowAt t r .a)) (map-drop (pieceOf t) start places ∙ ap (drop start) (all-places t))
     ∙ variable-places t r h e
 
-constant-piece : (t : List Row) (b : ℕ) → b ≤ 1 → pieceOf t b ≡ fill b 0
+pub constant-piece : (t : List Row) (b : ℕ) → b ≤ 1 → pieceOf t b ≡ fill b 0
 unfolding pieceOf
 constant-piece t zero h = refl
 constant-piece t (suc zero) h = refl
@@ -112,7 +113,7 @@ pub constant-pieces : (t : List Row) (r : ℕ) → r < length t → rowAt t r .k
     → map (pieceOf t) (sourceOf t r) ≡ replicate (rowAt t r .b) (fill (rowAt t r .a) 0)
 unfolding sourcesOf
 constant-pieces t r h e l =
-    ap (map (pieceOf t)) (value-constant t (countUp 2 (bitsOf t)) r h e)
+    ap (map (pieceOf t)) (value-fixed t (countUp 2 (bitsOf t)) r h (inl e) ∙ fill-word (rowAt t r) e)
     ∙ map-replicate (pieceOf t) (rowAt t r .b) (rowAt t r .a)
     ∙ ap (replicate (rowAt t r .b)) (constant-piece t (rowAt t r .a) l)
 

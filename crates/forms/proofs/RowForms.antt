@@ -1,21 +1,23 @@
--- The sources of a row, and of a cut of it, from those of the rows that it names (document 001, figure 3), and the one
--- piece that a variable, a constant or a part of one is.
+-- The sources of a row, and of a cut of it, from those of the rows that it names (document 001, figure 3), the one piece that a
+-- variable, a constant or a part of one is, and the bits of a value and of a part of one.
 use mathlib.Core.Path.{_≡_, refl, sym, _∙_, ap, ap₂}
 use mathlib.Core.Bool.{false}
 use mathlib.Core.List.{List, [], _∷_, _++_}
-use Prim.Native.Nat.{ℕ, zero, suc, _+_, _-_, _%_, _<_, _≤_}
+use mathlib.Core.Logic.{inl, inr, ⊎-elim}
+use Prim.Native.Nat.{ℕ, zero, suc, _+_, _-_, _/_, _%_, _^_, _<_, _≤_}
 use native.Mathlib.Omega.{arith}
 use lib.ListN.{length, getD, take, drop, replicate}
 use Rattle.terms.specs.declared.Row.{Row}
 use Rattle.terms.specs.Table.{rowsOf, rowAt, widthOf, bitsOf, countKind, extract, sourcesOf, sourceOf}
 use Rattle.laws.specs.Lists.{countUp}
+use Rattle.laws.specs.Binary.{binary}
 use Rattle.terms.specs.Faults.{absent}
 use Rattle.terms.proofs.AcceptedTable.{Table, accepted-table, term-there, term-present}
-use Rattle.terms.proofs.Faults.{Term, Kept, kept, kept-names, kept-kind, kept-first, kept-bit, kept-width, kept-bounds, concat-names, extract-names, widths-small}
+use Rattle.terms.proofs.Faults.{Term, Kept, kept, kept-names, kept-kind, kept-first, kept-bit, kept-fixed, kept-width, kept-bounds, concat-names, extract-names, widths-small}
 use Rattle.laws.proofs.Lists.{map-take, map-drop}
 use Rattle.terms.proofs.Sources.{source-length}
-use Rattle.terms.proofs.Values.{value-concat, value-extract, width-variable, width-constant, width-concat, width-extract}
-use Rattle.terms.proofs.Words.{extract-right, extract-left, extract-across, extract-whole, extract-extract}
+use Rattle.terms.proofs.Values.{value-fixed, value-word, value-concat, value-extract, width-variable, width-fixed, width-concat, width-extract}
+use Rattle.terms.proofs.Words.{extract-right, extract-left, extract-across, extract-whole, extract-extract, extract-binary}
 use Rattle.forms.specs.declared.Piece.{Piece}
 use Rattle.forms.specs.Form.{fill, part, bitsUp, pieceOf, group, formFrom}
 use Rattle.forms.specs.inner.Numbered.{Numbered}
@@ -56,6 +58,9 @@ module _ (table widths variables : List ℕ) (num : Numbered table widths variab
   pub width-some : at .kind ≤ 2 → 1 ≤ widthOf rows row
   width-some e = kept-width rows row row-kept e .0
 
+  pub width-value : at .kind ≡ 5 → 1 ≤ widthOf rows row
+  width-value e = kept-fixed rows row row-kept (inr (omega arith)) .0
+
   pub width-small : widthOf rows row ≤ 1024
   width-small = widths-small rows (length rows) (omega arith) (sound .sound) row inside
 
@@ -77,12 +82,13 @@ module _ (table widths variables : List ℕ) (num : Numbered table widths variab
   number-read : getD variables row 0 ≡ countKind 0 (take row rows)
   number-read = num .variables-are row inside
 
-  -- what is named first is earlier, where it is neither a variable nor a constant
-  pub first-earlier : (at .kind ≡ 0 → ⊥) → (at .kind ≡ 1 → ⊥) → at .a < row
-  first-earlier = kept-first rows row row-kept
+  -- what is named first is earlier, where it is neither a variable nor a constant nor a value
+  pub first-earlier : (at .kind ≡ 0 → ⊥) → (at .kind ≡ 1 → ⊥) → (at .kind ≡ 5 → ⊥) → at .a < row
+  first-earlier h₀ h₁ h₅ =
+      kept-first rows row row-kept h₀ (λ f. ⊎-elim (λ e. h₁ e) (λ l. h₅ (omega (arith, kept-kind rows row row-kept))) f)
 
-  pub concat-left : (at .kind ≡ 0 → ⊥) → (at .kind ≡ 1 → ⊥) → (at .kind ≡ 3 → ⊥) → at .kind ≡ 2
-  concat-left h₀ h₁ h₃ = omega (arith, kept-kind rows row row-kept, no-equation)
+  pub concat-left : (at .kind ≡ 0 → ⊥) → (at .kind ≡ 1 → ⊥) → (at .kind ≡ 5 → ⊥) → (at .kind ≡ 3 → ⊥) → at .kind ≡ 2
+  concat-left h₀ h₁ h₅ h₃ = omega (arith, kept-kind rows row row-kept, no-equation)
 
   -- a variable
   module _ (e : at .kind ≡ 0) where
@@ -126,7 +132,7 @@ module _ (table widths variables : List ℕ) (num : Numbered table widths variab
     pub constant-form : formFrom rows (sourceOf rows row) ≡ fill (at .a) (at .b - 1) ∷ []
     unfolding formFrom
     constant-form =
-        let w : 1 ≤ at .b = omega (arith, width-some (omega arith), width-constant rows row inside e) in
+        let w : 1 ≤ at .b = omega (arith, width-some (omega arith), width-fixed rows row inside (inl e)) in
         let n : at .b ≡ suc (at .b - 1) = omega arith in
         ap group (constant-pieces rows row inside e bit ∙ ap (λ (k : ℕ). replicate k (fill (at .a) 0)) n) ∙ group-fills (at .a) (at .b - 1) bit
 
@@ -134,7 +140,7 @@ module _ (table widths variables : List ℕ) (num : Numbered table widths variab
         → formFrom rows (extract (sourceOf rows row) high low) ≡ fill (at .a) (high - low) ∷ []
     unfolding formFrom extract
     constant-cut high low l h =
-        let w = width-constant rows row inside e in
+        let w = width-fixed rows row inside (inl e) in
         let n : length (sourceOf rows row) - (high + 1) ≡ at .b - (high + 1) = omega (arith, sources-wide) in
         let i : high + 1 - low ≡ suc (high - low) = omega arith in
         ap group
@@ -146,6 +152,17 @@ module _ (table widths variables : List ℕ) (num : Numbered table widths variab
         ∙ take-copies (at .b - (at .b - (high + 1))) (high + 1 - low) (fill (at .a) 0) (omega arith)
         ∙ ap (λ (k : ℕ). replicate k (fill (at .a) 0)) i)
         ∙ group-fills (at .a) (high - low) bit
+
+  -- a value
+  module _ (e : at .kind ≡ 5) where
+    pub value-bits : sourceOf rows row ≡ binary (at .b) (at .a)
+    unfolding sourcesOf
+    value-bits = value-fixed rows (countUp 2 (bitsOf rows)) row inside (inr (omega arith)) ∙ value-word at (omega arith)
+
+    pub value-cut : (high low : ℕ) → low ≤ high → high < widthOf rows row → extract (sourceOf rows row) high low ≡ binary (high + 1 - low) (at .a / 2 ^ low)
+    value-cut high low l h =
+        ap (λ (s : List ℕ). extract s high low) value-bits
+        ∙ extract-binary (at .b) (at .a) high low l (omega (arith, width-fixed rows row inside (inr (omega arith))))
 
   -- an extraction
   module _ (e : at .kind ≡ 3) where

@@ -30,7 +30,7 @@ use Rattle.forms.proofs.Grouping.{group-append}
 use Rattle.forms.proofs.Maximal.{group-maximal}
 use Rattle.forms.specs.Proper.{Maximal, AllProper}
 use Rattle.forms.proofs.Numbered.{variablesIn, number-row}
-use Rattle.forms.proofs.RowForms.{variable-form, constant-cut}
+use Rattle.forms.proofs.RowForms.{variable-form, constant-form, constant-cut}
 use Rattle.forms.proofs.Units.{form-proper, form-width, form-count}
 
 module _ (table : List ℕ) (accepted : firstFault table ≡ Accepted) where
@@ -128,12 +128,16 @@ module _ (table : List ℕ) (accepted : firstFault table ≡ Accepted) where
   numbered : Numbered table (widthsOf t) (variablesIn t)
   numbered = record { accepted = accepted; widths-are = λ r h. refl; variables-are = λ r h. number-row t r h }
 
-  -- A variable is one piece; a cut of a fill is a fill.
+  -- A variable is one piece, and so is a fill; a cut of a fill is a fill.
   pub form-variable : (r : ℕ) → r < length t → rowAt t r .kind ≡ 0 → formOf t r ≡ part (countKind 0 (take r t)) (widthOf t r - 1) 0 ∷ []
   unfolding formOf
   form-variable r h e =
       variable-form table (widthsOf t) (variablesIn t) numbered r (term-present t r h (λ k. omega arith)) e
       ∙ ap₂ (λ (v w : ℕ). part v (w - 1) 0 ∷ []) (number-row t r h) (sym (width-variable t r h e))
+
+  pub form-fill : (r : ℕ) → r < length t → rowAt t r .kind ≡ 1 → formOf t r ≡ fill (rowAt t r .a) (rowAt t r .b - 1) ∷ []
+  unfolding formOf
+  form-fill r h e = constant-form table (widthsOf t) (variablesIn t) numbered r (term-present t r h (λ k. omega arith)) e
 
   pub form-cut-fill : (r : ℕ) → r < length t → rowAt t r .kind ≡ 1 → {x i k : ℕ} → IsExtract t x r i k → formOf t x ≡ fill (rowAt t r .a) (i - k) ∷ []
   unfolding formOf sourcesOf

@@ -1,4 +1,5 @@
 pub mod Form
 pub mod Call
 pub mod Proper
+pub mod Markers
 pub mod inner

@@ -34,7 +34,7 @@ pub fn complete(pieces: u32, width: u32) -> Record
     }
 }
 
-// Document 01's number of a fault, and its row.
+// A fault's number in documents 01 and 02, and its row.
 fn fault_number(f: Fault) -> u32
     ensures { λ r. ⌜ r ≡ faultNumber f ⌝ }
 {
@@ -45,6 +45,7 @@ fn fault_number(f: Fault) -> u32
         Fault::Unused(_) => 13,
         Fault::Named(_) => 14,
         Fault::Width(_) => 15,
+        Fault::Value(_) => 40,
         Fault::Bounds(_) => 16,
         Fault::Count(_) => 17,
         Fault::Sides(_) => 18,
@@ -61,6 +62,7 @@ fn fault_row(f: Fault) -> u32
         Fault::Unused(r) => r as u32,
         Fault::Named(r) => r as u32,
         Fault::Width(r) => r as u32,
+        Fault::Value(r) => r as u32,
         Fault::Bounds(r) => r as u32,
         Fault::Count(r) => r as u32,
         Fault::Sides(r) => r as u32,
@@ -85,6 +87,7 @@ pub fn accepted(f: Fault) -> bool
         Fault::Unused(_) => false,
         Fault::Named(_) => false,
         Fault::Width(_) => false,
+        Fault::Value(_) => false,
         Fault::Bounds(_) => false,
         Fault::Count(_) => false,
         Fault::Sides(_) => false,

@@ -11,8 +11,8 @@ use Rattle.laws.specs.Buffers.{overwrite}
 use Rattle.terms.specs.Faults.{absent}
 use Rattle.terms.proofs.AcceptedTable.{Table, accepted-table, term-present}
 use Rattle.laws.proofs.Buffers.{overwrite-read}
-use Rattle.terms.proofs.RowKinds.{Equation, of-equation, of-term}
-use Rattle.terms.proofs.Faults.{Term, Kept, kept, kept-kind, kept-names, kept-sides, equation-names, widths-small}
+use Rattle.terms.proofs.RowKinds.{of-equation, of-term}
+use Rattle.terms.proofs.Faults.{Term, Kept, kept, kept-names, kept-sides, equation-names, widths-small}
 use Rattle.terms.proofs.Sources.{source-length}
 use Rattle.answers.specs.Pairs.{Pair, paired, pairsOf}
 use Rattle.sides.specs.inner.Sides.{Prepared, pairsFrom, SidesRead}
@@ -52,9 +52,8 @@ module _ (table widths variables lows : List ℕ) (ready : Prepared table widths
   unfolding pairsFrom pairsOf
   no-pairs left right h =
       let row = rowAt rows r in
-      let n : Equation row → ⊥ = λ e. h (omega (arith, kept-kind rows r row-kept)) in
       record {
-        pairs = sym (of-term row (paired (sourceOf rows (row .a)) (sourceOf rows (row .b))) [] n);
+        pairs = sym (of-term row (paired (sourceOf rows (row .a)) (sourceOf rows (row .b))) [] h);
         few = omega arith;
         left-small = λ i l. absurd (omega arith);
         right-small = λ i l. absurd (omega arith);
@@ -68,7 +67,7 @@ module _ (table widths variables lows : List ℕ) (ready : Prepared table widths
     b = rowAt rows r .b
 
     sides : Term rows r a × Term rows r b
-    sides = equation-names rows r (rowAt rows r) (kept-names rows r row-kept) (omega arith)
+    sides = equation-names rows r (rowAt rows r) (kept-names rows r row-kept) e
 
     left-in : a < length rows
     left-in = omega (arith, sides .0 .earlier, inside)

@@ -1,5 +1,5 @@
 -- Acceptance both ways: the first fault of a table is the one that says what is so (specs/Acceptance.antt). The rows are followed from the
--- first on, and a row's rules from the top, in document 01's order. Assumes nothing.
+-- first on, and a row's rules from the top, in the documents' order. Assumes nothing.
 use mathlib.Core.Path.{_≡_, refl, sym, _∙_, ap, ap₂, subst}
 use mathlib.Core.Bool.{Bool, true, false, cond}
 use mathlib.Core.List.{List}
@@ -11,12 +11,12 @@ use lib.ListN.{length}
 use borrow.Author.Tests.{ltb-false, eqb-true, not-false, le-ltb, eq-eqb}
 use Rattle.terms.specs.declared.Row.{Row}
 use Rattle.terms.specs.declared.Fault.{Fault}
-use Rattle.terms.specs.declared.Fault.the-variants.{Accepted, Shape, Kind, Unused, Named, Width, Bounds, Count, Sides}
+use Rattle.terms.specs.declared.Fault.the-variants.{Accepted, Shape, Kind, Unused, Named, Width, Value, Bounds, Count, Sides}
 use Rattle.terms.specs.Table.{rowsOf}
 use Rattle.terms.specs.Calls.{faultNumber, faultRow}
-use Rattle.terms.specs.Faults.{nonzero, breaks11, breaks12, breaks13, breaks14, breaks15, breaks16, breaks17, breaks18, faultAt, isAccepted, lowestFault, firstFault}
+use Rattle.terms.specs.Faults.{nonzero, breaks11, breaks12, breaks13, breaks14, breaks15, breaks40, breaks16, breaks17, breaks18, faultAt, isAccepted, lowestFault, firstFault}
 use Rattle.terms.specs.Acceptance.{Exactly, WholeRows, KeepsAll, Reaches, Says, Refused, Acceptance}
-use Rattle.terms.proofs.RuleOrder.{told-12, told-13, told-14, told-15, told-16, told-17, told-18, told-none}
+use Rattle.terms.proofs.RuleOrder.{told-12, told-13, told-14, told-15, told-40, told-16, told-17, told-18, told-none}
 use Rattle.terms.proofs.Faults.{all-kept, kept, lowest-here, lowest-past}
 use Rattle.laws.proofs.Bools.{not-both, or-first, or-second}
 use Rattle.laws.proofs.Numbers.{below-or-at}
@@ -49,6 +49,7 @@ module _ (numbers : List ℕ) where
       next k (breaks13 t r) (λ h. says (told-13 t r k h) (reach, k, h)) λ k.
       next k (breaks14 t r) (λ h. says (told-14 t r k h) (reach, k, h)) λ k.
       next k (breaks15 t r) (λ h. says (told-15 t r k h) (reach, k, h)) λ k.
+      next k (breaks40 t r) (λ h. says (told-40 t r k h) (reach, k, h)) λ k.
       next k (breaks16 t r) (λ h. says (told-16 t r k h) (reach, k, h)) λ k.
       next k (breaks17 t r) (λ h. says (told-17 t r k h) (reach, k, h)) λ k.
       next k (breaks18 t r) (λ h. says (told-18 t r k h) (reach, k, h)) λ k.
@@ -110,6 +111,7 @@ module _ (numbers : List ℕ) where
   said (Unused r) s = ends-at r (s .0) (Unused r) refl (told-13 t r (s .1) (s .2))
   said (Named r) s = ends-at r (s .0) (Named r) refl (told-14 t r (s .1) (s .2))
   said (Width r) s = ends-at r (s .0) (Width r) refl (told-15 t r (s .1) (s .2))
+  said (Value r) s = ends-at r (s .0) (Value r) refl (told-40 t r (s .1) (s .2))
   said (Bounds r) s = ends-at r (s .0) (Bounds r) refl (told-16 t r (s .1) (s .2))
   said (Count r) s = ends-at r (s .0) (Count r) refl (told-17 t r (s .1) (s .2))
   said (Sides r) s = ends-at r (s .0) (Sides r) refl (told-18 t r (s .1) (s .2))
@@ -127,10 +129,11 @@ numbered n r =
     (cond (eqb n (faultNumber (Unused r))) (Unused r)
     (cond (eqb n (faultNumber (Named r))) (Named r)
     (cond (eqb n (faultNumber (Width r))) (Width r)
+    (cond (eqb n (faultNumber (Value r))) (Value r)
     (cond (eqb n (faultNumber (Bounds r))) (Bounds r)
     (cond (eqb n (faultNumber (Count r))) (Count r)
     (cond (eqb n (faultNumber (Sides r))) (Sides r)
-    Accepted)))))))
+    Accepted))))))))
 
 numbered-is : (f : Fault) → numbered (faultNumber f) (faultRow f) ≡ f
 unfolding numbered
@@ -140,6 +143,7 @@ numbered-is (Kind r) = refl
 numbered-is (Unused r) = refl
 numbered-is (Named r) = refl
 numbered-is (Width r) = refl
+numbered-is (Value r) = refl
 numbered-is (Bounds r) = refl
 numbered-is (Count r) = refl
 numbered-is (Sides r) = refl
@@ -151,7 +155,7 @@ number-exactly numbers f =
       of = λ s. let e = fault-exactly numbers f .of s in (ap faultNumber e, ap faultRow e);
     }
 
--- Acceptance and each number of document 01's table, both ways.
+-- Acceptance and each number of a table's refusals, both ways.
 pub acceptance : (numbers : List ℕ) → Acceptance numbers
 acceptance numbers =
     record {
@@ -161,6 +165,7 @@ acceptance numbers =
       refused-13 = λ r. number-exactly numbers (Unused r);
       refused-14 = λ r. number-exactly numbers (Named r);
       refused-15 = λ r. number-exactly numbers (Width r);
+      refused-40 = λ r. number-exactly numbers (Value r);
       refused-16 = λ r. number-exactly numbers (Bounds r);
       refused-17 = λ r. number-exactly numbers (Count r);
       refused-18 = λ r. number-exactly numbers (Sides r);

@@ -9,7 +9,7 @@ use lib.ListN.{length}
 use borrow.Author.Tests.{ne-eqb}
 use Rattle.terms.specs.declared.Row.{Row}
 use Rattle.terms.specs.declared.Fault.{Fault}
-use Rattle.terms.specs.declared.Fault.the-variants.{Accepted, Shape, Kind, Unused, Named, Width, Bounds, Count, Sides}
+use Rattle.terms.specs.declared.Fault.the-variants.{Accepted, Shape, Kind, Unused, Named, Width, Value, Bounds, Count, Sides}
 use Rattle.terms.specs.Table.{rowsOf, rowAt}
 use Rattle.terms.specs.Calls.{faultNumber}
 use Rattle.terms.specs.Faults.{isAccepted, firstFault, absent}
@@ -26,6 +26,7 @@ fault-none (Kind r) h = absurd (not-both h refl)
 fault-none (Unused r) h = absurd (not-both h refl)
 fault-none (Named r) h = absurd (not-both h refl)
 fault-none (Width r) h = absurd (not-both h refl)
+fault-none (Value r) h = absurd (not-both h refl)
 fault-none (Bounds r) h = absurd (not-both h refl)
 fault-none (Count r) h = absurd (not-both h refl)
 fault-none (Sides r) h = absurd (not-both h refl)
@@ -52,6 +53,7 @@ fault-high (Kind r) h = omega arith
 fault-high (Unused r) h = omega arith
 fault-high (Named r) h = omega arith
 fault-high (Width r) h = omega arith
+fault-high (Value r) h = omega arith
 fault-high (Bounds r) h = omega arith
 fault-high (Count r) h = omega arith
 fault-high (Sides r) h = omega arith

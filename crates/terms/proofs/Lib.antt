@@ -9,6 +9,7 @@ pub mod Sources
 pub mod Assignments
 pub mod Computed
 pub mod Bounds
+pub mod Markers
 pub mod Acceptance
 pub mod AcceptedTable
 pub mod Equations

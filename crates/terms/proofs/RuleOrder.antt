@@ -1,4 +1,4 @@
--- The rules of a row are told in document 01's order: each where it is broken and those above it are kept; a row that keeps all of them has
+-- The rules of a row are told in the documents' order: each where it is broken and those above it are kept; a row that keeps all of them has
 -- no fault. Assumes nothing.
 use mathlib.Core.Path.{_≡_, _∙_}
 use mathlib.Core.Bool.{true}
@@ -7,9 +7,9 @@ use Prim.Native.Nat.{ℕ}
 use lib.ListN.{drop}
 use Rattle.terms.specs.declared.Row.{Row}
 use Rattle.terms.specs.declared.Fault.{Fault}
-use Rattle.terms.specs.declared.Fault.the-variants.{Accepted, Kind, Unused, Named, Width, Bounds, Count, Sides}
-use Rattle.terms.specs.Faults.{breaks12, breaks13, breaks14, breaks15, breaks16, breaks17, breaks18, firstRule, rulesAt, faultAt}
-use Rattle.terms.specs.Acceptance.{Keeps12, Keeps13, Keeps14, Keeps15, Keeps16, Keeps17, KeepsAll}
+use Rattle.terms.specs.declared.Fault.the-variants.{Accepted, Kind, Unused, Named, Width, Value, Bounds, Count, Sides}
+use Rattle.terms.specs.Faults.{breaks12, breaks13, breaks14, breaks15, breaks40, breaks16, breaks17, breaks18, firstRule, rulesAt, faultAt}
+use Rattle.terms.specs.Acceptance.{Keeps12, Keeps13, Keeps14, Keeps15, Keeps40, Keeps16, Keeps17, KeepsAll}
 
 module _ (t : List Row) (r : ℕ) where
   -- the fault of the rules behind the first n
@@ -48,19 +48,27 @@ module _ (t : List Row) (r : ℕ) where
   unfolding behind rulesAt firstRule
   past-15 k = past-14 (k .0) ∙ rw (k .1)
 
-  pub told-16 : Keeps15 t r → breaks16 t r ≡ true → faultAt t r ≡ Bounds r
+  pub told-40 : Keeps15 t r → breaks40 t r ≡ true → faultAt t r ≡ Value r
   unfolding behind rulesAt firstRule
-  told-16 k h = past-15 k ∙ rw h
+  told-40 k h = past-15 k ∙ rw h
 
-  past-16 : Keeps16 t r → faultAt t r ≡ behind 5
+  past-40 : Keeps40 t r → faultAt t r ≡ behind 5
   unfolding behind rulesAt firstRule
-  past-16 k = past-15 (k .0) ∙ rw (k .1)
+  past-40 k = past-15 (k .0) ∙ rw (k .1)
+
+  pub told-16 : Keeps40 t r → breaks16 t r ≡ true → faultAt t r ≡ Bounds r
+  unfolding behind rulesAt firstRule
+  told-16 k h = past-40 k ∙ rw h
+
+  past-16 : Keeps16 t r → faultAt t r ≡ behind 6
+  unfolding behind rulesAt firstRule
+  past-16 k = past-40 (k .0) ∙ rw (k .1)
 
   pub told-17 : Keeps16 t r → breaks17 t r ≡ true → faultAt t r ≡ Count r
   unfolding behind rulesAt firstRule
   told-17 k h = past-16 k ∙ rw h
 
-  past-17 : Keeps17 t r → faultAt t r ≡ behind 6
+  past-17 : Keeps17 t r → faultAt t r ≡ behind 7
   unfolding behind rulesAt firstRule
   past-17 k = past-16 (k .0) ∙ rw (k .1)
 

@@ -2,14 +2,14 @@
 use mathlib.Core.Path.{_≡_, refl, sym, ap₂}
 use mathlib.Core.Bool.{Bool, true}
 use mathlib.Core.List.{List, [], _∷_}
-use Prim.Native.Nat.{ℕ, zero, suc, _<_, _≤_}
+use Prim.Native.Nat.{ℕ, zero, suc, _<_}
 use native.Mathlib.Omega.{arith}
 use lib.Dec.{eqb}
 use lib.ListN.{length, getD}
 use borrow.Author.Tests.{eqb-true, eq-eqb}
 use Rattle.terms.specs.declared.Row.{Row}
-use Rattle.terms.specs.Table.{rowAt, valuesOf, valueOf, sameWord, sidesAgree, allRows, satisfies}
-use Rattle.terms.proofs.RowKinds.{each-kind, else-kind}
+use Rattle.terms.specs.Table.{rowAt, byKind, valuesOf, valueOf, sameWord, sidesAgree, allRows, satisfies}
+use Rattle.terms.proofs.RowKinds.{each-kind}
 use Rattle.laws.proofs.Bools.{not-both, and-parts}
 
 -- Words that are found equal bit for bit are equal.
@@ -41,29 +41,29 @@ all-of f [] h = refl
 all-of f (x ∷ t) h = rw (h 0 (omega arith)) (all-of f t (λ r l. h (suc r) (omega arith)))
 
 -- a row that is no equation agrees, and an equation agrees where its sides have the same value
-agree-at : (vs : List (List ℕ)) (r : Row) → 4 ≤ r .kind → sidesAgree vs r ≡ true → getD vs (r .a) [] ≡ getD vs (r .b) []
-unfolding sidesAgree
-agree-at vs r k h = same-word (getD vs (r .a) []) (getD vs (r .b) []) (rw else-kind at h)
+agree-at : (vs : List (List ℕ)) (r : Row) → r .kind ≡ 4 → sidesAgree vs r ≡ true → getD vs (r .a) [] ≡ getD vs (r .b) []
+unfolding sidesAgree byKind
+agree-at vs r k h = same-word (getD vs (r .a) []) (getD vs (r .b) []) (rw k at h)
 
-agree-of : (vs : List (List ℕ)) (r : Row) → (4 ≤ r .kind → getD vs (r .a) [] ≡ getD vs (r .b) []) → sidesAgree vs r ≡ true
+agree-of : (vs : List (List ℕ)) (r : Row) → (r .kind ≡ 4 → getD vs (r .a) [] ≡ getD vs (r .b) []) → sidesAgree vs r ≡ true
 unfolding sidesAgree
 agree-of vs r h =
     sym (each-kind (r .kind) true (λ e. refl) (λ e. refl) (λ e. refl) (λ e. refl)
-    (λ k. sym (rw (h k) (word-same (getD vs (r .b) [])))))
+    (λ k. sym (rw (h k) (word-same (getD vs (r .b) [])))) (λ e. refl))
 
 module _ (t : List Row) (p : List ℕ) where
   -- In a table that an assignment satisfies and-parts sides of each equation have the same value.
-  pub satisfies-at : satisfies t p ≡ true → (r : ℕ) → r < length t → 4 ≤ rowAt t r .kind
+  pub satisfies-at : satisfies t p ≡ true → (r : ℕ) → r < length t → rowAt t r .kind ≡ 4
       → valueOf t p (rowAt t r .a) ≡ valueOf t p (rowAt t r .b)
   unfolding satisfies
   satisfies-at h r l k = agree-at (valuesOf t p) (rowAt t r) k (all-at (sidesAgree (valuesOf t p)) t h r l)
 
   -- An assignment under which and-parts sides of each equation have the same value satisfies the table.
-  pub satisfies-of : ((r : ℕ) → r < length t → 4 ≤ rowAt t r .kind → valueOf t p (rowAt t r .a) ≡ valueOf t p (rowAt t r .b))
+  pub satisfies-of : ((r : ℕ) → r < length t → rowAt t r .kind ≡ 4 → valueOf t p (rowAt t r .a) ≡ valueOf t p (rowAt t r .b))
       → satisfies t p ≡ true
   unfolding satisfies
   satisfies-of h = all-of (sidesAgree (valuesOf t p)) t (λ r l. agree-of (valuesOf t p) (rowAt t r) (h r l))
 
   -- A table without equations is satisfied by every assignment.
-  pub no-equations : ((r : ℕ) → r < length t → rowAt t r .kind < 4) → satisfies t p ≡ true
-  no-equations none = satisfies-of (λ r l k. absurd (omega (arith, none r l)))
+  pub no-equations : ((r : ℕ) → r < length t → rowAt t r .kind ≡ 4 → ⊥) → satisfies t p ≡ true
+  no-equations none = satisfies-of (λ r l k. absurd (none r l k))

@@ -1,6 +1,7 @@
 -- Different sources are told apart by some assignment. So two rows with the same value under every assignment have
 -- the same sources.
 use mathlib.Core.Path.{_≡_, refl, sym, _∙_, ap}
+use mathlib.Core.Bool.{true}
 use mathlib.Core.List.{List, [], _∷_, _++_, map}
 use mathlib.Core.Logic.{_⊎_, ⊎-elim}
 use Prim.Native.Nat.{ℕ, zero, suc, _+_, _-_, _<_, _≤_}
@@ -8,15 +9,16 @@ use native.Mathlib.Omega.{arith}
 use lib.ListN.{length, getD, take, drop, replicate, set, length-replicate, length-set, getD-replicate}
 use lib.Seq.{getD-set-same, getD-set-other}
 use Rattle.terms.specs.declared.Row.{Row}
-use Rattle.terms.specs.Table.{rowAt, bitsOf, bitOf, extract, sourcesOf, sourceOf, valueOf}
-use Rattle.laws.specs.Lists.{countUp}
+use Rattle.terms.specs.Table.{rowAt, bitsOf, bitOf, extract, fixedWord, sourcesOf, sourceOf, valueOf}
+use Rattle.laws.specs.Lists.{countUp, allBits}
 use Rattle.terms.specs.Assignments.{Assignment}
 use Rattle.terms.proofs.Assignments.{assignment-of, assignment-length}
-use Rattle.terms.proofs.RowKinds.{KindOf, is-variable, is-constant, is-concat, is-extract, is-equation, kind-of}
+use Rattle.terms.proofs.RowKinds.{KindOf, is-variable, is-fixed, is-concat, is-extract, is-equation, kind-of}
 use Rattle.laws.proofs.Numbers.{by-strong, lt-or-le, dec-eq}
-use Rattle.terms.proofs.Faults.{Kept, kept, kept-names, kept-bit, concat-names, extract-names}
+use Rattle.laws.proofs.AllBits.{first-bit}
+use Rattle.terms.proofs.Faults.{Kept, kept, kept-names, concat-names, extract-names}
 use Rattle.terms.proofs.Sources.{value-sources}
-use Rattle.terms.proofs.Values.{value-variable, value-constant, value-concat, value-extract, value-equation}
+use Rattle.terms.proofs.Values.{value-variable, value-fixed, fixed-bits, value-concat, value-extract, value-equation}
 use Rattle.terms.specs.Sound.{Sound}
 
 -- every number of a list is below a bound
@@ -38,9 +40,9 @@ below-append : (n : ℕ) (xs ys : List ℕ) → AllBelow n xs → AllBelow n ys 
 below-append n xs ys none k = k
 below-append n xs ys (some {xs = zs} l h) k = some l (below-append n zs ys h k)
 
-below-copies : (n k x : ℕ) → x < n → AllBelow n (replicate k x)
-below-copies n zero x l = none
-below-copies n (suc k) x l = some l (below-copies n k x l)
+below-bits : (n : ℕ) (bits : List ℕ) → 2 ≤ n → allBits bits ≡ true → AllBelow n bits
+below-bits n [] l h = none
+below-bits n (b ∷ bits) l h = let k = first-bit b bits h in some {x = b} (omega (arith, k .0)) (below-bits n bits l (k .1))
 
 below-up : (n k m : ℕ) → k + m ≤ n → AllBelow n (countUp k m)
 unfolding countUp
@@ -69,7 +71,7 @@ sources-below t sound = by-strong (λ (r : ℕ). r < length t → AllBelow (bits
 
         go : KindOf (rowAt t r .kind) → AllBelow (bitsOf t + 2) (valueOf t places r)
         go (is-variable e) = rw (value-variable t places r h e) (below-take _ (row .a) _ (below-drop _ (bitsOf (take r t)) places all))
-        go (is-constant e) = rw (value-constant t places r h e) (below-copies _ (row .b) (row .a) (omega (arith, kept-bit t r k e)))
+        go (is-fixed e) = rw (value-fixed t places r h e) (below-bits _ (fixedWord row) (omega arith) (fixed-bits t r k e))
         go (is-concat e) =
             let names = concat-names t r (rowAt t r) (kept-names t r k) e in
             rw (value-concat t places r h k e)

@@ -1,18 +1,20 @@
 -- A row's value under an assignment is the bits of its sources.
 use mathlib.Core.Path.{_≡_, refl, sym, _∙_, ap, ap₂}
+use mathlib.Core.Bool.{true}
 use mathlib.Core.List.{List, [], _++_, map}
-use Prim.Native.Nat.{ℕ, zero, suc, _+_, _-_, _<_, _≤_}
+use Prim.Native.Nat.{ℕ, _<_}
 use native.Mathlib.Omega.{arith}
-use lib.ListN.{length, getD, take, drop, replicate}
+use lib.ListN.{length, getD, take, drop}
 use Rattle.terms.specs.declared.Row.{Row}
-use Rattle.terms.specs.Table.{rowAt, bitsOf, extract, valueOf, bitOf, sourcesOf, sourceOf, widthOf}
-use Rattle.laws.specs.Lists.{countUp}
-use Rattle.terms.proofs.RowKinds.{KindOf, is-variable, is-constant, is-concat, is-extract, is-equation, kind-of}
+use Rattle.terms.specs.Table.{rowAt, bitsOf, extract, fixedWord, valueOf, bitOf, sourcesOf, sourceOf, widthOf}
+use Rattle.laws.specs.Lists.{countUp, allBits}
+use Rattle.terms.proofs.RowKinds.{KindOf, is-variable, is-fixed, is-concat, is-extract, is-equation, kind-of}
 use Rattle.laws.proofs.Numbers.{by-strong}
-use Rattle.terms.proofs.Faults.{Kept, kept, kept-names, kept-bit, concat-names, extract-names}
-use Rattle.terms.proofs.Values.{value-length, value-variable, value-constant, value-concat, value-extract, value-equation}
+use Rattle.terms.proofs.Faults.{Kept, kept, kept-names, concat-names, extract-names}
+use Rattle.terms.proofs.Values.{value-length, value-variable, value-fixed, fixed-bits, value-concat, value-extract, value-equation}
 use Rattle.terms.specs.Sound.{Sound}
-use Rattle.laws.proofs.Lists.{map-append, map-take, map-drop, map-replicate, read-places}
+use Rattle.laws.proofs.Lists.{map-append, map-take, map-drop, map-same, read-places}
+use Rattle.laws.proofs.AllBits.{bits-map}
 use Rattle.terms.proofs.Words.{extract-map}
 use Rattle.laws.proofs.CountUp.{count-up}
 
@@ -21,12 +23,10 @@ pub all-places : (p : List ℕ) (n : ℕ) → length p ≡ n → map (bitOf p) (
 unfolding bitOf
 all-places p n e = read-places 0 1 0 p n e
 
--- a constant's bit is its source
-constant-bit : (p : List ℕ) (b : ℕ) → b ≤ 1 → bitOf p b ≡ b
+-- bits are their own sources
+own-bits : (p bits : List ℕ) → allBits bits ≡ true → map (bitOf p) bits ≡ bits
 unfolding bitOf
-constant-bit p zero h = refl
-constant-bit p (suc zero) h = refl
-constant-bit p (suc (suc b)) h = absurd (omega arith)
+own-bits p bits h = bits-map (bitOf p) (λ b. b) refl refl bits h ∙ map-same (λ b. b) (λ b. refl) bits
 
 -- the value of a row of an accepted table is its sources' bits
 pub value-sources : (t : List Row) (p : List ℕ) → Sound t → length p ≡ bitsOf t → (r : ℕ) → r < length t
@@ -57,10 +57,10 @@ value-sources t p sound whole = by-strong (λ (r : ℕ). r < length t → valueO
             ∙ ap (take (row .a)) (sym (map-drop (bitOf p) start places))
             ∙ sym (map-take (bitOf p) (row .a) (drop start places))
             ∙ ap (map (bitOf p)) (sym (value-variable t places r h e))
-        go (is-constant e) =
-            value-constant t p r h e
-            ∙ sym (map-replicate (bitOf p) (row .b) (row .a) ∙ ap (replicate (row .b)) (constant-bit p (row .a) (kept-bit t r k e)))
-            ∙ ap (map (bitOf p)) (sym (value-constant t places r h e))
+        go (is-fixed e) =
+            value-fixed t p r h e
+            ∙ sym (own-bits p (fixedWord row) (fixed-bits t r k e))
+            ∙ ap (map (bitOf p)) (sym (value-fixed t places r h e))
         go (is-concat e) =
             let names = concat-names t r (rowAt t r) (kept-names t r k) e in
             value-concat t p r h k e

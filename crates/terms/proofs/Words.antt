@@ -1,12 +1,15 @@
 -- The laws of extraction on words, at every width: equations 1 to 5 and 7 of definition 3.2 of document 001, and what
--- extraction does to a length, to a bit, to a `map` and to a constant. Equation 6 is `append-assoc` of the library.
-use mathlib.Core.Path.{_≡_, sym, _∙_}
+-- extraction does to a length, to a bit, to a `map`, to a constant and to the bits of a number. Equation 6 is `append-assoc` of the library.
+use mathlib.Core.Path.{_≡_, sym, _∙_, ap}
 use mathlib.Core.List.{List, _++_, map}
-use Prim.Native.Nat.{ℕ, _+_, _-_, _<_, _≤_}
+use Prim.Native.Nat.{ℕ, _+_, _-_, _/_, _%_, _^_, _<_, _≤_}
 use native.Mathlib.Omega.{arith}
 use lib.ListN.{length, getD, take, drop, replicate, length-append, length-take, length-drop, length-map, length-replicate, getD-replicate}
 use lib.Seq.{take-all, take-append-le, take-append-add, drop-append-add, take-add, take-take, drop-drop, getD-take, getD-drop, ext-getD}
+use lib.Pow.{shr-shr}
 use Rattle.terms.specs.Table.{extract}
+use Rattle.laws.specs.Binary.{binary}
+use Rattle.laws.proofs.Binary.{binary-length, binary-at}
 use Rattle.laws.proofs.Lists.{map-take, map-drop, drop-left, drop-take}
 
 -- Bits high down to low of a word are high + 1 - low bits.
@@ -96,3 +99,18 @@ extract-replicate n b high low l h =
     extract-bit (replicate n b) high low i (omega arith) (omega arith)
     ∙ getD-replicate n (length (replicate n b) - (high + 1) + i) b 0 (omega arith)
     ∙ sym (getD-replicate (high + 1 - low) i b 0 (omega arith)))
+
+-- An extraction of the bits of a number is the bits of the number without those below.
+pub extract-binary : (w a high low : ℕ) → low ≤ high → high < w → extract (binary w a) high low ≡ binary (high + 1 - low) (a / 2 ^ low)
+extract-binary w a high low l h =
+    let n = high + 1 - low in
+    let wide : length (binary w a) ≡ w = binary-length w a in
+    let size : length (extract (binary w a) high low) ≡ n = extract-length (binary w a) high low l (omega arith) in
+    ext-getD 0 (extract (binary w a) high low) (binary n (a / 2 ^ low)) (size ∙ sym (binary-length n (a / 2 ^ low)))
+    (λ i m.
+    let from : w - 1 - (length (binary w a) - (high + 1) + i) ≡ low + (n - 1 - i) = omega arith in
+    extract-bit (binary w a) high low i (omega arith) (omega arith)
+    ∙ binary-at w a (length (binary w a) - (high + 1) + i) (omega arith)
+    ∙ ap (λ (k : ℕ). a / 2 ^ k % 2) from
+    ∙ ap (λ (k : ℕ). k % 2) (sym (shr-shr a low (n - 1 - i)))
+    ∙ sym (binary-at n (a / 2 ^ low) i (omega arith)))

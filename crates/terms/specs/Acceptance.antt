@@ -1,4 +1,4 @@
--- What it says of a table that it is accepted, and what each of its refusals says (document 01, "Where a call stops", 11 to 18): by the
+-- What it says of a table that it is accepted, and what each of its refusals says (document 01, "Where a call stops", 11 to 18; document 02, 40): by the
 -- rules alone, without a search for the first. `acceptance` and `fault-exactly` (proofs/Acceptance.antt) are the theorems.
 use mathlib.Core.Path.{_≡_}
 use mathlib.Core.Bool.{true, false}
@@ -7,10 +7,10 @@ use Prim.Native.Nat.{ℕ, _%_, _<_, _≤_}
 use lib.ListN.{length}
 use Rattle.terms.specs.declared.Row.{Row}
 use Rattle.terms.specs.declared.Fault.{Fault}
-use Rattle.terms.specs.declared.Fault.the-variants.{Accepted, Shape, Kind, Unused, Named, Width, Bounds, Count, Sides}
+use Rattle.terms.specs.declared.Fault.the-variants.{Accepted, Shape, Kind, Unused, Named, Width, Value, Bounds, Count, Sides}
 use Rattle.terms.specs.Table.{rowsOf}
 use Rattle.terms.specs.Calls.{faultNumber, faultRow}
-use Rattle.terms.specs.Faults.{breaks12, breaks13, breaks14, breaks15, breaks16, breaks17, breaks18, firstFault}
+use Rattle.terms.specs.Faults.{breaks12, breaks13, breaks14, breaks15, breaks40, breaks16, breaks17, breaks18, firstFault}
 
 -- A holds exactly if B does.
 pub record Exactly (A B : Type 0) : Type 0 where
@@ -22,7 +22,7 @@ pub record WholeRows (numbers : List ℕ) : Type 0 where
   pub whole : length numbers % 4 ≡ 0
   pub few : length (rowsOf numbers) ≤ 512
 
--- Row r keeps the rules of a row down to this one, in document 01's order.
+-- Row r keeps the rules of a row down to this one, in the documents' order.
 abbrev pub Keeps12 : List Row → ℕ → Type 0
 Keeps12 t r = breaks12 t r ≡ false
 
@@ -35,8 +35,11 @@ Keeps14 t r = Keeps13 t r × (breaks14 t r ≡ false)
 abbrev pub Keeps15 : List Row → ℕ → Type 0
 Keeps15 t r = Keeps14 t r × (breaks15 t r ≡ false)
 
+abbrev pub Keeps40 : List Row → ℕ → Type 0
+Keeps40 t r = Keeps15 t r × (breaks40 t r ≡ false)
+
 abbrev pub Keeps16 : List Row → ℕ → Type 0
-Keeps16 t r = Keeps15 t r × (breaks16 t r ≡ false)
+Keeps16 t r = Keeps40 t r × (breaks16 t r ≡ false)
 
 abbrev pub Keeps17 : List Row → ℕ → Type 0
 Keeps17 t r = Keeps16 t r × (breaks17 t r ≡ false)
@@ -52,7 +55,7 @@ pub record Reaches (numbers : List ℕ) (r : ℕ) : Type 0 where
   pub before : (i : ℕ) → i < r → KeepsAll (rowsOf numbers) i
 
 -- What each fault says of a table. Accepted: it is at most 512 whole rows, and none of them breaks a rule. Shape: it is not at most 512
--- whole rows. A fault of row r: no row before r breaks a rule, and the fault's rule is the first, in document 01's order, that r breaks.
+-- whole rows. A fault of row r: no row before r breaks a rule, and the fault's rule is the first, in the documents' order, that r breaks.
 abbrev pub Says : Fault → List ℕ → Type 0
 Says Accepted numbers = WholeRows numbers × ((r : ℕ) → r < length (rowsOf numbers) → KeepsAll (rowsOf numbers) r)
 Says Shape numbers = WholeRows numbers → ⊥
@@ -60,7 +63,8 @@ Says (Kind r) numbers = Reaches numbers r × (breaks12 (rowsOf numbers) r ≡ tr
 Says (Unused r) numbers = Reaches numbers r × Keeps12 (rowsOf numbers) r × (breaks13 (rowsOf numbers) r ≡ true)
 Says (Named r) numbers = Reaches numbers r × Keeps13 (rowsOf numbers) r × (breaks14 (rowsOf numbers) r ≡ true)
 Says (Width r) numbers = Reaches numbers r × Keeps14 (rowsOf numbers) r × (breaks15 (rowsOf numbers) r ≡ true)
-Says (Bounds r) numbers = Reaches numbers r × Keeps15 (rowsOf numbers) r × (breaks16 (rowsOf numbers) r ≡ true)
+Says (Value r) numbers = Reaches numbers r × Keeps15 (rowsOf numbers) r × (breaks40 (rowsOf numbers) r ≡ true)
+Says (Bounds r) numbers = Reaches numbers r × Keeps40 (rowsOf numbers) r × (breaks16 (rowsOf numbers) r ≡ true)
 Says (Count r) numbers = Reaches numbers r × Keeps16 (rowsOf numbers) r × (breaks17 (rowsOf numbers) r ≡ true)
 Says (Sides r) numbers = Reaches numbers r × Keeps17 (rowsOf numbers) r × (breaks18 (rowsOf numbers) r ≡ true)
 
@@ -68,7 +72,7 @@ Says (Sides r) numbers = Reaches numbers r × Keeps17 (rowsOf numbers) r × (bre
 abbrev pub Refused : List ℕ → ℕ → ℕ → Type 0
 Refused numbers number row = (faultNumber (firstFault numbers) ≡ number) × (faultRow (firstFault numbers) ≡ row)
 
--- Acceptance and each number of document 01's table, both ways.
+-- Acceptance and each number of a table's refusals, both ways.
 pub record Acceptance (numbers : List ℕ) : Type 0 where
   pub accepted : Exactly (firstFault numbers ≡ Accepted) (Says Accepted numbers)
   pub refused-11 : Exactly (Refused numbers 11 512) (Says Shape numbers)
@@ -76,6 +80,7 @@ pub record Acceptance (numbers : List ℕ) : Type 0 where
   pub refused-13 : (r : ℕ) → Exactly (Refused numbers 13 r) (Says (Unused r) numbers)
   pub refused-14 : (r : ℕ) → Exactly (Refused numbers 14 r) (Says (Named r) numbers)
   pub refused-15 : (r : ℕ) → Exactly (Refused numbers 15 r) (Says (Width r) numbers)
+  pub refused-40 : (r : ℕ) → Exactly (Refused numbers 40 r) (Says (Value r) numbers)
   pub refused-16 : (r : ℕ) → Exactly (Refused numbers 16 r) (Says (Bounds r) numbers)
   pub refused-17 : (r : ℕ) → Exactly (Refused numbers 17 r) (Says (Count r) numbers)
   pub refused-18 : (r : ℕ) → Exactly (Refused numbers 18 r) (Says (Sides r) numbers)

@@ -4,7 +4,7 @@ use mathlib.Core.List.{List, [], _∷_}
 use Prim.Native.Nat.{ℕ}
 use Rattle.terms.specs.declared.Record.{Record}
 use Rattle.terms.specs.declared.Fault.{Fault}
-use Rattle.terms.specs.declared.Fault.the-variants.{Accepted, Shape, Kind, Unused, Named, Width, Bounds, Count, Sides}
+use Rattle.terms.specs.declared.Fault.the-variants.{Accepted, Shape, Kind, Unused, Named, Width, Value, Bounds, Count, Sides}
 
 -- A refusal's number stands as outcome; other fields are 0 but row.
 abbrev pub refusal : ℕ → ℕ → Record
@@ -22,6 +22,7 @@ faultNumber (Kind r) = 12
 faultNumber (Unused r) = 13
 faultNumber (Named r) = 14
 faultNumber (Width r) = 15
+faultNumber (Value r) = 40
 faultNumber (Bounds r) = 16
 faultNumber (Count r) = 17
 faultNumber (Sides r) = 18
@@ -33,6 +34,7 @@ faultRow (Kind r) = r
 faultRow (Unused r) = r
 faultRow (Named r) = r
 faultRow (Width r) = r
+faultRow (Value r) = r
 faultRow (Bounds r) = r
 faultRow (Count r) = r
 faultRow (Sides r) = r

@@ -1,13 +1,13 @@
--- Which rule of document 01's table ("Where a call stops", numbers 11 to 18) a term table breaks first.
+-- Which rule of document 01's table ("Where a call stops", numbers 11 to 18), and of document 02's (40), a term table breaks first.
 -- Each number is one definition, over the rows t of the table and the number r of a row.
-use mathlib.Core.Bool.{Bool, true, false, not, _||_, cond}
+use mathlib.Core.Bool.{Bool, true, false, not, _&&_, _||_, cond}
 use mathlib.Core.List.{List, [], _∷_}
-use Prim.Native.Nat.{ℕ, zero, suc, _%_}
+use Prim.Native.Nat.{ℕ, zero, suc, _%_, _^_}
 use lib.Dec.{eqb, ltb}
 use lib.ListN.{length, take}
 use Rattle.terms.specs.declared.Row.{Row}
 use Rattle.terms.specs.declared.Fault.{Fault}
-use Rattle.terms.specs.declared.Fault.the-variants.{Accepted, Shape, Kind, Unused, Named, Width, Bounds, Count, Sides}
+use Rattle.terms.specs.declared.Fault.the-variants.{Accepted, Shape, Kind, Unused, Named, Width, Value, Bounds, Count, Sides}
 use Rattle.terms.specs.Table.{rowsOf, rowAt, byKind, widthOf, countKind, bitsOf}
 
 abbrev pub nonzero : ℕ → Bool
@@ -17,9 +17,9 @@ nonzero n = not (eqb n 0)
 unfoldable pub breaks11 : List ℕ → Bool
 breaks11 numbers = nonzero (length numbers % 4) || ltb 512 (length (rowsOf numbers))
 
--- 12: kind above 4
+-- 12: kind above 5
 unfoldable pub breaks12 : List Row → ℕ → Bool
-breaks12 t r = ltb 4 (rowAt t r .kind)
+breaks12 t r = ltb 5 (rowAt t r .kind)
 
 -- 13: unused column not 0
 unfoldable pub unusedColumn : Row → Bool
@@ -58,13 +58,20 @@ unfoldable pub wrongWidth : Row → ℕ → Bool
 wrongWidth row width =
     byKind (row .kind)
     (outside width)
-    (outside width || ltb 1 (row .a))
+    (outside width || (eqb (row .kind) 1 && ltb 1 (row .a)))
     (outside width)
     false
     false
 
 unfoldable pub breaks15 : List Row → ℕ → Bool
 breaks15 t r = wrongWidth (rowAt t r) (widthOf t r)
+
+-- 40: value: width above 16, or a number that does not fit the width
+unfoldable pub wrongValue : Row → Bool
+wrongValue row = eqb (row .kind) 5 && (ltb 16 (row .b) || not (ltb (row .a) (2 ^ row .b)))
+
+unfoldable pub breaks40 : List Row → ℕ → Bool
+breaks40 t r = wrongValue (rowAt t r)
 
 -- 16: cut: high not below the width, or low above high
 unfoldable pub wrongBounds : Row → ℕ → Bool
@@ -98,13 +105,14 @@ unfoldable pub firstRule : List (Bool × Fault) → Fault
 firstRule [] = Accepted
 firstRule (s ∷ rules) = cond (s .0) (s .1) (firstRule rules)
 
--- The rules of row r, in document 01's order, each with its fault.
+-- The rules of row r, in the documents' order, each with its fault.
 unfoldable pub rulesAt : List Row → ℕ → List (Bool × Fault)
 rulesAt t r =
     (breaks12 t r, Kind r)
     ∷ (breaks13 t r, Unused r)
     ∷ (breaks14 t r, Named r)
     ∷ (breaks15 t r, Width r)
+    ∷ (breaks40 t r, Value r)
     ∷ (breaks16 t r, Bounds r)
     ∷ (breaks17 t r, Count r)
     ∷ (breaks18 t r, Sides r)
@@ -120,6 +128,7 @@ isAccepted (Kind r) = false
 isAccepted (Unused r) = false
 isAccepted (Named r) = false
 isAccepted (Width r) = false
+isAccepted (Value r) = false
 isAccepted (Bounds r) = false
 isAccepted (Count r) = false
 isAccepted (Sides r) = false

@@ -5,4 +5,5 @@ pub mod Calls
 pub mod Value
 pub mod Acceptance
 pub mod Sound
+pub mod Markers
 pub mod inner

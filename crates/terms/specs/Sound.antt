@@ -1,5 +1,5 @@
--- What the theorems on values are stated with (proofs/Values.antt, Equations.antt): tables none of whose rows breaks a rule, and rows that are
--- a concatenation (join) or an extraction (cut).
+-- What the theorems on values are stated with (proofs/Equations.antt, Markers.antt): tables none of whose rows breaks a rule, and rows that are
+-- a fill, a concatenation (join), an extraction (cut) or a value.
 use mathlib.Core.Path.{_≡_}
 use mathlib.Core.Bool.{true}
 use mathlib.Core.List.{List}
@@ -15,6 +15,20 @@ Passed t r = (i : ℕ) → i < r → isAccepted (faultAt t i) ≡ true
 
 abbrev pub Sound : List Row → Type 0
 Sound t = Passed t (length t)
+
+-- Row r of the table is a fill of the bit x that is w wide.
+pub record IsFill (t : List Row) (r x w : ℕ) : Type 0 where
+  pub in-table : r < length t
+  pub is-fill : rowAt t r .kind ≡ 1
+  pub bit-is : rowAt t r .a ≡ x
+  pub width-is : rowAt t r .b ≡ w
+
+-- Row r of the table is the number a, a value that is w wide.
+pub record IsValue (t : List Row) (r a w : ℕ) : Type 0 where
+  pub in-table : r < length t
+  pub is-value : rowAt t r .kind ≡ 5
+  pub number-is : rowAt t r .a ≡ a
+  pub width-is : rowAt t r .b ≡ w
 
 -- Row r of the table is the concatenation a ⊗ b.
 pub record IsConcat (t : List Row) (r a b : ℕ) : Type 0 where

@@ -1,4 +1,4 @@
--- What a term table means (document 01, "The term table"): its rows, their widths and values, and when an
+-- What a term table means (document 01, "The term table"; document 02, (i)): its rows, their widths and values, and when an
 -- assignment satisfies it. The bits of a word stand high end first.
 use mathlib.Core.Bool.{Bool, true, false, _&&_, cond}
 use mathlib.Core.List.{List, [], _∷_, _++_}
@@ -7,6 +7,7 @@ use lib.Dec.{eqb}
 use lib.ListN.{length, getD, take, drop, replicate}
 use Rattle.terms.specs.declared.Row.{Row}
 use Rattle.laws.specs.Lists.{countUp}
+use Rattle.laws.specs.Binary.{binary}
 
 -- The numbers of a table as rows of kind, a, b, c.
 unfoldable pub rowsOf : List ℕ → List Row
@@ -29,14 +30,15 @@ noRow = record { kind = 0; a = 0; b = 0; c = 0 }
 abbrev pub rowAt : List Row → ℕ → Row
 rowAt t r = getD t r noRow
 
--- What goes with a kind: 0 a variable, 1 a constant (fill), 2 a concatenation (join), 3 an extraction (cut),
--- 4 an equation.
+-- What goes with a kind: 0 a variable, 1 and 5 a fixed word (fill, value), 2 a concatenation (join), 3 an extraction (cut),
+-- 4 an equation. A row of a kind above 5 is refused.
 unfoldable pub byKind : {A : Type 0} → ℕ → A → A → A → A → A → A
-byKind zero variable constant concat extraction equation = variable
-byKind (suc zero) variable constant concat extraction equation = constant
-byKind (suc (suc zero)) variable constant concat extraction equation = concat
-byKind (suc (suc (suc zero))) variable constant concat extraction equation = extraction
-byKind (suc (suc (suc (suc k)))) variable constant concat extraction equation = equation
+byKind zero variable fixed concat extraction equation = variable
+byKind (suc zero) variable fixed concat extraction equation = fixed
+byKind (suc (suc zero)) variable fixed concat extraction equation = concat
+byKind (suc (suc (suc zero))) variable fixed concat extraction equation = extraction
+byKind (suc (suc (suc (suc zero)))) variable fixed concat extraction equation = equation
+byKind (suc (suc (suc (suc (suc k))))) variable fixed concat extraction equation = fixed
 
 -- What goes with a variable, and what with any other row.
 abbrev pub ifVariable : {A : Type 0} → Row → A → A → A
@@ -86,13 +88,17 @@ countKind k (r ∷ rs) = cond (eqb (r .kind) k) 1 0 + countKind k rs
 unfoldable pub extract : List ℕ → ℕ → ℕ → List ℕ
 extract word high low = take (high + 1 - low) (drop (length word - (high + 1)) word)
 
--- A row's value under the assignment p, from the rows before it and their values vs: a variable gives its bits, a
--- constant its copies, a concatenation sets two values side by side, an extraction keeps bits b down to c.
+-- The bits of a fixed word: copies of a fill's bit, or the bits of a value's number, high bit first.
+unfoldable pub fixedWord : Row → List ℕ
+fixedWord r = cond (eqb (r .kind) 1) (replicate (r .b) (r .a)) (binary (r .b) (r .a))
+
+-- A row's value under the assignment p, from the rows before it and their values vs: a variable gives its bits, so does
+-- a fixed word, a concatenation sets two values side by side, an extraction keeps bits b down to c.
 unfoldable pub valueIn : List ℕ → List Row → List (List ℕ) → Row → List ℕ
 valueIn p before vs r =
     byKind (r .kind)
     (take (r .a) (drop (bitsOf before) p))
-    (replicate (r .b) (r .a))
+    (fixedWord r)
     (getD vs (r .a) [] ++ getD vs (r .b) [])
     (extract (getD vs (r .a) []) (r .b) (r .c))
     []

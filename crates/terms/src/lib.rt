@@ -12,10 +12,14 @@ pub const EXTRACT: u16 = 3;
 
 pub const EQUATION: u16 = 4;
 
+pub const VALUE: u16 = 5;
+
 // The limits of a table.
 pub const MAX_ROWS: usize = 512;
 
 pub const MAX_WIDTH: usize = 1024;
+
+pub const MAX_VALUE_WIDTH: usize = 16;
 
 pub const MAX_VARIABLES: usize = 64;
 
@@ -44,7 +48,7 @@ pub struct Row {
 }
 
 // What the check of a table finds: no fault, a table that is not at most 512 whole rows, or the first rule
-// broken and the row that breaks it. `faultRecord` has document 01's number and row for each.
+// broken and the row that breaks it. `faultRecord` has the number and the row for each.
 pub enum Fault {
     Accepted,
     Shape,
@@ -52,6 +56,7 @@ pub enum Fault {
     Unused(u16),
     Named(u16),
     Width(u16),
+    Value(u16),
     Bounds(u16),
     Count(u16),
     Sides(u16),

@@ -25,7 +25,7 @@ use Rattle.appender.proofs.put_part.Kinds as put-part-kinds
 use Rattle.appender.proofs.+put_cut+put_form+put_join+put_part.Lts-put_part as put-part-lts
 use Rattle.appender.proofs.cut_of.Reads as cut-of-reads
 use Rattle.appender.proofs.leaf.Reads as leaf-reads
-use Rattle.appender.proofs.leaf_piece.Reads as leaf-piece-reads
+use Rattle.appender.proofs.put_leaf.Reads as put-leaf-reads
 use Rattle.appender.proofs.left_bits.Reads as left-bits-reads
 use Rattle.appender.proofs.right_bits.Reads as right-bits-reads
 use Rattle.numbers.proofs.difference.Reads as difference-reads
@@ -33,7 +33,6 @@ use Rattle.numbers.proofs.load.Reads as load-reads
 use Rattle.numbers.proofs.plus.Reads as plus-reads
 use Rattle.numbers.proofs.wide.Reads as wide-reads
 use Rattle.rows.proofs.row_at.Reads as row-at-reads
-use Rattle.pieces.proofs.push.Reads as push-reads
 use Rattle.appender.proofs.+put_cut+put_form+put_join+put_part.{statement}
 use Rattle.appender.proofs.+put_cut+put_form+put_join+put_part.Tie.{close}
 
@@ -76,10 +75,10 @@ module _ (t : ℕ) where
   part-below = and 4 put-part-kinds.ps (falls 4 put-part-kinds.ps _<_ μ-part t) put-part.Pre
 
   abbrev cut-calls : put-cut-lts.Claims
-  cut-calls = (wide-reads.Asked, wide-reads.Learnt, row-at-reads.Asked, row-at-reads.Learnt, leaf-reads.Asked, leaf-reads.Learnt, load-reads.Asked, load-reads.Learnt, leaf-piece-reads.Asked, leaf-piece-reads.Learnt, push-reads.Asked, push-reads.Learnt, plus-reads.Asked, plus-reads.Learnt, cut-of-reads.Asked, cut-of-reads.Learnt, cut-below, put-cut.Post, left-bits-reads.Asked, left-bits-reads.Learnt, right-bits-reads.Asked, right-bits-reads.Learnt, join-below, put-join.Post)
+  cut-calls = (wide-reads.Asked, wide-reads.Learnt, row-at-reads.Asked, row-at-reads.Learnt, leaf-reads.Asked, leaf-reads.Learnt, load-reads.Asked, load-reads.Learnt, put-leaf-reads.Asked, put-leaf-reads.Learnt, plus-reads.Asked, plus-reads.Learnt, cut-of-reads.Asked, cut-of-reads.Learnt, cut-below, put-cut.Post, left-bits-reads.Asked, left-bits-reads.Learnt, right-bits-reads.Asked, right-bits-reads.Learnt, join-below, put-join.Post)
 
   abbrev form-calls : put-form-lts.Claims
-  form-calls = (row-at-reads.Asked, row-at-reads.Learnt, leaf-reads.Asked, leaf-reads.Learnt, load-reads.Asked, load-reads.Learnt, difference-reads.Asked, difference-reads.Learnt, leaf-piece-reads.Asked, leaf-piece-reads.Learnt, push-reads.Asked, push-reads.Learnt, wide-reads.Asked, wide-reads.Learnt, cut-of-reads.Asked, cut-of-reads.Learnt, cut-below, put-cut.Post, form-below, put-form.Post)
+  form-calls = (row-at-reads.Asked, row-at-reads.Learnt, leaf-reads.Asked, leaf-reads.Learnt, load-reads.Asked, load-reads.Learnt, difference-reads.Asked, difference-reads.Learnt, put-leaf-reads.Asked, put-leaf-reads.Learnt, wide-reads.Asked, wide-reads.Learnt, cut-of-reads.Asked, cut-of-reads.Learnt, cut-below, put-cut.Post, form-below, put-form.Post)
 
   abbrev join-calls : put-join-lts.Claims
   join-calls = (part-below, put-part.Post)
@@ -94,9 +93,9 @@ module _ (t : ℕ) where
   form-of-leaf : put-form-lts.Need-returns form-calls form-at put-form.Post
   form-of-leaf c =
       let d = c .before .before .before in
-      form-leaf _ _ _ _ _ (d .before .before .before .before .before .before .before .row-at .ensures) _ _ _ _ (sym (d .before .before .before .before .before .before .leaf .ensures) ∙ d .before .before .before .before .before .if1 .taken)
-      _ _ (d .before .before .before .before .load .ensures) (d .before .before .difference .ensures ∙ ap (λ (w : ℕ). w - 1) (d .before .before .before .load2 .ensures))
-      _ (d .leaf-piece .ensures) (c .before .before .push .ensures .0) (c .before .before .push .ensures .1)
+      form-leaf _ _ _ _ _ (d .before .before .before .before .before .before .row-at .ensures) _ _ _ _ (sym (d .before .before .before .before .before .leaf .ensures) ∙ d .before .before .before .before .if1 .taken)
+      _ _ (d .before .before .before .load .ensures) (d .before .difference .ensures ∙ ap (λ (w : ℕ). w - 1) (d .before .before .load2 .ensures))
+      (c .before .before .put-leaf .ensures)
 
   form-named-later : put-form-lts.Need-returns-2 form-calls form-at put-form.Post
   form-named-later c = form-first-later _ _ _ _ _ (c .before .before .before .before .row-at .ensures) _ _ _ _ (form-inner (c .before .before)) _ (c .before .wide .ensures .0) (c .if2 .taken)
@@ -132,8 +131,8 @@ module _ (t : ℕ) where
   cut-at-leaf : put-cut-lts.Need-returns cut-calls cut-at put-cut.Post
   cut-at-leaf c =
       let d = c .before .before .before in
-      cut-leaf _ _ _ _ _ (d .before .before .before .before .before .before .wide .ensures .0) _ (d .before .before .before .before .before .row-at .ensures) _ _ _ _ (sym (d .before .before .before .before .leaf .ensures) ∙ d .before .before .before .if1 .taken)
-      _ (d .before .before .load .ensures) _ (d .leaf-piece .ensures) (c .before .before .push .ensures .0) (c .before .before .push .ensures .1)
+      cut-leaf _ _ _ _ _ (d .before .before .before .before .before .wide .ensures .0) _ (d .before .before .before .before .row-at .ensures) _ _ _ _ (sym (d .before .before .before .leaf .ensures) ∙ d .before .before .if1 .taken)
+      _ (d .before .load .ensures) (c .before .before .put-leaf .ensures)
 
   cut-named-later : put-cut-lts.Need-returns-2 cut-calls cut-at put-cut.Post
   cut-named-later c =
@@ -204,8 +203,7 @@ pub +put-cut+put-form+put-join+put-part-spec : {M : Type 1} → statement M
     (λ c κs. tt)
     (λ c κs. tt)
     (λ c κs. tt)
-    (λ c κs. tt)
-    (λ c. c .before .before .push .kept .0)
+    (λ c. c .before .before .put-leaf .kept .1 .1 .1 .1 .0)
     (cut-at-leaf t)
     (λ c κs. tt)
     (cut-named-later t)
@@ -231,8 +229,7 @@ pub +put-cut+put-form+put-join+put-part-spec : {M : Type 1} → statement M
     (λ c κs. tt)
     (λ c κs. tt)
     (λ c κs. tt)
-    (λ c κs. tt)
-    (λ c. c .before .before .push .kept .0)
+    (λ c. c .before .before .put-leaf .kept .1 .1 .1 .1 .0)
     (form-of-leaf t)
     (λ c κs. tt)
     (form-named-later t)

@@ -1,26 +1,39 @@
 -- Cuts of rows, what a cut of a join has of each part, and what the form functions promise of them.
 use mathlib.Core.Path.{_≡_}
 use mathlib.Core.Bool.{Bool, false, _||_, cond}
-use mathlib.Core.List.{List, [], _++_}
-use Prim.Native.Nat.{ℕ, _-_, _<_, _≤_}
+use mathlib.Core.List.{List, [], _∷_, _++_}
+use Prim.Native.Nat.{ℕ, _+_, _-_, _/_, _^_, _<_, _≤_}
 use lib.Dec.{eqb, ltb}
+use Rattle.laws.specs.Binary.{binary}
 use Rattle.terms.specs.declared.Row.{Row}
 use Rattle.terms.specs.Table.{rowsOf, widthOf, sourceOf, extract}
 use Rattle.terms.specs.Faults.{absent}
 use Rattle.forms.specs.declared.Piece.{Piece}
-use Rattle.forms.specs.Form.{fill, part}
+use Rattle.forms.specs.Form.{fill, part, formFrom}
 use Rattle.forms.specs.inner.Numbered.{Numbered}
 use Rattle.appender.specs.declared.Cut.{Cut}
 use Rattle.appender.specs.declared.Part.{Part}
 use Rattle.appender.specs.inner.Append.{Appended}
 
--- Whether a row of this kind names no other row: a variable or a constant.
+-- Whether a row of this kind names no other row: a variable, a constant or a value.
 unfoldable pub isLeaf : ℕ → Bool
-isLeaf kind = eqb kind 0 || eqb kind 1
+isLeaf kind = eqb kind 0 || eqb kind 1 || eqb kind 5
 
--- The piece that bits high to low of a leaf are, where v is a variable's number.
+-- The piece that bits high to low of a variable or a constant are, where v is a variable's number.
 unfoldable pub leafPiece : Row → ℕ → ℕ → ℕ → Piece
 leafPiece r v high low = cond (eqb (r .kind) 0) (part v high low) (fill (r .a) (high - low))
+
+-- Bits high to low of a number were appended.
+abbrev pub AppendsBits : ℕ → ℕ → ℕ → ℕ → List ℕ → ℕ → List ℕ → Type 0
+AppendsBits number high low n out m out′ = (t : List Row) → low ≤ high → Appended t (binary (high + 1 - low) (number / 2 ^ low)) n out m out′
+
+-- Bits high to low of a leaf were appended: those of a value's number, or those that are its piece.
+abbrev pub AppendsLeaf : Row → ℕ → ℕ → ℕ → ℕ → List ℕ → ℕ → List ℕ → Type 0
+AppendsLeaf r v high low n out m out′ =
+    (t : List Row) (sources : List ℕ) → low ≤ high
+    → (r .kind ≡ 5 → sources ≡ binary (high + 1 - low) (r .a / 2 ^ low))
+    → ((r .kind ≡ 5 → ⊥) → formFrom t sources ≡ leafPiece r v high low ∷ [])
+    → Appended t sources n out m out′
 
 -- The normal form of a row was appended, for a table that is accepted and a row that is there.
 abbrev pub AppendsForm : List ℕ → List ℕ → List ℕ → ℕ → ℕ → List ℕ → ℕ → List ℕ → Type 0

@@ -17,13 +17,13 @@ returns : tie.Need-returns
 unfolding bitsIn
 returns c = (
   each-kind _ _ (λ h. c .wide .ensures .0) (λ h. absurd (omega arith)) (λ h. absurd (omega arith)) (λ h. absurd (omega arith))
-      (λ h. absurd (omega arith)),
+      (λ h. absurd (omega arith)) (λ h. absurd (omega arith)),
   omega arith,
 )
 
 returns-2 : tie.Need-returns-2
 unfolding bitsIn
-returns-2 c = (each-kind _ _ (λ h. absurd (omega arith)) (λ h. refl) (λ h. refl) (λ h. refl) (λ h. refl), omega arith)
+returns-2 c = (each-kind _ _ (λ h. absurd (omega arith)) (λ h. refl) (λ h. refl) (λ h. refl) (λ h. refl) (λ h. refl), omega arith)
 
 pub row-bits-spec : {M : Type 1} → statement M
 row-bits-spec = tie.close (tie.spec wide-requires cast-result returns returns-2)

@@ -1,20 +1,20 @@
--- `row_fault` meets its contract: the rules are asked in document 01's order. Assumes nothing.
+-- `row_fault` meets its contract: the rules are asked in the documents' order. Assumes nothing.
 use mathlib.Core.Path.{_≡_, sym, _∙_, ap, ap₂}
 use mathlib.Core.Bool.{false}
 use lib.Dec.{ltb}
 use lib.ListN.{getD}
 use denote.Ref.{now}
 use borrow.Author.Tests.{lt-ltb, le-ltb}
-use Rattle.terms.specs.declared.Fault.the-variants.{Kind, Unused, Named, Width, Bounds, Count, Sides}
+use Rattle.terms.specs.declared.Fault.the-variants.{Kind, Unused, Named, Width, Value, Bounds, Count, Sides}
 use Rattle.terms.specs.Table.{rowsOf, widthIn}
-use Rattle.terms.specs.Faults.{unusedColumn, misnamed, wrongWidth, wrongBounds, tooMany, unequalSides, firstRule}
+use Rattle.terms.specs.Faults.{unusedColumn, misnamed, wrongWidth, wrongValue, wrongBounds, tooMany, unequalSides, firstRule}
 use Rattle.checker.specs.inner.Check.{rulesIn}
 use borrow.Author.Needs.{needs}
 use Rattle.checker.proofs.row_fault.Statement.{statement}
 use Rattle.checker.proofs.row_fault.Tie as tie
 
 -- what the answer of each rule says of the row
-kept-12 : (d : tie.Else1) → ltb 4 (d .before .before .before .before .args .row .kind) ≡ false
+kept-12 : (d : tie.Else1) → ltb 5 (d .before .before .before .before .args .row .kind) ≡ false
 kept-12 d = le-ltb _ _ (d .if1 .left)
 
 said-13 : (d : tie.After-unused) → unusedColumn (d .before .before .before .before .before .args .row) ≡ d .unused .result
@@ -27,18 +27,21 @@ said-15 : (d : tie.After-bad-width)
     → wrongWidth (d .before .before .before .before .before .before .before .before .before .before .args .row) (widthIn (now (d .before .before .before .before .before .before .before .before .before .before .args .widths)) (d .before .before .before .before .before .before .before .before .before .before .args .row)) ≡ d .bad-width .result
 said-15 d = ap (wrongWidth (d .before .before .before .before .before .before .before .before .before .before .args .row)) (sym (d .before .row-width .ensures .0)) ∙ sym (d .bad-width .ensures)
 
-said-16 : (d : tie.After-bad-bounds)
-    → wrongBounds (d .before .before .before .before .before .before .before .before .before .before .before .before .before .args .row) (getD (now (d .before .before .before .before .before .before .before .before .before .before .before .before .before .args .widths)) (d .before .before .before .before .before .before .before .before .before .before .before .before .before .args .row .a) 0) ≡ d .bad-bounds .result
-said-16 d = ap (wrongBounds (d .before .before .before .before .before .before .before .before .before .before .before .before .before .args .row)) (sym (d .before .width-at .ensures .0)) ∙ sym (d .bad-bounds .ensures)
+said-40 : (d : tie.After-bad-value) → wrongValue (d .before .before .before .before .before .before .before .before .before .before .before .before .args .row) ≡ d .bad-value .result
+said-40 d = sym (d .bad-value .ensures)
 
-said-17 : (d : tie.After-too-many) → tooMany (d .before .before .before .before .before .before .before .before .before .before .before .before .before .before .before .args .variables) (d .before .before .before .before .before .before .before .before .before .before .before .before .before .before .before .args .bits) (d .before .before .before .before .before .before .before .before .before .before .before .before .before .before .before .args .equations) ≡ d .too-many .result
+said-16 : (d : tie.After-bad-bounds)
+    → wrongBounds (d .before .before .before .before .before .before .before .before .before .before .before .before .before .before .before .args .row) (getD (now (d .before .before .before .before .before .before .before .before .before .before .before .before .before .before .before .args .widths)) (d .before .before .before .before .before .before .before .before .before .before .before .before .before .before .before .args .row .a) 0) ≡ d .bad-bounds .result
+said-16 d = ap (wrongBounds (d .before .before .before .before .before .before .before .before .before .before .before .before .before .before .before .args .row)) (sym (d .before .width-at .ensures .0)) ∙ sym (d .bad-bounds .ensures)
+
+said-17 : (d : tie.After-too-many) → tooMany (d .before .before .before .before .before .before .before .before .before .before .before .before .before .before .before .before .before .args .variables) (d .before .before .before .before .before .before .before .before .before .before .before .before .before .before .before .before .before .args .bits) (d .before .before .before .before .before .before .before .before .before .before .before .before .before .before .before .before .before .args .equations) ≡ d .too-many .result
 said-17 d = sym (d .too-many .ensures)
 
 said-18 : (d : tie.After-bad-sides)
-    → unequalSides (d .before .before .before .before .before .before .before .before .before .before .before .before .before .before .before .before .before .before .args .row) (getD (now (d .before .before .before .before .before .before .before .before .before .before .before .before .before .before .before .before .before .before .args .widths)) (d .before .before .before .before .before .before .before .before .before .before .before .before .before .before .before .before .before .before .args .row .a) 0) (getD (now (d .before .before .before .before .before .before .before .before .before .before .before .before .before .before .before .before .before .before .args .widths)) (d .before .before .before .before .before .before .before .before .before .before .before .before .before .before .before .before .before .before .args .row .b) 0)
+    → unequalSides (d .before .before .before .before .before .before .before .before .before .before .before .before .before .before .before .before .before .before .before .before .args .row) (getD (now (d .before .before .before .before .before .before .before .before .before .before .before .before .before .before .before .before .before .before .before .before .args .widths)) (d .before .before .before .before .before .before .before .before .before .before .before .before .before .before .before .before .before .before .before .before .args .row .a) 0) (getD (now (d .before .before .before .before .before .before .before .before .before .before .before .before .before .before .before .before .before .before .before .before .args .widths)) (d .before .before .before .before .before .before .before .before .before .before .before .before .before .before .before .before .before .before .before .before .args .row .b) 0)
     ≡ d .bad-sides .result
 said-18 d =
-    ap₂ (unequalSides (d .before .before .before .before .before .before .before .before .before .before .before .before .before .before .before .before .before .before .args .row)) (sym (d .before .before .before .before .before .before .width-at .ensures .0)) (sym (d .before .width-at2 .ensures .0))
+    ap₂ (unequalSides (d .before .before .before .before .before .before .before .before .before .before .before .before .before .before .before .before .before .before .before .before .args .row)) (sym (d .before .before .before .before .before .before .width-at .ensures .0)) (sym (d .before .width-at2 .ensures .0))
     ∙ sym (d .bad-sides .ensures)
 
 narrow-requires : tie.Need-narrow-requires
@@ -55,6 +58,9 @@ row-width-requires c κs = search needs
 
 bad-width-requires : tie.Need-bad-width-requires
 bad-width-requires c κs = search needs
+
+bad-value-requires : tie.Need-bad-value-requires
+bad-value-requires c κs = search needs
 
 width-at-requires : tie.Need-width-at-requires
 width-at-requires c κs = search needs
@@ -111,13 +117,13 @@ returns-5 : tie.Need-returns-5
 unfolding firstRule rulesIn
 returns-5 c =
     rw (
-      kept-12 (c .before .before .before .before .before .before .before .before .before .before),
-      said-13 (c .before .before .before .before .before .before .before .before .before) ∙ (c .before .before .before .before .before .before .before .before) .if2 .left,
-      said-14 (c .before .before .before .before .before .before .before) ∙ (c .before .before .before .before .before .before) .if3 .left,
-      said-15 (c .before .before .before .before) ∙ (c .before .before .before) .if4 .left,
-      said-16 (c .before) ∙ (c) .if5 .taken,
+      kept-12 (c .before .before .before .before .before .before .before .before .before),
+      said-13 (c .before .before .before .before .before .before .before .before) ∙ (c .before .before .before .before .before .before .before) .if2 .left,
+      said-14 (c .before .before .before .before .before .before) ∙ (c .before .before .before .before .before) .if3 .left,
+      said-15 (c .before .before .before) ∙ (c .before .before) .if4 .left,
+      said-40 (c .before) ∙ (c) .if5 .taken,
     )
-    (ap Bounds (c .before .before .before .before .before .before .before .before .before .before .before .narrow .ensures))
+    (ap Value (c .before .before .before .before .before .before .before .before .before .before .narrow .ensures))
 
 returns-6 : tie.Need-returns-6
 unfolding firstRule rulesIn
@@ -127,36 +133,52 @@ returns-6 c =
       said-13 (c .before .before .before .before .before .before .before .before .before .before .before) ∙ (c .before .before .before .before .before .before .before .before .before .before) .if2 .left,
       said-14 (c .before .before .before .before .before .before .before .before .before) ∙ (c .before .before .before .before .before .before .before .before) .if3 .left,
       said-15 (c .before .before .before .before .before .before) ∙ (c .before .before .before .before .before) .if4 .left,
-      said-16 (c .before .before .before) ∙ (c .before .before) .if5 .left,
-      said-17 (c .before) ∙ (c) .if6 .taken,
+      said-40 (c .before .before .before .before) ∙ (c .before .before .before) .if5 .left,
+      said-16 (c .before) ∙ (c) .if6 .taken,
     )
-    (ap Count (c .before .before .before .before .before .before .before .before .before .before .before .before .before .narrow .ensures))
+    (ap Bounds (c .before .before .before .before .before .before .before .before .before .before .before .before .before .narrow .ensures))
 
 returns-7 : tie.Need-returns-7
 unfolding firstRule rulesIn
 returns-7 c =
     rw (
-      kept-12 (c .before .before .before .before .before .before .before .before .before .before .before .before .before .before .before),
-      said-13 (c .before .before .before .before .before .before .before .before .before .before .before .before .before .before) ∙ (c .before .before .before .before .before .before .before .before .before .before .before .before .before) .if2 .left,
-      said-14 (c .before .before .before .before .before .before .before .before .before .before .before .before) ∙ (c .before .before .before .before .before .before .before .before .before .before .before) .if3 .left,
-      said-15 (c .before .before .before .before .before .before .before .before .before) ∙ (c .before .before .before .before .before .before .before .before) .if4 .left,
-      said-16 (c .before .before .before .before .before .before) ∙ (c .before .before .before .before .before) .if5 .left,
-      said-17 (c .before .before .before .before) ∙ (c .before .before .before) .if6 .left,
-      said-18 (c .before) ∙ (c) .if7 .taken,
+      kept-12 (c .before .before .before .before .before .before .before .before .before .before .before .before .before .before),
+      said-13 (c .before .before .before .before .before .before .before .before .before .before .before .before .before) ∙ (c .before .before .before .before .before .before .before .before .before .before .before .before) .if2 .left,
+      said-14 (c .before .before .before .before .before .before .before .before .before .before .before) ∙ (c .before .before .before .before .before .before .before .before .before .before) .if3 .left,
+      said-15 (c .before .before .before .before .before .before .before .before) ∙ (c .before .before .before .before .before .before .before) .if4 .left,
+      said-40 (c .before .before .before .before .before .before) ∙ (c .before .before .before .before .before) .if5 .left,
+      said-16 (c .before .before .before) ∙ (c .before .before) .if6 .left,
+      said-17 (c .before) ∙ (c) .if7 .taken,
     )
-    (ap Sides (c .before .before .before .before .before .before .before .before .before .before .before .before .before .before .before .before .narrow .ensures))
+    (ap Count (c .before .before .before .before .before .before .before .before .before .before .before .before .before .before .before .narrow .ensures))
 
 returns-8 : tie.Need-returns-8
 unfolding firstRule rulesIn
 returns-8 c =
     rw (
-      kept-12 (c .before .before .before .before .before .before .before .before .before .before .before .before .before .before .before),
-      said-13 (c .before .before .before .before .before .before .before .before .before .before .before .before .before .before) ∙ (c .before .before .before .before .before .before .before .before .before .before .before .before .before) .if2 .left,
-      said-14 (c .before .before .before .before .before .before .before .before .before .before .before .before) ∙ (c .before .before .before .before .before .before .before .before .before .before .before) .if3 .left,
-      said-15 (c .before .before .before .before .before .before .before .before .before) ∙ (c .before .before .before .before .before .before .before .before) .if4 .left,
-      said-16 (c .before .before .before .before .before .before) ∙ (c .before .before .before .before .before) .if5 .left,
-      said-17 (c .before .before .before .before) ∙ (c .before .before .before) .if6 .left,
-      said-18 (c .before) ∙ (c) .if7 .left,
+      kept-12 (c .before .before .before .before .before .before .before .before .before .before .before .before .before .before .before .before .before),
+      said-13 (c .before .before .before .before .before .before .before .before .before .before .before .before .before .before .before .before) ∙ (c .before .before .before .before .before .before .before .before .before .before .before .before .before .before .before) .if2 .left,
+      said-14 (c .before .before .before .before .before .before .before .before .before .before .before .before .before .before) ∙ (c .before .before .before .before .before .before .before .before .before .before .before .before .before) .if3 .left,
+      said-15 (c .before .before .before .before .before .before .before .before .before .before .before) ∙ (c .before .before .before .before .before .before .before .before .before .before) .if4 .left,
+      said-40 (c .before .before .before .before .before .before .before .before .before) ∙ (c .before .before .before .before .before .before .before .before) .if5 .left,
+      said-16 (c .before .before .before .before .before .before) ∙ (c .before .before .before .before .before) .if6 .left,
+      said-17 (c .before .before .before .before) ∙ (c .before .before .before) .if7 .left,
+      said-18 (c .before) ∙ (c) .if8 .taken,
+    )
+    (ap Sides (c .before .before .before .before .before .before .before .before .before .before .before .before .before .before .before .before .before .before .narrow .ensures))
+
+returns-9 : tie.Need-returns-9
+unfolding firstRule rulesIn
+returns-9 c =
+    rw (
+      kept-12 (c .before .before .before .before .before .before .before .before .before .before .before .before .before .before .before .before .before),
+      said-13 (c .before .before .before .before .before .before .before .before .before .before .before .before .before .before .before .before) ∙ (c .before .before .before .before .before .before .before .before .before .before .before .before .before .before .before) .if2 .left,
+      said-14 (c .before .before .before .before .before .before .before .before .before .before .before .before .before .before) ∙ (c .before .before .before .before .before .before .before .before .before .before .before .before .before) .if3 .left,
+      said-15 (c .before .before .before .before .before .before .before .before .before .before .before) ∙ (c .before .before .before .before .before .before .before .before .before .before) .if4 .left,
+      said-40 (c .before .before .before .before .before .before .before .before .before) ∙ (c .before .before .before .before .before .before .before .before) .if5 .left,
+      said-16 (c .before .before .before .before .before .before) ∙ (c .before .before .before .before .before) .if6 .left,
+      said-17 (c .before .before .before .before) ∙ (c .before .before .before) .if7 .left,
+      said-18 (c .before) ∙ (c) .if8 .left,
     )
 
 pub row-fault-spec : {M : Type 1} → statement M
@@ -172,12 +194,14 @@ row-fault-spec =
     row-width-requires
     bad-width-requires
     returns-4
+    bad-value-requires
+    returns-5
     width-at-requires
     bad-bounds-requires
-    returns-5
-    too-many-requires
     returns-6
+    too-many-requires
+    returns-7
     width-at-requires-2
     bad-sides-requires
-    returns-7
-    returns-8)
+    returns-8
+    returns-9)

@@ -14,14 +14,14 @@ wide-requires c κs = search needs
 
 returns : tie.Need-returns
 unfolding widthIn
-returns c = (each-kind _ _ (λ h. c .wide .ensures .0) (λ h. absurd (omega arith)) (λ h. absurd (omega arith)) (λ h. absurd (omega arith)) (λ h. absurd (omega arith)), omega arith)
+returns c = (each-kind _ _ (λ h. c .wide .ensures .0) (λ h. absurd (omega arith)) (λ h. absurd (omega arith)) (λ h. absurd (omega arith)) (λ h. absurd (omega arith)) (λ h. absurd (omega arith)), omega arith)
 
 wide-requires-2 : tie.Need-wide-requires-2
 wide-requires-2 c κs = search needs
 
 returns-2 : tie.Need-returns-2
 unfolding widthIn
-returns-2 c = (each-kind _ _ (λ h. absurd (omega arith)) (λ h. c .wide2 .ensures .0) (λ h. absurd (omega arith)) (λ h. absurd (omega arith)) (λ h. absurd (omega arith)), omega arith)
+returns-2 c = (each-kind _ _ (λ h. absurd (omega arith)) (λ h. c .wide2 .ensures .0) (λ h. absurd (omega arith)) (λ h. absurd (omega arith)) (λ h. absurd (omega arith)) (λ h. absurd (omega arith)), omega arith)
 
 width-at-requires : tie.Need-width-at-requires
 width-at-requires c κs = search needs
@@ -34,7 +34,7 @@ add-result c = search needs
 
 returns-3 : tie.Need-returns-3
 unfolding widthIn
-returns-3 c = (each-kind _ _ (λ h. absurd (omega arith)) (λ h. absurd (omega arith)) (λ h. ap₂ _+_ (c .before .width-at .ensures .0) (c .width-at2 .ensures .0)) (λ h. absurd (omega arith)) (λ h. absurd (omega arith)), omega arith)
+returns-3 c = (each-kind _ _ (λ h. absurd (omega arith)) (λ h. absurd (omega arith)) (λ h. ap₂ _+_ (c .before .width-at .ensures .0) (c .width-at2 .ensures .0)) (λ h. absurd (omega arith)) (λ h. absurd (omega arith)) (λ h. absurd (omega arith)), omega arith)
 
 wide-requires-3 : tie.Need-wide-requires-3
 wide-requires-3 c κs = search needs
@@ -47,15 +47,22 @@ add-result-2 c = search needs
 
 returns-4 : tie.Need-returns-4
 unfolding widthIn
-returns-4 c = (each-kind _ _ (λ h. absurd (omega arith)) (λ h. absurd (omega arith)) (λ h. absurd (omega arith)) (λ h. omega arith) (λ h. absurd (omega arith)), omega arith)
+returns-4 c = (each-kind _ _ (λ h. absurd (omega arith)) (λ h. absurd (omega arith)) (λ h. absurd (omega arith)) (λ h. omega arith) (λ h. absurd (omega arith)) (λ h. absurd (omega arith)), omega arith)
 
 returns-5 : tie.Need-returns-5
 unfolding widthIn
-returns-5 c = (each-kind _ _ (λ h. absurd (omega arith)) (λ h. absurd (omega arith)) (λ h. absurd (omega arith)) (λ h. omega arith) (λ h. absurd (omega arith)), omega arith)
+returns-5 c = (each-kind _ _ (λ h. absurd (omega arith)) (λ h. absurd (omega arith)) (λ h. absurd (omega arith)) (λ h. omega arith) (λ h. absurd (omega arith)) (λ h. absurd (omega arith)), omega arith)
 
 returns-6 : tie.Need-returns-6
 unfolding widthIn
-returns-6 c = (each-kind _ _ (λ h. absurd (omega arith)) (λ h. absurd (omega arith)) (λ h. absurd (omega arith)) (λ h. absurd (omega arith)) (λ h. refl), omega arith)
+returns-6 c = (each-kind _ _ (λ h. absurd (omega arith)) (λ h. absurd (omega arith)) (λ h. absurd (omega arith)) (λ h. absurd (omega arith)) (λ h. refl) (λ h. absurd (omega arith)), omega arith)
+
+wide-requires-5 : tie.Need-wide-requires-5
+wide-requires-5 c κs = search needs
+
+returns-7 : tie.Need-returns-7
+unfolding widthIn
+returns-7 c = (each-kind _ _ (λ h. absurd (omega arith)) (λ h. absurd (omega arith)) (λ h. absurd (omega arith)) (λ h. absurd (omega arith)) (λ h. absurd (omega arith)) (λ h. c .wide5 .ensures .0), omega arith)
 
 pub row-width-spec : {M : Type 1} → statement M
 row-width-spec =
@@ -74,4 +81,6 @@ row-width-spec =
     add-result-2
     returns-4
     returns-5
-    returns-6)
+    returns-6
+    wide-requires-5
+    returns-7)

@@ -6,17 +6,18 @@ use lib.Dec.{ltb}
 use lib.ListN.{length, getD, take}
 use Rattle.terms.specs.declared.Row.{Row}
 use Rattle.terms.specs.declared.Fault.{Fault}
-use Rattle.terms.specs.declared.Fault.the-variants.{Accepted, Shape, Kind, Unused, Named, Width, Bounds, Count, Sides}
+use Rattle.terms.specs.declared.Fault.the-variants.{Accepted, Shape, Kind, Unused, Named, Width, Value, Bounds, Count, Sides}
 use Rattle.terms.specs.Table.{rowsOf, widthIn}
-use Rattle.terms.specs.Faults.{unusedColumn, misnamed, wrongWidth, wrongBounds, tooMany, unequalSides, firstFault}
+use Rattle.terms.specs.Faults.{unusedColumn, misnamed, wrongWidth, wrongValue, wrongBounds, tooMany, unequalSides, firstFault}
 
 -- The rules of row r as they are asked of it: ws has the widths of the rows before it, and the totals count it too.
 unfoldable pub rulesIn : List Row → List ℕ → ℕ → Row → ℕ → ℕ → ℕ → List (Bool × Fault)
 rulesIn t ws r row variables bits equations =
-    (ltb 4 (row .kind), Kind (r % 65536))
+    (ltb 5 (row .kind), Kind (r % 65536))
     ∷ (unusedColumn row, Unused (r % 65536))
     ∷ (misnamed t r row, Named (r % 65536))
     ∷ (wrongWidth row (widthIn ws row), Width (r % 65536))
+    ∷ (wrongValue row, Value (r % 65536))
     ∷ (wrongBounds row (getD ws (row .a) 0), Bounds (r % 65536))
     ∷ (tooMany variables bits equations, Count (r % 65536))
     ∷ (unequalSides row (getD ws (row .a) 0) (getD ws (row .b) 0), Sides (r % 65536))
@@ -34,6 +35,7 @@ rowsBefore (Kind r) n = r
 rowsBefore (Unused r) n = r
 rowsBefore (Named r) n = r
 rowsBefore (Width r) n = r
+rowsBefore (Value r) n = r
 rowsBefore (Bounds r) n = r
 rowsBefore (Count r) n = r
 rowsBefore (Sides r) n = r
