@@ -1,12 +1,12 @@
-// What the methods of the text cursor are made of: a digit, whether a byte or the name kind stands at a place of a text, and four values
-// placed in the columns of a row.
+// What the methods of the text cursor are made of: a digit, in decimal or hexadecimal, whether a byte or the name kind stands at a place of a
+// text, and four values placed in the columns of a row.
 ghost use mathlib.Core.Path.{_≡_};
 ghost use Prim.Native.Nat.{_≤_};
-ghost use Rattle.sheets.specs.Text.{digitOf, sees, valueFor, placed, seesKind, allDifferent};
+ghost use Rattle.sheets.specs.Text.{digitOf, hexDigitOf, sees, valueFor, placed, seesKind, allDifferent};
 use sheets::Order;
 use terms::Row;
 
-// The value of a digit, 10 for any other byte.
+// The value of a decimal digit, 10 for any other byte.
 pub fn digit(byte: u8) -> u32
     ensures { λ r. ⌜ (r ≡ digitOf byte) × (r ≤ 10) ⌝ }
 {
@@ -17,6 +17,24 @@ pub fn digit(byte: u8) -> u32
         return 10;
     }
     let d = byte - 48;
+    d as u32
+}
+
+// The value of a hexadecimal digit, 16 for any other byte.
+pub fn hex_digit(byte: u8) -> u32
+    ensures { λ r. ⌜ (r ≡ hexDigitOf byte) × (r ≤ 16) ⌝ }
+{
+    let d = digit(byte);
+    if d < 10 {
+        return d;
+    }
+    if byte < 97 {
+        return 16;
+    }
+    if 102 < byte {
+        return 16;
+    }
+    let d = byte - 87;
     d as u32
 }
 

@@ -1,5 +1,5 @@
--- Reading back a number that was written, and what a number that was read was written as. The invariant of reading: the
--- digits read so far are those of the value so far, which is not 0.
+-- Reading back a number that was written in decimal, and what a number that was read so was written as. The invariant of reading: the
+-- digits read so far are those of the value so far, which is not 0. Assumes nothing.
 use mathlib.Core.Path.{_≡_, refl, sym, _∙_, ap}
 use mathlib.Core.Bool.{Bool, true, false, cond}
 use mathlib.Core.List.{List, [], _∷_, _++_, append-assoc, append-nil}
@@ -8,15 +8,15 @@ use native.Mathlib.Omega.{arith}
 use lib.Dec.{ltb, eqb}
 use lib.ListN.{length, length-append}
 use borrow.Author.Tests.{lt-ltb, le-ltb, ne-eqb, ltb-true, ltb-false, eqb-true, eqb-false}
-use Rattle.sheets.specs.Text.{Value, NoNumber, digitOf, moreDigits, afterZero, numberHere}
+use Rattle.sheets.specs.Text.{Value, NoNumber, digitOf, moreDigits, afterZero, decimalHere}
 use Rattle.sheets.specs.Writing.{digits, decimal}
 
 -- the byte of a digit, and the digit of a byte
-digit-of : (d : ℕ) → d < 10 → digitOf (48 + d) ≡ d
+pub digit-of : (d : ℕ) → d < 10 → digitOf (48 + d) ≡ d
 unfolding digitOf
 digit-of d h = rw (le-ltb (48 + d) 48 (omega arith), le-ltb 57 (48 + d) (omega arith)) (omega arith)
 
-byte-of : (byte : ℕ) → digitOf byte ≤ 9 → byte ≡ 48 + digitOf byte
+pub byte-of : (byte : ℕ) → digitOf byte ≤ 9 → byte ≡ 48 + digitOf byte
 unfolding digitOf
 byte-of byte h = go (ltb byte 48) (ltb 57 byte) refl refl
   where
@@ -46,15 +46,15 @@ digit-read v d at s h k = rw (digit-of d h, le-ltb 9 d (omega arith), le-ltb 655
 
 -- what follows the digits of a number is read on from its value
 digits-read : (f n at : ℕ) (s : List ℕ) → 1 ≤ n → n ≤ 65535 → n < power f
-    → numberHere at (digits f n ++ s) ≡ moreDigits n (at + length (digits f n)) s
-unfolding numberHere moreDigits digits power
+    → decimalHere at (digits f n ++ s) ≡ moreDigits n (at + length (digits f n)) s
+unfolding decimalHere moreDigits digits power
 digits-read zero n at s l h p = absurd (omega arith)
 digits-read (suc f) n at s l h p = go (ltb n 10) refl (digits-read f (n / 10) at ((48 + n % 10) ∷ s))
   where
     go : (b : Bool) → ltb n 10 ≡ b
         → (1 ≤ n / 10 → n / 10 ≤ 65535 → n / 10 < power f
-        → numberHere at (digits f (n / 10) ++ ((48 + n % 10) ∷ s)) ≡ moreDigits (n / 10) (at + length (digits f (n / 10))) ((48 + n % 10) ∷ s))
-        → numberHere at (digits (suc f) n ++ s) ≡ moreDigits n (at + length (digits (suc f) n)) s
+        → decimalHere at (digits f (n / 10) ++ ((48 + n % 10) ∷ s)) ≡ moreDigits (n / 10) (at + length (digits f (n / 10))) ((48 + n % 10) ∷ s))
+        → decimalHere at (digits (suc f) n ++ s) ≡ moreDigits n (at + length (digits (suc f) n)) s
     go true e later =
         let k : n < 10 = ltb-true n 10 e in
         let d : digits (suc f) n ≡ (48 + n) ∷ [] = digits-one f n k in
@@ -63,35 +63,29 @@ digits-read (suc f) n at s l h p = go (ltb n 10) refl (digits-read f (n / 10) at
         let k : 10 ≤ n = ltb-false n 10 e in
         let w : digits (suc f) n ≡ digits f (n / 10) ++ ((48 + n % 10) ∷ []) = digits-last f n k in
         let same : n / 10 * 10 + n % 10 ≡ n = omega arith in
-        ap (λ (x : List ℕ). numberHere at (x ++ s)) w
-        ∙ ap (numberHere at) (append-assoc (digits f (n / 10)) ((48 + n % 10) ∷ []) s)
+        ap (λ (x : List ℕ). decimalHere at (x ++ s)) w
+        ∙ ap (decimalHere at) (append-assoc (digits f (n / 10)) ((48 + n % 10) ∷ []) s)
         ∙ later (omega arith) (omega arith) (omega arith)
         ∙ digit-read (n / 10) (n % 10) (at + length (digits f (n / 10))) s (omega arith) (omega arith)
         ∙ ap (λ (m : ℕ). moreDigits m (at + length (digits f (n / 10)) + 1) s) same
         ∙ ap (λ (i : ℕ). moreDigits n i s) (rw w (omega (arith, length-append (digits f (n / 10)) ((48 + n % 10) ∷ []))))
 
--- what ends a number: nothing, or a byte that is no digit
-pub data Ends : List ℕ → Type 0 where
-  at-end : Ends []
-  at-byte : {byte : ℕ} {s : List ℕ} → 9 < digitOf byte → Ends (byte ∷ s)
-
-more-ends : (v at : ℕ) {s : List ℕ} → Ends s → moreDigits v at s ≡ Value v at
+-- a byte that is no digit ends a number
+more-ends : (v at byte : ℕ) (s : List ℕ) → 9 < digitOf byte → moreDigits v at (byte ∷ s) ≡ Value v at
 unfolding moreDigits
-more-ends v at at-end = refl
-more-ends v at (at-byte {byte} h) = rw (lt-ltb 9 (digitOf byte) h)
+more-ends v at byte s h = rw (lt-ltb 9 (digitOf byte) h)
 
-zero-ends : (at : ℕ) {s : List ℕ} → Ends s → afterZero at s ≡ Value 0 at
+zero-ends : (at byte : ℕ) (s : List ℕ) → 9 < digitOf byte → afterZero at (byte ∷ s) ≡ Value 0 at
 unfolding afterZero
-zero-ends at at-end = refl
-zero-ends at (at-byte {byte} h) = rw (lt-ltb 9 (digitOf byte) h)
+zero-ends at byte s h = rw (lt-ltb 9 (digitOf byte) h)
 
 -- a number that was written is read back
-pub number-read : (n at : ℕ) {rest : List ℕ} → n ≤ 65535 → Ends rest
-    → numberHere at (decimal n ++ rest) ≡ Value n (at + length (decimal n))
-unfolding decimal digits power numberHere digitOf
-number-read zero at h e = zero-ends (at + 1) e
-number-read (suc n) at {rest} h e =
-    digits-read 5 (suc n) at rest (omega arith) h (omega arith) ∙ more-ends (suc n) (at + length (digits 5 (suc n))) e
+pub decimal-read : (n at byte : ℕ) (rest : List ℕ) → n ≤ 65535 → 9 < digitOf byte
+    → decimalHere at (decimal n ++ (byte ∷ rest)) ≡ Value n (at + length (decimal n))
+unfolding decimal digits power decimalHere digitOf
+decimal-read zero at byte rest h e = zero-ends (at + 1) byte rest e
+decimal-read (suc n) at byte rest h e =
+    digits-read 5 (suc n) at (byte ∷ rest) (omega arith) h (omega arith) ∙ more-ends (suc n) (at + length (digits 5 (suc n))) byte rest e
 
 -- more digits than are needed change nothing
 digits-enough : (f n : ℕ) → 1 ≤ n → n < power f → digits (suc f) n ≡ digits f n
@@ -162,7 +156,7 @@ more-written v at (byte ∷ s) n to l h e =
         }
 
 -- a number that was read stands there as it is written
-pub record Written (n at : ℕ) (s : List ℕ) (to : ℕ) : Type 0 where
+pub record InDecimal (n at : ℕ) (s : List ℕ) (to : ℕ) : Type 0 where
   pub small : n ≤ 65535
   pub rest : List ℕ
   pub split : s ≡ decimal n ++ rest
@@ -181,13 +175,13 @@ zero-written at (byte ∷ s) n to e = go (ltb 9 (digitOf byte)) e
     go true e = let same : 0 ≡ n = cc in let there : at ≡ to = cc in (sym same, sym there)
     go false e = let z : _≡_ {A = ℕ} 0 1 = cc in absurd (omega arith)
 
-pub number-written : (at : ℕ) (s : List ℕ) (n to : ℕ) → numberHere at s ≡ Value n to → Written n at s to
-unfolding numberHere
-number-written at [] n to e = let z : _≡_ {A = ℕ} 0 1 = cc in absurd (omega arith)
-number-written at (byte ∷ s) n to e = go (ltb 9 (digitOf byte)) (eqb (digitOf byte) 0) refl refl e
+pub decimal-written : (at : ℕ) (s : List ℕ) (n to : ℕ) → decimalHere at s ≡ Value n to → InDecimal n at s to
+unfolding decimalHere
+decimal-written at [] n to e = let z : _≡_ {A = ℕ} 0 1 = cc in absurd (omega arith)
+decimal-written at (byte ∷ s) n to e = go (ltb 9 (digitOf byte)) (eqb (digitOf byte) 0) refl refl e
   where
     go : (t u : Bool) → ltb 9 (digitOf byte) ≡ t → eqb (digitOf byte) 0 ≡ u
-        → cond t NoNumber (cond u (afterZero (at + 1) s) (moreDigits (digitOf byte) (at + 1) s)) ≡ Value n to → Written n at (byte ∷ s) to
+        → cond t NoNumber (cond u (afterZero (at + 1) s) (moreDigits (digitOf byte) (at + 1) s)) ≡ Value n to → InDecimal n at (byte ∷ s) to
     go true u p q e = let z : _≡_ {A = ℕ} 0 1 = cc in absurd (omega arith)
     go false true p q e =
         let d : digitOf byte ≡ 0 = eqb-true (digitOf byte) 0 q in

@@ -1,6 +1,8 @@
-pub mod Numbers
 pub mod Fields
+pub mod Numbers
 pub mod Decimal
+pub mod Hexadecimal
+pub mod Spelled
 pub mod Orders
 pub mod Writing
 pub mod Standing

@@ -11,9 +11,9 @@ use Rattle.terms.specs.declared.Row.{Row}
 use Rattle.laws.proofs.Bools.{and-first, and-second}
 use Rattle.sheets.specs.declared.Order.{Order}
 use Rattle.sheets.specs.Text.{NumberFound, Value, NoNumber, NameFound, Column, NoName, NamesFound, InOrder, NoNames, LineFound, Values, numberAt, sees, endedBy, fieldAt, placed, withNumber, lineAt, seesKind, columnAt, namedBy, nameAt, withName, allDifferent, namesAt}
-use Rattle.sheets.specs.Writing.{decimal, nameBytes, name, value, namesLine, valuesLine, IsOrder, SmallRow}
+use Rattle.sheets.specs.Writing.{spelled, Spelling, nameBytes, name, valueIn, namesLine, lineIn, IsOrder, SmallRow}
 use Rattle.sheets.proofs.Fields.{seen-within, seen-byte}
-use Rattle.sheets.proofs.Decimal.{number-written}
+use Rattle.sheets.proofs.Spelled.{number-written}
 use Rattle.sheets.proofs.Orders.{first-placed, second-placed, third-placed, fourth-placed, placed-small}
 use Rattle.sheets.proofs.Writing.{behind}
 
@@ -27,10 +27,11 @@ module _ (text : List ℕ) where
   -- a value with the byte behind it
   record ValueThere (at byte v to : ℕ) : Type 0 where
     small : v ≤ 65535
-    there : drop at text ≡ value v byte ++ drop to text
+    spelling : ℕ
+    there : drop at text ≡ valueIn spelling v byte ++ drop to text
 
   value-there : (at byte v to : ℕ) → fieldAt text at byte ≡ Value v to → ValueThere at byte v to
-  unfolding fieldAt value
+  unfolding fieldAt valueIn
   value-there at byte v to e = go (numberAt text at) refl e
     where
       go₂ : (v′ to′ : ℕ) (t : Bool) → numberAt text at ≡ Value v′ to′ → sees text to′ byte ≡ t
@@ -39,13 +40,15 @@ module _ (text : List ℕ) where
           let same : v′ ≡ v = cc in
           let w = number-written at (drop at text) v′ to′ n in
           let i : to′ + 1 ≡ to = cc in
-          let d : drop to′ text ≡ w .rest = ap (λ (k : ℕ). drop k text) (w .behind) ∙ behind text at (decimal v′) (w .rest) (w .split) in
+          let x = spelled (w .spelling) v′ in
+          let d : drop to′ text ≡ w .rest = ap (λ (k : ℕ). drop k text) (w .behind) ∙ behind text at x (w .rest) (w .split) in
           let b : drop to′ text ≡ byte ∷ drop to text = seen to′ byte s ∙ ap (λ (k : ℕ). byte ∷ drop k text) i in
           record {
             small = omega (arith, w .small);
+            spelling = w .spelling;
             there =
-                w .split ∙ ap (λ (r : List ℕ). decimal v′ ++ r) (sym d ∙ b) ∙ ap (λ (x : ℕ). decimal x ++ (byte ∷ drop to text)) same
-                ∙ sym (append-assoc (decimal v) (byte ∷ []) (drop to text));
+                w .split ∙ ap (λ (r : List ℕ). x ++ r) (sym d ∙ b) ∙ ap (λ (n : ℕ). spelled (w .spelling) n ++ (byte ∷ drop to text)) same
+                ∙ sym (append-assoc (spelled (w .spelling) v) (byte ∷ []) (drop to text));
           }
       go₂ v′ to′ false n s e = let z : _≡_ {A = ℕ} 0 1 = cc in absurd (omega arith)
 
@@ -78,31 +81,36 @@ module _ (text : List ℕ) where
 
   pub record LineThere (order : Order) (at : ℕ) (row : Row) (to : ℕ) : Type 0 where
     pub small : SmallRow row
-    pub there : drop at text ≡ valuesLine order row ++ drop to text
+    pub spelling : Spelling
+    pub there : drop at text ≡ lineIn order spelling row ++ drop to text
 
   -- the row that four values are stands there
-  row-there : (order : Order) → IsOrder order → (at v₁ v₂ v₃ v₄ k₁ k₂ k₃ k₄ : ℕ)
-      → ValueThere at 32 v₁ k₁ → ValueThere k₁ 32 v₂ k₂ → ValueThere k₂ 32 v₃ k₃ → ValueThere k₃ 10 v₄ k₄
-      → drop at text ≡ valuesLine order (placed order v₁ v₂ v₃ v₄) ++ drop k₄ text
-  unfolding valuesLine
-  row-there order is at v₁ v₂ v₃ v₄ k₁ k₂ k₃ k₄ f₁ f₂ f₃ f₄ =
-      f₁ .there
-      ∙ ap (λ (r : List ℕ). value v₁ 32 ++ r) (f₂ .there ∙ ap (λ (r : List ℕ). value v₂ 32 ++ r) (f₃ .there ∙ ap (λ (r : List ℕ). value v₃ 32 ++ r) (f₄ .there)))
-      ∙ rw (first-placed order is v₁ v₂ v₃ v₄, second-placed order is v₁ v₂ v₃ v₄, third-placed order is v₁ v₂ v₃ v₄, fourth-placed order is v₁ v₂ v₃ v₄)
-      (simp append-assoc)
+  module _ (order : Order) (is : IsOrder order) (at v₁ v₂ v₃ v₄ k₁ k₂ k₃ k₄ : ℕ)
+      (f₁ : ValueThere at 32 v₁ k₁) (f₂ : ValueThere k₁ 32 v₂ k₂) (f₃ : ValueThere k₂ 32 v₃ k₃) (f₄ : ValueThere k₃ 10 v₄ k₄) where
+    abbrev spellings : Spelling
+    spellings = record { first = f₁ .spelling; second = f₂ .spelling; third = f₃ .spelling; fourth = f₄ .spelling }
 
-  line-made : (order : Order) → IsOrder order → (at v₁ v₂ v₃ v₄ k₁ k₂ k₃ k₄ : ℕ) (row : Row) (to : ℕ)
-      → ValueThere at 32 v₁ k₁ → ValueThere k₁ 32 v₂ k₂ → ValueThere k₂ 32 v₃ k₃ → ValueThere k₃ 10 v₄ k₄
-      → Values (placed order v₁ v₂ v₃ v₄) k₄ ≡ Values row to → LineThere order at row to
-  line-made order is at v₁ v₂ v₃ v₄ k₁ k₂ k₃ k₄ row to f₁ f₂ f₃ f₄ e =
-      let same : placed order v₁ v₂ v₃ v₄ ≡ row = cc in
-      let i : k₄ ≡ to = cc in
-      record {
-        small = rw same at (placed-small order v₁ v₂ v₃ v₄ (f₁ .small) (f₂ .small) (f₃ .small) (f₄ .small));
-        there =
-            row-there order is at v₁ v₂ v₃ v₄ k₁ k₂ k₃ k₄ f₁ f₂ f₃ f₄
-            ∙ ap (λ (r : Row). valuesLine order r ++ drop k₄ text) same ∙ ap (λ (j : ℕ). valuesLine order row ++ drop j text) i;
-      }
+    row-there : drop at text ≡ lineIn order spellings (placed order v₁ v₂ v₃ v₄) ++ drop k₄ text
+    unfolding lineIn
+    row-there =
+        let x₁ = valueIn (f₁ .spelling) v₁ 32 in
+        let x₂ = valueIn (f₂ .spelling) v₂ 32 in
+        let x₃ = valueIn (f₃ .spelling) v₃ 32 in
+        f₁ .there ∙ ap (λ (r : List ℕ). x₁ ++ r) (f₂ .there ∙ ap (λ (r : List ℕ). x₂ ++ r) (f₃ .there ∙ ap (λ (r : List ℕ). x₃ ++ r) (f₄ .there)))
+        ∙ rw (first-placed order is v₁ v₂ v₃ v₄, second-placed order is v₁ v₂ v₃ v₄, third-placed order is v₁ v₂ v₃ v₄, fourth-placed order is v₁ v₂ v₃ v₄)
+        (simp append-assoc)
+
+    line-made : (row : Row) (to : ℕ) → Values (placed order v₁ v₂ v₃ v₄) k₄ ≡ Values row to → LineThere order at row to
+    line-made row to e =
+        let same : placed order v₁ v₂ v₃ v₄ ≡ row = cc in
+        let i : k₄ ≡ to = cc in
+        record {
+          small = rw same at (placed-small order v₁ v₂ v₃ v₄ (f₁ .small) (f₂ .small) (f₃ .small) (f₄ .small));
+          spelling = spellings;
+          there =
+              row-there
+              ∙ ap (λ (r : Row). lineIn order spellings r ++ drop k₄ text) same ∙ ap (λ (j : ℕ). lineIn order spellings row ++ drop j text) i;
+        }
 
   pub line-there : (order : Order) → IsOrder order → (at : ℕ) (row : Row) (to : ℕ) → lineAt text order at ≡ Values row to → LineThere order at row to
   unfolding lineAt
@@ -111,12 +119,12 @@ module _ (text : List ℕ) where
       let t₂ = taken (fieldAt text (t₁ .k) 32) (after₁ order (t₁ .v)) row to (t₁ .goes) in
       let t₃ = taken (fieldAt text (t₂ .k) 32) (after₂ order (t₁ .v) (t₂ .v)) row to (t₂ .goes) in
       let t₄ = taken (fieldAt text (t₃ .k) 10) (after₃ order (t₁ .v) (t₂ .v) (t₃ .v)) row to (t₃ .goes) in
-      line-made order is at (t₁ .v) (t₂ .v) (t₃ .v) (t₄ .v) (t₁ .k) (t₂ .k) (t₃ .k) (t₄ .k) row to
+      line-made order is at (t₁ .v) (t₂ .v) (t₃ .v) (t₄ .v) (t₁ .k) (t₂ .k) (t₃ .k) (t₄ .k)
       (value-there at 32 (t₁ .v) (t₁ .k) (t₁ .is))
       (value-there (t₁ .k) 32 (t₂ .v) (t₂ .k) (t₂ .is))
       (value-there (t₂ .k) 32 (t₃ .v) (t₃ .k) (t₃ .is))
       (value-there (t₃ .k) 10 (t₄ .v) (t₄ .k) (t₄ .is))
-      (t₄ .goes)
+      row to (t₄ .goes)
 
   -- a name, and with the byte behind it
   record ColumnThere (at n to : ℕ) : Type 0 where

@@ -8,7 +8,7 @@ use Rattle.terms.specs.declared.Row.{Row}
 use Rattle.sheets.specs.declared.Order.{Order}
 use Rattle.sheets.specs.declared.Sheet.{Sheet}
 use Rattle.sheets.specs.declared.Sheet.the-variants.{TooLong, WrongNames, TooMany, WrongLine, Rows}
-use Rattle.sheets.specs.Writing.{namesLine, valuesLine, sheetText, IsOrder, SmallRow, SmallRows, SheetOf}
+use Rattle.sheets.specs.Writing.{Spelling, namesLine, lineIn, IsOrder, SmallRow, LinesOf, SheetOf}
 
 -- A text begins with these bytes, whatever stands behind them.
 pub record Begins (bytes text : List ℕ) : Type 0 where
@@ -19,18 +19,20 @@ pub record Begins (bytes text : List ℕ) : Type 0 where
 abbrev pub NamesOtherwise : List ℕ → Type 0
 NamesOtherwise text = (order : Order) → IsOrder order → Begins (namesLine order) text → ⊥
 
--- The next line of values is otherwise than it should be: no good line, which is one of four numbers up to 65,535, begins what is left.
+-- The next line of values is otherwise than it should be: no good line, which is one of four numbers up to 65,535 in any spelling, begins
+-- what is left.
 abbrev pub LineOtherwise : Order → List ℕ → Type 0
-LineOtherwise order left = (row : Row) → SmallRow row → Begins (valuesLine order row) left → ⊥
+LineOtherwise order left = (spelling : Spelling) (row : Row) → SmallRow row → Begins (lineIn order spelling row) left → ⊥
 
 -- The names in this order, then k good lines, and then something is left.
 pub record GoodLines (k : ℕ) (order : Order) (left text : List ℕ) : Type 0 where
   pub order-is : IsOrder order
   pub rows : List Row
-  pub small : SmallRows rows
+  pub lines : List ℕ
+  pub lines-of : LinesOf order rows lines
   pub count : length rows ≡ k
   pub more : 1 ≤ length left
-  pub written : text ≡ sheetText order rows ++ left
+  pub written : text ≡ namesLine order ++ lines ++ left
 
 -- Line k, the first being 0, is one of the first 512 and the first that is otherwise than it should be.
 pub record WrongLineAt (k : ℕ) (text : List ℕ) : Type 0 where

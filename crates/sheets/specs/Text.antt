@@ -1,8 +1,8 @@
--- What stands in a text at a place (document 01, "Sheet and program"): a number, a name, a line. Each definition is given
--- the place and what is left of the text there, and says what is found and where it ends.
+-- What stands in a text at a place (document 01, "Sheet and program"; document 02, request (i)): a number, a name, a line. Each definition is
+-- given the place and what is left of the text there, and says what is found and where it ends.
 use mathlib.Core.Bool.{Bool, _&&_, _||_, not, cond}
 use mathlib.Core.List.{List, [], _∷_}
-use Prim.Native.Nat.{ℕ, _+_, _*_, _-_}
+use Prim.Native.Nat.{ℕ, zero, suc, _+_, _*_, _-_}
 use lib.Dec.{ltb, eqb}
 use lib.ListN.{length, getD, drop}
 use Rattle.terms.specs.declared.Row.{Row}
@@ -30,6 +30,10 @@ pub data LineFound : Type 0 where
 unfoldable pub digitOf : ℕ → ℕ
 digitOf byte = cond (ltb byte 48) 10 (cond (ltb 57 byte) 10 (byte - 48))
 
+-- The value of a hexadecimal digit, 0 to 9 and a to f, and 16 for any other byte.
+unfoldable pub hexDigitOf : ℕ → ℕ
+hexDigitOf byte = cond (ltb (digitOf byte) 10) (digitOf byte) (cond (ltb byte 97) 16 (cond (ltb 102 byte) 16 (byte - 87)))
+
 -- More digits of a number of which v has been read.
 unfoldable pub moreDigits : ℕ → ℕ → List ℕ → NumberFound
 moreDigits v at [] = Value v at
@@ -42,12 +46,35 @@ unfoldable pub afterZero : ℕ → List ℕ → NumberFound
 afterZero at [] = Value 0 at
 afterZero at (byte ∷ text) = cond (ltb 9 (digitOf byte)) (Value 0 at) NoNumber
 
--- A value: decimal, 0 to 65,535, without leading zeros.
-unfoldable pub numberHere : ℕ → List ℕ → NumberFound
-numberHere at [] = NoNumber
-numberHere at (byte ∷ text) =
+-- A number in decimal, 0 to 65,535, without leading zeros.
+unfoldable pub decimalHere : ℕ → List ℕ → NumberFound
+decimalHere at [] = NoNumber
+decimalHere at (byte ∷ text) =
     cond (ltb 9 (digitOf byte)) NoNumber
     (cond (eqb (digitOf byte) 0) (afterZero (at + 1) text) (moreDigits (digitOf byte) (at + 1) text))
+
+abbrev pub decimalAt : List ℕ → ℕ → NumberFound
+decimalAt text at = decimalHere at (drop at text)
+
+-- At most m more hexadecimal digits of a number of which v has been read.
+unfoldable pub moreHexDigits : ℕ → ℕ → ℕ → List ℕ → NumberFound
+moreHexDigits m v at [] = Value v at
+moreHexDigits zero v at (byte ∷ text) = cond (ltb 15 (hexDigitOf byte)) (Value v at) NoNumber
+moreHexDigits (suc m) v at (byte ∷ text) =
+    cond (ltb 15 (hexDigitOf byte)) (Value v at) (moreHexDigits m (v * 16 + hexDigitOf byte) (at + 1) text)
+
+-- A number in hexadecimal: one to four digits.
+unfoldable pub hexadecimalHere : ℕ → List ℕ → NumberFound
+hexadecimalHere at [] = NoNumber
+hexadecimalHere at (byte ∷ text) = cond (ltb 15 (hexDigitOf byte)) NoNumber (moreHexDigits 3 (hexDigitOf byte) (at + 1) text)
+
+abbrev pub hexadecimalAt : List ℕ → ℕ → NumberFound
+hexadecimalAt text at = hexadecimalHere at (drop at text)
+
+-- A value: the letter h, which is byte 104, and a number in hexadecimal; or a number in decimal.
+unfoldable pub numberHere : ℕ → List ℕ → NumberFound
+numberHere at [] = NoNumber
+numberHere at (byte ∷ text) = cond (eqb byte 104) (hexadecimalHere (at + 1) text) (decimalHere at (byte ∷ text))
 
 abbrev pub numberAt : List ℕ → ℕ → NumberFound
 numberAt text at = numberHere at (drop at text)

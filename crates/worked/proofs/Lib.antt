@@ -14,3 +14,4 @@ pub mod EveryWidth
 pub mod Worked
 pub mod SheetsSolved
 pub mod FirstSheet
+pub mod Spellings

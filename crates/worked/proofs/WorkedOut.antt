@@ -15,7 +15,7 @@ use Rattle.terms.proofs.Computed.{faultComputed, satisfiesComputed}
 use Rattle.laws.specs.Lists.{countUp, least, below, tally, member, distinct}
 use Rattle.forms.specs.Form.{bitsUp, placePieces, pieceOf, meets, merged, add, addAll, group, formFrom, formOf, numbersOf}
 use Rattle.forms.specs.Call.{formRecord, formAfter}
-use Rattle.sheets.specs.Text.{digitOf, moreDigits, afterZero, numberHere, sees, fieldAt, valueFor, placed, lineAt, seesKind, columnAt, nameAt, allDifferent, namesAt}
+use Rattle.sheets.specs.Text.{digitOf, hexDigitOf, moreDigits, afterZero, decimalHere, moreHexDigits, hexadecimalHere, numberHere, sees, fieldAt, valueFor, placed, lineAt, seesKind, columnAt, nameAt, allDifferent, namesAt}
 use Rattle.sheets.specs.Sheet.{foundFrom, rowsFrom, sheetFound, sheetRows}
 use Rattle.sheets.specs.Call.{sheetRecord, tableAfter}
 use Rattle.sheets.specs.Writing.{digits}
@@ -112,7 +112,7 @@ formComputed table r = formOut table r
 
 -- a sheet's record and rows;
 unfoldable pub sheetComputed : List ℕ → Case
-unfolding digitOf moreDigits afterZero numberHere sees fieldAt valueFor placed lineAt seesKind columnAt nameAt allDifferent namesAt foundFrom rowsFrom sheetFound sheetRows sheetRecord rowNumbers sheetOut
+unfolding digitOf hexDigitOf moreDigits afterZero decimalHere moreHexDigits hexadecimalHere numberHere sees fieldAt valueFor placed lineAt seesKind columnAt nameAt allDifferent namesAt foundFrom rowsFrom sheetFound sheetRows sheetRecord rowNumbers sheetOut
 sheetComputed text = sheetOut text
 
 -- what is printed;

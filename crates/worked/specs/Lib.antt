@@ -1,3 +1,4 @@
 pub mod Cases
 pub mod EveryWidth
 pub mod FromSheet
+pub mod Spellings

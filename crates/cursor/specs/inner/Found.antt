@@ -1,9 +1,15 @@
 -- What each case of the cursor's enums means, in the words of the definitions of sheets/specs/Text.antt: the cursor behind what was found is
 -- its place.
-use Rattle.sheets.specs.Text.{NumberFound, NameFound, NamesFound, LineFound}
+use mathlib.Core.Path.{_≡_}
+use mathlib.Core.List.{List}
+use Prim.Native.Nat.{ℕ}
+use Rattle.sheets.specs.declared.Order.{Order}
+use Rattle.sheets.specs.Text.{NumberFound, NameFound, NamesFound, LineFound, fieldAt, placed, lineAt}
 use Rattle.sheets.specs.Text as text
 use Rattle.cursor.specs.declared.Number.{Number}
 use Rattle.cursor.specs.declared.Number.the-variants.{Value, NoNumber}
+use Rattle.cursor.specs.declared.Four.{Four}
+use Rattle.cursor.specs.declared.Four.the-variants.{Found, NoFour}
 use Rattle.cursor.specs.declared.Name.{Name}
 use Rattle.cursor.specs.declared.Name.the-variants.{Column, NoName}
 use Rattle.cursor.specs.declared.Names.{Names}
@@ -30,3 +36,18 @@ namesFound NoNames = text.NoNames
 abbrev pub lineFound : Line → LineFound
 lineFound (Values row c) = text.Values row (c .at)
 lineFound NoLine = text.NoLine
+
+-- The four values of a line, in the columns that the order of the names gives them.
+abbrev pub fourFound : Order → Four → LineFound
+fourFound order (Found v₁ v₂ v₃ v₄ c) = text.Values (placed order v₁ v₂ v₃ v₄) (c .at)
+fourFound order NoFour = text.NoLine
+
+-- A value that was found is the one there, with the byte behind it; where none was found, nothing is said.
+abbrev pub FieldFound : Number → List ℕ → ℕ → ℕ → Type 0
+FieldFound (Value v c) bytes at byte = fieldAt bytes at byte ≡ text.Value v (c .at)
+FieldFound NoNumber bytes at byte = Unit {0}
+
+-- Four values that were found are those of the line there; where none were found, nothing is said.
+abbrev pub FourFound : Four → List ℕ → ℕ → Type 0
+FourFound (Found v₁ v₂ v₃ v₄ c) bytes at = (order : Order) → lineAt bytes order at ≡ text.Values (placed order v₁ v₂ v₃ v₄) (c .at)
+FourFound NoFour bytes at = Unit {0}

@@ -1,14 +1,14 @@
--- `line` meets its contract: a field after the other. Assumes nothing.
-use Rattle.sheets.specs.Text.{Values, lineAt}
-use Rattle.cursor.specs.inner.Found.{numberFound}
-use Rattle.terms.specs.declared.Row.{Row}
+-- `line` meets its contract: the four values, placed. Assumes nothing.
 use mathlib.Core.Path.{sym, _∙_, ap}
+use Rattle.terms.specs.declared.Row.{Row}
+use Rattle.sheets.specs.Text.{Values}
+use Rattle.cursor.specs.inner.Found.{fourFound}
 use borrow.Author.Needs.{needs}
 use Rattle.cursor.proofs.Cursor.line.Statement.{statement}
 use Rattle.cursor.proofs.Cursor.line.Tie as tie
 
-field-requires : tie.Need-field-requires
-field-requires c κs = search needs
+four-requires : tie.Need-four-requires
+four-requires c κs = search needs
 
 enum-known-v1 : tie.Need-enum-known-v1
 enum-known-v1 c = search needs
@@ -17,92 +17,19 @@ enum-told : tie.Need-enum-told
 enum-told c = search needs
 
 returns : tie.Need-returns
-unfolding lineAt
-returns c = rw (sym (c .before .before .field .ensures) ∙ ap numberFound (c .enum-told .given .1))
-
-field-requires-2 : tie.Need-field-requires-2
-field-requires-2 c κs = search needs
-
-enum-known-v2 : tie.Need-enum-known-v2
-enum-known-v2 c = search needs
-
-enum-told-2 : tie.Need-enum-told-2
-enum-told-2 c = search needs
-
-returns-2 : tie.Need-returns-2
-unfolding lineAt
-returns-2 c = rw (sym (c .before .before .before .before .before .before .field .ensures) ∙ ap numberFound (c .before .before .before .before .v1 .given .1), sym (c .before .before .field2 .ensures) ∙ ap numberFound (c .enum-told2 .given .1))
-
-field-requires-3 : tie.Need-field-requires-3
-field-requires-3 c κs = search needs
-
-enum-known-v3 : tie.Need-enum-known-v3
-enum-known-v3 c = search needs
-
-enum-told-3 : tie.Need-enum-told-3
-enum-told-3 c = search needs
-
-returns-3 : tie.Need-returns-3
-unfolding lineAt
-returns-3 c =
-    rw (
-      sym (c .before .before .before .before .before .before .before .before .before .before .field .ensures) ∙ ap numberFound (c .before .before .before .before .before .before .before .before .v1 .given .1),
-      sym (c .before .before .before .before .before .before .field2 .ensures) ∙ ap numberFound (c .before .before .before .before .v2 .given .1),
-      sym (c .before .before .field3 .ensures) ∙ ap numberFound (c .enum-told3 .given .1),
-    )
-
-field-requires-4 : tie.Need-field-requires-4
-field-requires-4 c κs = search needs
-
-enum-known-v4 : tie.Need-enum-known-v4
-enum-known-v4 c = search needs
-
-enum-told-4 : tie.Need-enum-told-4
-enum-told-4 c = search needs
-
-returns-4 : tie.Need-returns-4
-unfolding lineAt
-returns-4 c =
-    rw (
-      sym (c .before .before .before .before .before .before .before .before .before .before .before .before .before .before .field .ensures) ∙ ap numberFound (c .before .before .before .before .before .before .before .before .before .before .before .before .v1 .given .1),
-      sym (c .before .before .before .before .before .before .before .before .before .before .field2 .ensures) ∙ ap numberFound (c .before .before .before .before .before .before .before .before .v2 .given .1),
-      sym (c .before .before .before .before .before .before .field3 .ensures) ∙ ap numberFound (c .before .before .before .before .v3 .given .1),
-      sym (c .before .before .field4 .ensures) ∙ ap numberFound (c .enum-told4 .given .1),
-    )
+returns c =
+    let o = c .before .before .before .before .args .order in
+    ap (fourFound o) (sym (c .enum-told .given .1)) ∙ c .before .before .four .ensures o
 
 place-values-requires : tie.Need-place-values-requires
 place-values-requires c κs = search needs
 
-returns-5 : tie.Need-returns-5
-unfolding lineAt
-returns-5 c =
-    rw (
-      sym (c .before .before .before .before .before .before .before .before .before .before .before .before .before .before .before .before .field .ensures) ∙ ap numberFound (c .before .before .before .before .before .before .before .before .before .before .before .before .before .before .v1 .given .1),
-      sym (c .before .before .before .before .before .before .before .before .before .before .before .before .field2 .ensures) ∙ ap numberFound (c .before .before .before .before .before .before .before .before .before .before .v2 .given .1),
-      sym (c .before .before .before .before .before .before .before .before .field3 .ensures) ∙ ap numberFound (c .before .before .before .before .before .before .v3 .given .1),
-      sym (c .before .before .before .before .field4 .ensures) ∙ ap numberFound (c .before .before .v4 .given .1),
-    )
-    (ap (λ (r : Row). Values r (c .before .before .v4 .given .0 .1 .0 .at)) (c .place-values .ensures))
+returns-2 : tie.Need-returns-2
+returns-2 c =
+    let o = c .before .before .before .before .before .before .args .order in
+    let v = c .before .before .v1 .given in
+    ap (λ (r : Row). Values r (v .0 .1 .1 .1 .1 .0 .at)) (c .place-values .ensures)
+    ∙ ap (fourFound o) (sym (v .1)) ∙ c .before .before .before .before .four .ensures o
 
 pub line-spec : {M : Type 1} → statement M
-line-spec =
-    tie.close
-    (tie.spec
-    field-requires
-    enum-known-v1
-    enum-told
-    returns
-    field-requires-2
-    enum-known-v2
-    enum-told-2
-    returns-2
-    field-requires-3
-    enum-known-v3
-    enum-told-3
-    returns-3
-    field-requires-4
-    enum-known-v4
-    enum-told-4
-    returns-4
-    place-values-requires
-    returns-5)
+line-spec = tie.close (tie.spec four-requires enum-known-v1 enum-told returns place-values-requires returns-2)
