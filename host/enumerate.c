@@ -12,7 +12,7 @@
 #include <stdbool.h>
 #include <string.h>
 
-enum { VARIABLE = 0, FILL = 1, JOIN = 2, CUT = 3, EQUATION = 4, EQUATIONS = 64 };
+enum { VARIABLE = 0, FILL = 1, JOIN = 2, CUT = 3, EQUATION = 4, VALUE = 5, EQUATIONS = 64 };
 enum { BLOCKS = 1 << (ENUM_BITS - 6) };
 
 /* What the patterns tell of a table. */
@@ -62,6 +62,10 @@ static void read_block(const uint16_t *table, const ref_table *facts, size_t blo
         case FILL:
             for (size_t i = 0; i < width[r]; i++)
                 values[r][i] = a == 1 ? UINT64_MAX : 0;
+            break;
+        case VALUE: /* the number a in binary, its low bit last */
+            for (size_t i = width[r], left_over = a; i != 0; i--, left_over /= 2)
+                values[r][i - 1] = left_over % 2 == 1 ? UINT64_MAX : 0;
             break;
         case JOIN: /* side by side, the left part high */
             for (size_t i = 0; i < width[a]; i++)

@@ -40,6 +40,13 @@ static inline size_t plan_fill(plan *p, size_t bit, size_t width)
     return add_row(&p->d, width, FILL(bit, width));
 }
 
+static inline size_t plan_marker(plan *p, size_t value, size_t width)
+{
+    for (size_t i = 0; i < width; i++)
+        p->value[p->d.rows][width - 1 - i] = value >> i & 1;
+    return add_row(&p->d, width, MARKER(value, width));
+}
+
 static inline size_t plan_join(plan *p, size_t a, size_t b)
 {
     uint8_t *value = p->value[p->d.rows];
@@ -146,6 +153,18 @@ static inline void plan_fixed(plan *p, bool holds)
     add_row(&p->d, 0, EQUATION(left, plan_fill(p, holds ? bit : bit ^ 1U, w)));
 }
 
+/* A part of a row with a marker; if it is not to hold, they differ in one bit. */
+static inline void plan_marked(plan *p, bool holds)
+{
+    size_t r = wide_term(p), w = 1 + below(p->d.width[r] < 16 ? p->d.width[r] : 16), value = 0;
+    size_t left = plan_cut(p, r, below(p->d.width[r] - w + 1), w);
+    for (size_t i = 0; i < w; i++)
+        value = 2 * value + p->value[left][i];
+    if (!holds)
+        value ^= (size_t)1 << below(w);
+    add_row(&p->d, 0, EQUATION(left, plan_marker(p, value, w)));
+}
+
 /* A few bits of a row made 0, and some of them 1. */
 static inline void plan_conflict(plan *p)
 {
@@ -187,6 +206,10 @@ static inline void make_large(plan *p)
         size_t w = 1 + below(300);
         plan_fill(p, below(2), w);
     }
+    if (fixes && one_in(4)) {
+        size_t w = 1 + below(16);
+        plan_marker(p, some_bits(w), w);
+    }
     for (size_t i = 1 + below(12); i != 0; i--)
         plan_doubled(p);
     if (one_in(3))
@@ -207,6 +230,8 @@ static inline void make_large(plan *p)
             plan_conflict(p);
         else if (fixes && one_in(6))
             plan_fixed(p, holds);
+        else if (fixes && one_in(6))
+            plan_marked(p, holds);
         else if (one_in(2))
             plan_words(p, holds);
         else

@@ -5,7 +5,7 @@
 #include <stdbool.h>
 #include <string.h>
 
-enum { VARIABLE = 0, FILL = 1, JOIN = 2, CUT = 3, EQUATION = 4 };
+enum { VARIABLE = 0, FILL = 1, JOIN = 2, CUT = 3, EQUATION = 4, VALUE = 5 };
 
 void plain_sources(const uint16_t *table, const ref_table *facts, uint16_t sources[][REF_WIDTH])
 {
@@ -21,6 +21,10 @@ void plain_sources(const uint16_t *table, const ref_table *facts, uint16_t sourc
         case FILL:
             for (size_t i = 0; i < width[r]; i++)
                 sources[r][i] = (uint16_t)a;
+            break;
+        case VALUE: /* bit b - 1 of the number first, bit 0 last */
+            for (size_t i = 0; i < b; i++)
+                sources[r][i] = a >> (b - 1 - i) & 1;
             break;
         case JOIN:
             memcpy(sources[r], sources[a], width[a] * sizeof(uint16_t));

@@ -17,11 +17,12 @@
 
 /* Rows. */
 
-#define VARIABLE(width)    LW_VARIABLE, (width), 0, 0
-#define FILL(bit, width)   LW_FILL, (bit), (width), 0
-#define JOIN(a, b)         LW_JOIN, (a), (b), 0
-#define CUT(a, high, low)  LW_CUT, (a), (high), (low)
-#define EQUATION(a, b)     LW_EQUATION, (a), (b), 0
+#define VARIABLE(width)       LW_VARIABLE, (width), 0, 0
+#define FILL(bit, width)      LW_FILL, (bit), (width), 0
+#define JOIN(a, b)            LW_JOIN, (a), (b), 0
+#define CUT(a, high, low)     LW_CUT, (a), (high), (low)
+#define EQUATION(a, b)        LW_EQUATION, (a), (b), 0
+#define MARKER(value, width)  LW_VALUE, (value), (width), 0
 
 /* A small table as two arguments: its numbers and their count. */
 #define TABLE(...) \
@@ -107,6 +108,19 @@ static inline size_t partner(const draft *d, size_t a, bool equal)
     return NONE;
 }
 
+/* A number of so many bits, at most 16; often with a run of equal bits at one end, or of equal bits only. */
+static inline size_t some_bits(size_t width)
+{
+    size_t most = ((size_t)1 << width) - 1, bits = random_number() & most, run = below(width + 1);
+    switch (below(6)) {
+    case 0:  return bits >> run;
+    case 1:  return most & ~(bits >> run);
+    case 2:  return bits << run & most;
+    case 3:  return most & ~(bits << run);
+    default: return bits;
+    }
+}
+
 /* Adds a row of the kind if a valid one is found, else a fill. */
 static inline void grow(draft *d, size_t kind, size_t widest)
 {
@@ -136,6 +150,10 @@ static inline void grow(draft *d, size_t kind, size_t widest)
             return;
         }
         break;
+    case LW_VALUE:
+        w = w <= 16 ? w : 1 + below(16);
+        add_row(d, w, MARKER(some_bits(w), w));
+        return;
     default:
         break;
     }
@@ -147,12 +165,12 @@ static inline void make_table(draft *d)
 {
     static const size_t sizes[] = {3, 12, 40, 120, 512}, widths[] = {1, 3, 8, 60, 300, 1024};
     size_t rows = one_in(100) ? 0 : 1 + below(sizes[one_in(12) ? 4 : below(4)]), widest = widths[below(6)];
-    size_t favoured = below(5);
+    size_t favoured = below(6);
 
     clear(d);
     d->limited = !one_in(8);
     while (d->rows < rows)
-        grow(d, one_in(2) ? favoured : below(5), widest);
+        grow(d, one_in(2) ? favoured : below(6), widest);
 }
 
 /* A row of one of two kinds; NONE if there is none. */
@@ -167,6 +185,14 @@ static inline size_t some_row(const draft *d, size_t kind, size_t other)
     return NONE;
 }
 
+/* One of the refusals of a table from this one on, 11 or 12; or 0, which stands for none of them. */
+static inline unsigned some_refusal(size_t lowest)
+{
+    static const unsigned refusals[] = {11, 12, 13, 14, 15, 40, 16, 17, 18, 0};
+    size_t from = lowest - 11;
+    return refusals[from + below(sizeof refusals / sizeof refusals[0] - from)];
+}
+
 /* Makes one fault, which the given refusal mostly tells; or changes some number. */
 static inline void damage(draft *d, unsigned refusal)
 {
@@ -179,16 +205,19 @@ static inline void damage(draft *d, unsigned refusal)
         return;
     case 14: r = some_row(d, one_in(2) ? LW_JOIN : LW_EQUATION, LW_CUT); break;
     case 15: r = some_row(d, one_in(2) ? LW_VARIABLE : LW_JOIN, LW_FILL); break;
+    case 40: r = some_row(d, LW_VALUE, LW_VALUE); break;
     case 16: r = some_row(d, LW_CUT, LW_CUT); break;
     case 18: r = some_row(d, LW_EQUATION, LW_EQUATION); break;
     default: r = d->rows == 0 ? NONE : below(d->rows); break;
     }
+    if (refusal == 15 && one_in(4))
+        r = some_row(d, LW_VALUE, LW_VALUE);
     if (r == NONE)
         return;
     n += 4 * r;
     switch (refusal) {
     case 12:
-        n[0] = (uint16_t)(5 + below(one_in(2) ? 3 : 65531));
+        n[0] = (uint16_t)(6 + below(one_in(2) ? 3 : 65530));
         break;
     case 13:
         n[n[0] == LW_VARIABLE && one_in(2) ? 2 : 3] = (uint16_t)(1 + below(9));
@@ -203,7 +232,13 @@ static inline void damage(draft *d, unsigned refusal)
         else if (n[0] == LW_FILL && one_in(3))
             n[1] = (uint16_t)(2 + below(3));
         else
-            n[n[0] == LW_FILL ? 2 : 1] = (uint16_t)(one_in(2) ? 0 : 1025 + below(3));
+            n[n[0] == LW_VARIABLE ? 1 : 2] = (uint16_t)(one_in(2) ? 0 : 1025 + below(3));
+        break;
+    case 40: /* too wide; or a value that is too large by one, by little, or by much */
+        if (one_in(3) || n[2] >= 16)
+            n[2] = (uint16_t)(one_in(2) ? 17 : 17 + below(1008));
+        else
+            n[1] = (uint16_t)((1U << n[2]) + (one_in(2) ? 0 : below(one_in(2) ? 3 : 65536 - (1U << n[2]))));
         break;
     case 16:
         if (n[1] < r && one_in(2))
@@ -217,7 +252,7 @@ static inline void damage(draft *d, unsigned refusal)
             n[2] = (uint16_t)a;
         break;
     default:
-        n[below(4)] = (uint16_t)below(one_in(2) ? 6 : 65536);
+        n[below(4)] = (uint16_t)below(one_in(2) ? 7 : 65536);
         break;
     }
 }

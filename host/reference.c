@@ -6,7 +6,7 @@
 #include <stdlib.h>
 #include <string.h>
 
-enum { VARIABLE = 0, FILL = 1, JOIN = 2, CUT = 3, EQUATION = 4 };
+enum { VARIABLE = 0, FILL = 1, JOIN = 2, CUT = 3, EQUATION = 4, VALUE = 5 };
 
 typedef struct {
     unsigned kind, a, b, c;
@@ -56,10 +56,20 @@ static size_t width_of(const uint16_t *table, size_t r, const size_t width[])
     switch (w.kind) {
     case VARIABLE: return w.a;
     case FILL:     return w.b;
+    case VALUE:    return w.b;
     case JOIN:     return width[w.a] + width[w.b];
     case CUT:      return (size_t)w.b - w.c + 1;
     default:       return 0;
     }
+}
+
+/* 2 to the width; that is at most 16. */
+static unsigned power_of_2(size_t width)
+{
+    unsigned power = 1;
+    while (width-- != 0)
+        power *= 2;
+    return power;
 }
 
 /* Whether row r breaks the rule of this number. It breaks none before that, and earlier rows break none. */
@@ -69,8 +79,8 @@ static bool breaks(const uint16_t *table, size_t r, unsigned rule, const size_t 
     size_t own;
 
     switch (rule) {
-    case 12: /* kind above 4 */
-        return w.kind > 4;
+    case 12: /* no such kind: it begins at 6 */
+        return w.kind >= 6;
     case 13: /* unused column not 0 */
         switch (w.kind) {
         case VARIABLE: return w.b != 0 || w.c != 0;
@@ -89,6 +99,8 @@ static bool breaks(const uint16_t *table, size_t r, unsigned rule, const size_t 
             return false;
         own = width_of(table, r, width);
         return own < 1 || own > 1024 || (w.kind == FILL && w.a > 1);
+    case 40: /* a width above 16 or a value that does not fit its width */
+        return w.kind == VALUE && (w.b > 16 || w.a >= power_of_2(w.b));
     case 16: /* cut: high not below the width, or low above high */
         return w.kind == CUT && (w.b >= width[w.a] || w.c > w.b);
     case 17: /* variable or equation beyond its maximum, or variable bits beyond 4,096 */
@@ -106,20 +118,28 @@ static bool breaks(const uint16_t *table, size_t r, unsigned rule, const size_t 
 
 lw_record ref_check(const uint16_t *table, size_t table_len, ref_table *facts)
 {
+    static const unsigned rules[] = {12, 13, 14, 15, 40, 16, 17, 18}; /* in this order; 40 is after 15 */
+
     if (table_len % 4 != 0 || table_len / 4 > 512)
         return refusal(11, 512);
     facts->rows = table_len / 4;
     facts->bits = 0;
     for (size_t r = 0; r < facts->rows; r++) {
-        for (unsigned rule = 12; rule <= 18; rule++)
-            if (breaks(table, r, rule, facts->width))
-                return refusal(rule, r);
+        for (size_t i = 0; i < sizeof rules / sizeof rules[0]; i++)
+            if (breaks(table, r, rules[i], facts->width))
+                return refusal(rules[i], r);
         facts->width[r] = width_of(table, r, facts->width);
         facts->place[r] = facts->bits;
         if (row_of(table, r).kind == VARIABLE)
             facts->bits += facts->width[r];
     }
     return refusal(0, 0);
+}
+
+/* Bit j of a number, the low bit being bit 0. */
+static uint8_t bit_of(unsigned number, size_t j)
+{
+    return number / power_of_2(j) % 2;
 }
 
 void ref_values(const uint16_t *table, const ref_table *facts, size_t count,
@@ -135,6 +155,10 @@ void ref_values(const uint16_t *table, const ref_table *facts, size_t count,
             break;
         case FILL:
             memset(values[r], (int)w.a, width[r]);
+            break;
+        case VALUE: /* the high bit first */
+            for (size_t i = 0; i < width[r]; i++)
+                values[r][i] = bit_of(w.a, width[r] - 1 - i);
             break;
         case JOIN: /* side by side, the left part high */
             memcpy(values[r], values[w.a], width[w.a]);
@@ -191,6 +215,10 @@ void ref_sources(const uint16_t *table, const ref_table *facts, size_t count,
         case FILL:
             for (size_t i = 0; i < width[r]; i++)
                 sources[r][i] = (ref_source){(uint8_t)w.a, 0, 0};
+            break;
+        case VALUE:
+            for (size_t i = 0; i < width[r]; i++)
+                sources[r][i] = (ref_source){bit_of(w.a, width[r] - 1 - i), 0, 0};
             break;
         case JOIN:
             memcpy(sources[r], sources[w.a], width[w.a] * sizeof(ref_source));
@@ -281,16 +309,25 @@ static int column_of(part word)
     return -1;
 }
 
-/* The number that a word stands for; -1 if there is none. */
+/*
+  The number that a word stands for; -1 if there is none. It is decimal, or the
+  letter h and one to four hexadecimal digits, among which leading zeros are
+  good.
+*/
 static long number_of(part word)
 {
-    char digits[5 + 1] = ""; /* 65,535 has five, and leading zeros are bad */
+    char text[5 + 1] = ""; /* 65,535 has five digits, and leading zeros are bad there */
     if (word.len < 1 || word.len > 5)
         return -1;
-    memcpy(digits, word.bytes, word.len);
-    if (strspn(digits, "0123456789") != word.len || (digits[0] == '0' && word.len > 1))
+    memcpy(text, word.bytes, word.len);
+    if (text[0] == 'h') {
+        if (word.len == 1 || strspn(text + 1, "0123456789abcdef") != word.len - 1)
+            return -1;
+        return strtol(text + 1, NULL, 16);
+    }
+    if (strspn(text, "0123456789") != word.len || (text[0] == '0' && word.len > 1))
         return -1;
-    long number = strtol(digits, NULL, 10);
+    long number = strtol(text, NULL, 10);
     return number <= 65535 ? number : -1;
 }
 

@@ -24,7 +24,7 @@ typedef struct {
 } ref_table;
 
 /*
-  Tests a table: outcome 0, or the first of the refusals 11 to 18 with its row.
+  Tests a table: outcome 0, or the first of the refusals 11 to 18 and 40 with its row.
   If it is accepted, *facts holds what is known of it; else *facts is undefined.
 */
 lw_record ref_check(const uint16_t *table, size_t table_len, ref_table *facts);

@@ -1,5 +1,5 @@
 /*
-  refused_tables.h -- tables that every call on a table refuses, 11 to 18
+  refused_tables.h -- tables that every call on a table refuses, 11 to 18 and 40
 
   Each function hands its tables one by one to a function of the test, with the
   number and the row that the call has to tell.
@@ -14,7 +14,7 @@ typedef void refuse_table_function(where at, const uint16_t *numbers, size_t len
 
 #define REFUSE_ONE(refuse, ...) (refuse)(HERE, __VA_ARGS__)
 
-/* Every cause of the refusals 11 to 16 and 18 by itself. (17 is among the limits.) */
+/* Every cause of the refusals 11 to 16, 18 and 40 by itself. (17 is among the limits.) */
 static inline void refuse_one_by_one(refuse_table_function refuse)
 {
     /* 11: lengths that are no whole rows. */
@@ -24,8 +24,10 @@ static inline void refuse_one_by_one(refuse_table_function refuse)
             REFUSE_ONE(refuse, good, len, 11, 512);
 
     /* 12 */
-    REFUSE_ONE(refuse, TABLE(5, 0, 0, 0), 12, 0);
-    REFUSE_ONE(refuse, TABLE(VARIABLE(1), 5, 1, 0, 0), 12, 1);
+    REFUSE_ONE(refuse, TABLE(6, 0, 0, 0), 12, 0);
+    REFUSE_ONE(refuse, TABLE(6, 1, 1, 0), 12, 0);
+    REFUSE_ONE(refuse, TABLE(VARIABLE(1), 6, 1, 0, 0), 12, 1);
+    REFUSE_ONE(refuse, TABLE(VARIABLE(1), 7, 1, 1, 0), 12, 1);
     REFUSE_ONE(refuse, TABLE(VARIABLE(1), 256, 1, 0, 0), 12, 1);
     REFUSE_ONE(refuse, TABLE(VARIABLE(1), 65535, 0, 0, 0), 12, 1);
 
@@ -36,6 +38,8 @@ static inline void refuse_one_by_one(refuse_table_function refuse)
     REFUSE_ONE(refuse, TABLE(LW_FILL, 1, 1, 1), 13, 0);
     REFUSE_ONE(refuse, TABLE(VARIABLE(1), VARIABLE(1), LW_JOIN, 0, 1, 1), 13, 2);
     REFUSE_ONE(refuse, TABLE(VARIABLE(1), VARIABLE(1), LW_EQUATION, 0, 1, 1), 13, 2);
+    REFUSE_ONE(refuse, TABLE(LW_VALUE, 4, 3, 1), 13, 0);
+    REFUSE_ONE(refuse, TABLE(LW_VALUE, 0, 16, 65535), 13, 0);
 
     /* 14: row 3 names itself, a later row, rows past the table or an equation, in each column that names a row. */
     static const uint16_t kinds[] = {LW_JOIN, LW_CUT, LW_EQUATION};
@@ -72,6 +76,25 @@ static inline void refuse_one_by_one(refuse_table_function refuse)
     REFUSE_ONE(refuse, TABLE(VARIABLE(1024), FILL(0, 1), JOIN(1, 0)), 15, 2);
     REFUSE_ONE(refuse, TABLE(VARIABLE(1024), JOIN(0, 0)), 15, 1);
     REFUSE_ONE(refuse, TABLE(VARIABLE(512), VARIABLE(513), JOIN(0, 1)), 15, 2);
+    REFUSE_ONE(refuse, TABLE(MARKER(0, 0)), 15, 0);
+    REFUSE_ONE(refuse, TABLE(MARKER(0, 1025)), 15, 0);
+    REFUSE_ONE(refuse, TABLE(MARKER(0, 65535)), 15, 0);
+    REFUSE_ONE(refuse, TABLE(VARIABLE(1020), MARKER(9, 5), JOIN(0, 1)), 15, 2);
+
+    /* 40: each width above 16; and in each width below 16 the least value that does not fit, and the greatest. */
+    for (size_t width = 1; width < 16; width++) {
+        table t = {.len = 0};
+        add(&t, MARKER(1, 1));
+        add(&t, MARKER((size_t)1 << width, width));
+        REFUSE_ONE(refuse, ALL(t), 40, 1);
+        t.numbers[4 + 1] = 65535;
+        REFUSE_ONE(refuse, ALL(t), 40, 1);
+    }
+    static const uint16_t wide[] = {17, 18, 31, 32, 33, 63, 64, 65, 128, 255, 256, 272, 512, 1023, 1024};
+    for (size_t i = 0; i < COUNT(wide); i++) {
+        REFUSE_ONE(refuse, TABLE(MARKER(0, wide[i])), 40, 0);
+        REFUSE_ONE(refuse, TABLE(MARKER(65535, wide[i])), 40, 0);
+    }
 
     /* 16: also of a cut and of a join, whose widths are their own. */
     REFUSE_ONE(refuse, TABLE(VARIABLE(8), CUT(0, 8, 0)), 16, 1);
@@ -82,12 +105,17 @@ static inline void refuse_one_by_one(refuse_table_function refuse)
     REFUSE_ONE(refuse, TABLE(VARIABLE(8), CUT(0, 6, 3), CUT(1, 4, 0)), 16, 2);
     REFUSE_ONE(refuse, TABLE(VARIABLE(3), VARIABLE(2), JOIN(0, 1), CUT(2, 5, 0)), 16, 3);
     REFUSE_ONE(refuse, TABLE(VARIABLE(5), FILL(0, 3), CUT(1, 3, 0)), 16, 2);
+    REFUSE_ONE(refuse, TABLE(MARKER(5, 3), CUT(0, 3, 0)), 16, 1);
+    REFUSE_ONE(refuse, TABLE(MARKER(5, 3), CUT(0, 1, 2)), 16, 1);
+    REFUSE_ONE(refuse, TABLE(MARKER(65535, 16), CUT(0, 16, 16)), 16, 1);
 
     /* 18 */
     REFUSE_ONE(refuse, TABLE(VARIABLE(2), VARIABLE(3), EQUATION(0, 1)), 18, 2);
     REFUSE_ONE(refuse, TABLE(VARIABLE(3), VARIABLE(2), EQUATION(0, 1)), 18, 2);
     REFUSE_ONE(refuse, TABLE(VARIABLE(3), CUT(0, 1, 0), EQUATION(0, 1)), 18, 2);
     REFUSE_ONE(refuse, TABLE(VARIABLE(2), JOIN(0, 0), EQUATION(1, 0)), 18, 2);
+    REFUSE_ONE(refuse, TABLE(VARIABLE(2), MARKER(2, 3), EQUATION(0, 1)), 18, 2);
+    REFUSE_ONE(refuse, TABLE(MARKER(1, 2), MARKER(1, 1), EQUATION(0, 1)), 18, 2);
 }
 
 /* Two faults: which of them is told. */
@@ -104,7 +132,8 @@ static inline void refuse_two_at_once(refuse_table_function refuse)
     REFUSE_ONE(refuse, ALL(t), 11, 512);
 
     /* Within a row, in the order of the numbers. */
-    REFUSE_ONE(refuse, TABLE(5, 65535, 65535, 65535), 12, 0);
+    REFUSE_ONE(refuse, TABLE(6, 65535, 65535, 65535), 12, 0);
+    REFUSE_ONE(refuse, TABLE(6, 4, 2, 0), 12, 0);
     REFUSE_ONE(refuse, TABLE(LW_VARIABLE, 0, 1, 0), 13, 0);
     REFUSE_ONE(refuse, TABLE(LW_VARIABLE, 1025, 0, 1), 13, 0);
     REFUSE_ONE(refuse, TABLE(LW_FILL, 2, 0, 1), 13, 0);
@@ -117,6 +146,16 @@ static inline void refuse_two_at_once(refuse_table_function refuse)
     REFUSE_ONE(refuse, TABLE(VARIABLE(1), CUT(1, 9, 9)), 14, 1);
     REFUSE_ONE(refuse, TABLE(VARIABLE(1), EQUATION(0, 2), VARIABLE(2)), 14, 1);
     REFUSE_ONE(refuse, TABLE(VARIABLE(1), EQUATION(0, 0), EQUATION(0, 1)), 14, 2);
+
+    /* A marker: 13 before 15 before 40. */
+    REFUSE_ONE(refuse, TABLE(LW_VALUE, 0, 0, 1), 13, 0);
+    REFUSE_ONE(refuse, TABLE(LW_VALUE, 4, 2, 1), 13, 0);
+    REFUSE_ONE(refuse, TABLE(LW_VALUE, 0, 17, 1), 13, 0);
+    REFUSE_ONE(refuse, TABLE(LW_VALUE, 65535, 65535, 65535), 13, 0);
+    REFUSE_ONE(refuse, TABLE(MARKER(1, 0)), 15, 0);
+    REFUSE_ONE(refuse, TABLE(MARKER(65535, 0)), 15, 0);
+    REFUSE_ONE(refuse, TABLE(MARKER(1, 1025)), 15, 0);
+    REFUSE_ONE(refuse, TABLE(MARKER(65535, 65535)), 15, 0);
 
     /* A 65th variable, and variable bits beyond 4096: 13 and 15 come before 17. */
     static const uint16_t variables[][4] = {
@@ -148,11 +187,11 @@ static inline void refuse_two_at_once(refuse_table_function refuse)
 
     /* In two rows, the lower row, whatever the two numbers are. Rows 0 to 63 are variables, row 64 has width 2. */
     static const struct { uint16_t row[4]; uint32_t number; } faults[] = {
-        {{5, 0, 0, 0}, 12},  {{LW_FILL, 0, 1, 7}, 13}, {{CUT(600, 0, 0)}, 14}, {{FILL(2, 1)}, 15},
-        {{CUT(0, 1, 0)}, 16}, {{VARIABLE(1)}, 17},      {{EQUATION(0, 64)}, 18},
+        {{6, 0, 0, 0}, 12},   {{LW_FILL, 0, 1, 7}, 13}, {{CUT(600, 0, 0)}, 14}, {{FILL(2, 1)}, 15},
+        {{MARKER(4, 2)}, 40}, {{CUT(0, 1, 0)}, 16},     {{VARIABLE(1)}, 17},    {{EQUATION(0, 64)}, 18},
     };
-    for (size_t i = 0; i < 7; i++)
-        for (size_t j = 0; j < 7; j++) {
+    for (size_t i = 0; i < COUNT(faults); i++)
+        for (size_t j = 0; j < COUNT(faults); j++) {
             t.len = 0;
             while (t.len < 4 * 64)
                 add(&t, VARIABLE(1));
@@ -165,7 +204,7 @@ static inline void refuse_two_at_once(refuse_table_function refuse)
     REFUSE_ONE(refuse, TABLE(VARIABLE(1), VARIABLE(2), FILL(0, 1), EQUATION(0, 1), FILL(0, 1), 9, 9, 9, 9), 18, 3);
 }
 
-/* 17: one variable, one equation or one bit too many. */
+/* 17: one variable, one equation or one bit too many. Markers are none of these. */
 static inline void refuse_beyond_maximum(refuse_table_function refuse)
 {
     table t;
@@ -179,6 +218,8 @@ static inline void refuse_beyond_maximum(refuse_table_function refuse)
         add(&t, EQUATION(0, 0));
     REFUSE_ONE(refuse, ALL(t), 17, 65);
     REFUSE_ONE(refuse, TABLE(VARIABLE(1024), VARIABLE(1024), VARIABLE(1024), VARIABLE(1024), VARIABLE(1)), 17, 4);
+    REFUSE_ONE(refuse, TABLE(VARIABLE(1024), VARIABLE(1024), VARIABLE(1024), MARKER(9, 16), VARIABLE(1024),
+                             MARKER(9, 16), VARIABLE(1)), 17, 6);
 }
 
 /* 11 for more than 512 rows, whatever follows the last whole one. */

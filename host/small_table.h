@@ -30,6 +30,7 @@ typedef struct {
     uint64_t hidden;     /* a variable's value; */
     bool one_for_all;    /* that of each variable, or else each gets one of its own */
     size_t room;         /* variable bits that can still be added */
+    bool markers;        /* whether there may be markers */
 } sketch;
 
 static inline uint64_t ones(size_t width)
@@ -48,6 +49,12 @@ static inline size_t add_fill(sketch *s, uint64_t bit, size_t width)
 {
     s->value[s->d.rows] = bit == 0 ? 0 : ones(width);
     return add_row(&s->d, width, FILL((uint16_t)bit, width));
+}
+
+static inline size_t add_marker(sketch *s, uint64_t value, size_t width)
+{
+    s->value[s->d.rows] = value;
+    return add_row(&s->d, width, MARKER((size_t)value, width));
 }
 
 static inline size_t add_join(sketch *s, size_t a, size_t b)
@@ -227,6 +234,41 @@ static inline void equate_fill(sketch *s, bool holds)
     add_equation(s, left, add_fill(s, holds ? bit : bit ^ 1, w));
 }
 
+/* A part of a row with a marker, or with a part of one; if it is not to hold, they differ in one bit. */
+static inline void equate_marker(sketch *s, bool holds)
+{
+    size_t a = small_word(s), most = s->d.width[a] < 16 ? s->d.width[a] : 16, w = one_in(2) ? most : 1 + below(most);
+    size_t low = below(s->d.width[a] - w + 1), less = w < 16 && one_in(4) ? 1 + below(16 - w) : 0;
+    uint64_t value = part_value(s, a, low, w);
+    if (!holds)
+        value ^= (uint64_t)1 << below(w);
+    size_t left = add_part(s, a, low, w), above = less == 0 ? 0 : below(less + 1);
+    if (less == 0) {
+        add_equation(s, left, add_marker(s, value, w));
+        return;
+    }
+    uint64_t around = some_bits(w + less) & ~(ones(w) << (less - above)); /* so many bits above it, the others below */
+    size_t marker = add_marker(s, around | value << (less - above), w + less);
+    add_equation(s, left, add_part(s, marker, less - above, w));
+}
+
+/* Two markers, or a marker with a fill or with what is joined of both; equal or not. */
+static inline void equate_fixed(sketch *s, bool holds)
+{
+    size_t w = 1 + below(16), at = below(w), left;
+    uint64_t value = some_bits(w);
+    if (at == 0) {
+        left = add_marker(s, value, w);
+    } else {
+        size_t high = one_in(3) ? add_fill(s, value >> at & 1, w - at) : add_marker(s, value >> at, w - at);
+        left = add_join(s, high, add_marker(s, value & ones(at), at));
+        value = s->value[left];
+    }
+    if (!holds)
+        value ^= (uint64_t)1 << below(w);
+    add_equation(s, left, add_marker(s, value, w));
+}
+
 /* Bits each equal to the next, the last one or the first one fixed: equations of one bit. */
 static inline void equate_chain(sketch *s, bool holds)
 {
@@ -305,7 +347,7 @@ static inline void add_term(sketch *s)
 {
     size_t w, a, b;
 
-    switch (below(6)) {
+    switch (below(s->markers ? 8 : 6)) {
     case 0:
         w = 1 + below(4);
         add_fill(s, below(2), w);
@@ -323,6 +365,10 @@ static inline void add_term(sketch *s)
         w = 1 + below(s->d.width[a]);
         add_part(s, a, below(s->d.width[a] - w + 1), w);
         return;
+    case 6:
+        w = 1 + below(one_in(2) ? 4 : 16);
+        add_marker(s, some_bits(w), w);
+        return;
     default:
         break;
     }
@@ -331,7 +377,8 @@ static inline void add_term(sketch *s)
     add_join(s, a, b); /* of at most 2 * SMALL_WIDTH bits */
 }
 
-static inline void make_small(sketch *s)
+/* With markers or without; the same tables without them as when there were none. */
+static inline void make_small(sketch *s, bool markers)
 {
     size_t chance = below(10);
     intent meant = chance < 2 ? MEANT_ALWAYS : chance < 6 ? MEANT_NEVER : MEANT_SOLVED;
@@ -341,6 +388,7 @@ static inline void make_small(sketch *s)
     bool words = one_in(3); /* few equations, and of parts only, so that long pieces are left */
 
     clear(&s->d);
+    s->markers = markers;
     s->room = one_in(25) ? 0 : one_in(3) ? 9 + below(6) : 1 + below(14);
     s->one_for_all = words || !one_in(3);
     if (words) {
@@ -355,6 +403,10 @@ static inline void make_small(sketch *s)
     if (s->room == 0 || one_in(4)) {
         size_t w = 1 + below(3);
         add_fill(s, below(2), w);
+    }
+    if (markers && one_in(2)) {
+        size_t w = 1 + below(16);
+        add_marker(s, some_bits(w), w);
     }
     if (s->room != 0) {
         last = add_variable(s, 1 + below(s->room));
@@ -380,7 +432,7 @@ static inline void make_small(sketch *s)
                 equate_same(s);
             continue;
         }
-        switch (!words ? below(11) : one_in(4) ? 0 : 10) {
+        switch (!words ? below(markers ? 15 : 11) : one_in(4) ? 0 : 10) {
         case 0:
         case 1:  equate_overlapping(s, holds); break;
         case 2:  equate_join(s, holds); break;
@@ -390,6 +442,10 @@ static inline void make_small(sketch *s)
         case 5:  equate_chain(s, holds); break;
         case 6:  equate_doubled(s, holds); break;
         case 7:  equate_again(s); break;
+        case 11:
+        case 12:
+        case 13: equate_marker(s, holds); break;
+        case 14: equate_fixed(s, holds); break;
         default: equate_parts(s, holds); break;
         }
     }
@@ -401,7 +457,8 @@ static inline void make_small(sketch *s)
 enum {
     NEVER_EARLY, NEVER_TIES, NEVER_OWN_TIES, NO_VARIABLES_ALWAYS, NO_VARIABLES_NEVER, NO_EQUATIONS, LATE_VARIABLE,
     WIDE_TWICE, WIDE_TWICE_IN_ONE, OVERLAPPING, FIXED_BY_CHAIN, ALL_FIXED, FILLS_DIFFER, FILLS_AT_END,
-    JOIN_OF_JOIN, WIDE_SIDES, REPEATED_PAIR, HIGHER_ONLY, LOWER_ONLY, END_ONLY, TIED_NEIGHBOURS, FEATURES
+    JOIN_OF_JOIN, WIDE_SIDES, REPEATED_PAIR, HIGHER_ONLY, LOWER_ONLY, END_ONLY, TIED_NEIGHBOURS,
+    MARKER_SIDE, MARKER_ALIKE, MARKER_CUT, MARKER_JOINED, MARKER_BESIDE_FILL, MARKERS_EQUATED, FEATURES
 };
 
 static const char *const feature_names[FEATURES] = {
@@ -414,6 +471,8 @@ static const char *const feature_names[FEATURES] = {
     "a join of a join", "an equation of over 64 bits", "a pair that was there before",
     "a border by bits tied to the higher one only", "a border by bits tied to the lower one only",
     "a border by a variable's end only", "neighbours tied to each other",
+    "a marker as a side", "a marker of over one bit, all alike", "a cut of a marker", "a marker in a join",
+    "a marker joined with a fill of its end's bit", "fixed bits on both sides, from a marker on one",
 };
 
 /* What an answer says of places: for each its class, 0 and 1 for the fixed bits, and its variable. */
@@ -490,6 +549,40 @@ static inline void note_answer(const enumeration *found, bool has[FEATURES])
     has[ALL_FIXED] = found->record.outcome == 2 && found->record.fresh == 0;
 }
 
+/* Whether all bits of a row are fixed. */
+static inline bool all_fixed(const uint16_t sources[REF_WIDTH], size_t width)
+{
+    for (size_t i = 0; i < width; i++)
+        if (sources[i] >= PLAIN_FIXED)
+            return false;
+    return true;
+}
+
+/* What a row has to do with markers: as one, or as a row that names one. */
+static inline void note_markers(const uint16_t *t, size_t r, const ref_table *facts,
+                                uint16_t sources[][REF_WIDTH], bool has[FEATURES])
+{
+    const uint16_t *n = t + 4 * r;
+    size_t a = n[1], b = n[2];
+
+    if (n[0] == LW_VALUE)
+        has[MARKER_ALIKE] |= b > 1 && (a == 0 || a == ones(b));
+    else if (n[0] == LW_CUT)
+        has[MARKER_CUT] |= t[4 * a] == LW_VALUE;
+    if (n[0] != LW_JOIN && n[0] != LW_EQUATION)
+        return;
+    bool left = t[4 * a] == LW_VALUE, right = t[4 * b] == LW_VALUE;
+    if (n[0] == LW_EQUATION) {
+        has[MARKER_SIDE] |= left || right;
+        has[MARKERS_EQUATED] |= (left && all_fixed(sources[b], facts->width[b])) ||
+                                (right && all_fixed(sources[a], facts->width[a]));
+    } else {
+        has[MARKER_JOINED] |= left || right;
+        if ((left && t[4 * b] == LW_FILL) || (right && t[4 * a] == LW_FILL))
+            has[MARKER_BESIDE_FILL] |= sources[a][facts->width[a] - 1] == sources[b][0];
+    }
+}
+
 /* What stands in a small table and in its answer. */
 static inline void note_features(const draft *d, const ref_table *facts, const enumeration *found, bool has[FEATURES])
 {
@@ -501,13 +594,15 @@ static inline void note_features(const draft *d, const ref_table *facts, const e
     plain_sources(t, facts, sources);
     memset(paired, 0, sizeof paired);
     for (size_t r = 0; r < d->rows; r++) {
-        const uint16_t *n = t + 4 * r, *a = t + 4 * n[1], *b = t + 4 * n[2];
+        const uint16_t *n = t + 4 * r;
+        note_markers(t, r, facts, sources, has);
         if (n[0] == LW_VARIABLE && last != 0)
             has[LATE_VARIABLE] = true;
         if (n[0] == LW_JOIN)
-            has[JOIN_OF_JOIN] |= a[0] == LW_JOIN || b[0] == LW_JOIN;
+            has[JOIN_OF_JOIN] |= t[4 * n[1]] == LW_JOIN || t[4 * n[2]] == LW_JOIN;
         if (n[0] != LW_EQUATION)
             continue;
+        const uint16_t *a = t + 4 * n[1], *b = t + 4 * n[2];
         last = r;
         if (a[0] == LW_CUT && b[0] == LW_CUT && a[1] == b[1] && t[4 * a[1]] == LW_VARIABLE && a[2] != b[2])
             has[OVERLAPPING] |= a[3] <= b[2] && b[3] <= a[2];

@@ -178,6 +178,118 @@ static void test_fills(void)
     ACCEPT(TABLE(VARIABLE(8), FILL(0, 4), JOIN(1, 0)), 2, 12, FORM(ZEROS(4), PART(0, 7, 0)));
 }
 
+/* Markers are shown as fills. */
+static void test_markers(void)
+{
+    /* The request's: 6 in 4 bits; joined with a fill 0 of 3; 3 in 2 bits has the form of a fill. */
+    ACCEPT(TABLE(MARKER(6, 4)), 0, 4, FORM(0, 0, 0, 0, 1, 0, 1, 0, 0, 0, 0, 0));
+    ACCEPT(TABLE(MARKER(6, 4), FILL(0, 3), JOIN(0, 1)), 2, 7, FORM(0, 0, 0, 0, 1, 0, 1, 0, 0, 0, 3, 0));
+    ACCEPT(TABLE(MARKER(3, 2)), 0, 2, FORM(1, 0, 1, 0));
+
+    /* The sync marker: 1010 1100 1110 0001. */
+    ACCEPT(TABLE(MARKER(0xACE1, 16)), 0, 16, FORM(ONES(1), ZEROS(1), ONES(1), ZEROS(1), ONES(2), ZEROS(2), ONES(3),
+                                                  ZEROS(4), ONES(1)));
+
+    /* All bits alike, and one bit otherwise at either end. */
+    for (uint16_t w = 1; w <= 16; w++) {
+        uint16_t high = (uint16_t)(w - 1), all = (uint16_t)((1UL << w) - 1);
+        ACCEPT(TABLE(MARKER(0, w)), 0, w, FORM(0, 0, high, 0));
+        ACCEPT(TABLE(MARKER(all, w)), 0, w, FORM(1, 0, high, 0));
+        if (w == 1)
+            continue;
+        ACCEPT(TABLE(MARKER(1, w)), 0, w, FORM(ZEROS(high), ONES(1)));
+        ACCEPT(TABLE(MARKER((uint16_t)(all - 1), w)), 0, w, FORM(ONES(high), ZEROS(1)));
+        ACCEPT(TABLE(MARKER((uint16_t)(1U << high), w)), 0, w, FORM(ONES(1), ZEROS(high)));
+        ACCEPT(TABLE(MARKER(all >> 1, w)), 0, w, FORM(ZEROS(1), ONES(high)));
+    }
+
+    /* Beside fills and other markers, on either side: like bits are one piece, unlike ones are not. */
+    ACCEPT(TABLE(MARKER(6, 4), FILL(0, 3), JOIN(1, 0)), 2, 7, FORM(ZEROS(4), ONES(2), ZEROS(1)));
+    ACCEPT(TABLE(MARKER(6, 4), FILL(1, 3), JOIN(0, 1)), 2, 7, FORM(ZEROS(1), ONES(2), ZEROS(1), ONES(3)));
+    ACCEPT(TABLE(MARKER(6, 4), FILL(1, 3), JOIN(1, 0)), 2, 7, FORM(ONES(3), ZEROS(1), ONES(2), ZEROS(1)));
+    ACCEPT(TABLE(MARKER(6, 4), JOIN(0, 0)), 1, 8, FORM(ZEROS(1), ONES(2), ZEROS(2), ONES(2), ZEROS(1)));
+    ACCEPT(TABLE(MARKER(1, 2), MARKER(2, 2), JOIN(0, 1)), 2, 4, FORM(ZEROS(1), ONES(2), ZEROS(1)));
+    ACCEPT(TABLE(MARKER(1, 2), MARKER(2, 2), JOIN(1, 0)), 2, 4, FORM(ONES(1), ZEROS(2), ONES(1)));
+    ACCEPT(TABLE(MARKER(7, 3), MARKER(3, 2), JOIN(0, 1)), 2, 5, FORM(ONES(5)));
+    ACCEPT(TABLE(FILL(1, 1008), MARKER(65535, 16), JOIN(0, 1)), 2, 1024, FORM(ONES(1024)));
+
+    /* Beside parts of a variable. */
+    ACCEPT(TABLE(VARIABLE(8), MARKER(2, 2), JOIN(0, 1)), 2, 10, FORM(PART(0, 7, 0), ONES(1), ZEROS(1)));
+    ACCEPT(TABLE(VARIABLE(8), MARKER(2, 2), JOIN(1, 0)), 2, 10, FORM(ONES(1), ZEROS(1), PART(0, 7, 0)));
+    ACCEPT(TABLE(VARIABLE(8), MARKER(2, 2), CUT(0, 7, 4), CUT(0, 3, 0), JOIN(2, 1), JOIN(4, 3)), 5, 10,
+           FORM(PART(0, 7, 4), ONES(1), ZEROS(1), PART(0, 3, 0)));
+
+    /* A marker is no variable: those behind it keep their numbers. */
+    ACCEPT(TABLE(MARKER(2, 2), VARIABLE(3), MARKER(2, 2), VARIABLE(2)), 1, 3, FORM(PART(0, 2, 0)));
+    ACCEPT(TABLE(MARKER(2, 2), VARIABLE(3), MARKER(2, 2), VARIABLE(2)), 3, 2, FORM(PART(1, 1, 0)));
+
+    /* Cut: 1010 1100 1110 0001 from bit to bit, and a cut of a cut. */
+    static const struct { uint16_t high, low; size_t pieces; uint16_t form[4 * 6]; } cuts[] = {
+        {15, 15, 1, {ONES(1)}},
+        {14, 14, 1, {ZEROS(1)}},
+        {0, 0, 1, {ONES(1)}},
+        {15, 14, 2, {ONES(1), ZEROS(1)}},
+        {11, 10, 1, {ONES(2)}},
+        {10, 9, 2, {ONES(1), ZEROS(1)}},
+        {4, 1, 1, {ZEROS(4)}},
+        {3, 0, 2, {ZEROS(3), ONES(1)}},
+        {11, 4, 4, {ONES(2), ZEROS(2), ONES(3), ZEROS(1)}},
+        {12, 3, 5, {ZEROS(1), ONES(2), ZEROS(2), ONES(3), ZEROS(2)}},
+    };
+    for (size_t i = 0; i < COUNT(cuts); i++) {
+        size_t width = (size_t)cuts[i].high - cuts[i].low + 1;
+        ACCEPT(TABLE(MARKER(0xACE1, 16), CUT(0, cuts[i].high, cuts[i].low)), 1, width, cuts[i].form,
+               4 * cuts[i].pieces);
+        ACCEPT(TABLE(MARKER(0xACE1, 16), CUT(0, 15, 0), CUT(1, cuts[i].high, cuts[i].low)), 2, width, cuts[i].form,
+               4 * cuts[i].pieces);
+    }
+    ACCEPT(TABLE(MARKER(0xACE1, 16), CUT(0, 11, 4), CUT(1, 5, 2)), 2, 4, FORM(ZEROS(2), ONES(2)));
+
+    /* A cut through a join of it; cut in two and joined again; its halves crossed. */
+    ACCEPT(TABLE(MARKER(6, 4), VARIABLE(4), JOIN(0, 1), CUT(2, 5, 2)), 3, 4, FORM(ONES(1), ZEROS(1), PART(0, 3, 2)));
+    ACCEPT(TABLE(MARKER(6, 4), FILL(0, 4), JOIN(0, 1), CUT(2, 5, 2)), 3, 4, FORM(ONES(1), ZEROS(3)));
+    ACCEPT(TABLE(MARKER(6, 4), CUT(0, 3, 2), CUT(0, 1, 0), JOIN(1, 2)), 3, 4, FORM(ZEROS(1), ONES(2), ZEROS(1)));
+    ACCEPT(TABLE(MARKER(6, 4), CUT(0, 3, 2), CUT(0, 1, 0), JOIN(2, 1)), 3, 4, FORM(ONES(1), ZEROS(2), ONES(1)));
+
+    /* The longest form that markers make: 0101 .. in 64 joins of one of 16 bits. */
+    static uint16_t form[4 * 1024];
+    table t = {.len = 0};
+    add(&t, MARKER(0x5555, 16));
+    for (size_t i = 0; i < 6; i++)
+        add(&t, JOIN(i, i));
+    for (uint16_t i = 0; i < 1024; i++)
+        memcpy(form + 4 * i, (const uint16_t[]){i % 2, 0, 0, 0}, 8);
+    ACCEPT(ALL(t), 6, 1024, form, 4096);
+    ACCEPT(ALL(t), 5, 512, form, 2048);
+}
+
+/* The bits of a number, so many, high bit first, as the fills of a normal form. Gives how many they are. */
+static size_t fills_of(size_t number, size_t width, uint16_t form[4 * 16])
+{
+    size_t pieces = 0;
+    for (size_t j = width; j != 0; j--) {
+        uint16_t bit = number >> (j - 1) & 1;
+        if (pieces != 0 && form[4 * pieces - 4] == bit)
+            form[4 * pieces - 2]++;
+        else
+            memcpy(form + 4 * pieces++, (const uint16_t[]){bit, 0, 0, 0}, 8);
+    }
+    return pieces;
+}
+
+/* Every number of up to 12 bits, and each 61st of up to 16. */
+static void test_all_markers(void)
+{
+    uint16_t form[4 * 16];
+    for (size_t w = 1; w <= 16; w++)
+        for (size_t number = 0; number < (size_t)1 << w; number += w <= 12 ? 1 : 61) {
+            table t = {.len = 0};
+            add(&t, MARKER(number, w));
+            lw_record want = {.pieces = (uint32_t)fills_of(number, w, form), .free = (uint32_t)w};
+            call(HERE, "marker", ALL(t), 0, NULL, 4096, want, form);
+        }
+}
+
 /* Parts of variables side by side. */
 static void test_parts(void)
 {
@@ -501,7 +613,7 @@ static void test_limits(void)
     ACCEPT(ALL(t), 511, 511, form, 4 * 256);
 }
 
-/* Refusals 11 to 18. */
+/* Refusals 11 to 18 and 40. */
 static void test_table_refusals(void)
 {
     table t;
@@ -555,7 +667,8 @@ static void test_call_refusals(void)
              (lw_record){.pieces = 1, .free = 2}, (const uint16_t[]){PART(0, 1, 0)});
 
     /* A fault of the table comes before both, also behind the row asked for. */
-    REFUSE_TABLE(TABLE(VARIABLE(3), VARIABLE(2), CUT(0, 1, 0), 5, 0, 0, 0), 12, 3);
+    REFUSE_TABLE(TABLE(VARIABLE(3), VARIABLE(2), CUT(0, 1, 0), 6, 0, 0, 0), 12, 3);
+    REFUSE_TABLE(TABLE(VARIABLE(3), VARIABLE(2), CUT(0, 1, 0), MARKER(4, 2)), 40, 3);
 }
 
 /* NULL with length 0 for each buffer. */
@@ -620,11 +733,13 @@ const test_list tests = {
         {.name = "the header's constants", .run = test_constants},
         {.name = "variables and fills", .run = test_leaves},
         {.name = "fills side by side", .run = test_fills},
+        {.name = "markers", .run = test_markers},
+        {.name = "every marker of up to 12 bits", .run = test_all_markers},
         {.name = "parts side by side", .run = test_parts},
         {.name = "cuts", .run = test_cuts},
         {.name = "widths 1 to 1024", .run = test_widths},
         {.name = "long forms and deep tables", .run = test_limits},
-        {.name = "refusals 11 to 18", .run = test_table_refusals},
+        {.name = "refusals 11 to 18, 40", .run = test_table_refusals},
         {.name = "refusals 30 and 32", .run = test_call_refusals},
         {.name = "NULL with length 0", .run = test_null},
         {.name = "random tables against the reference", .run_random = test_random_forms},

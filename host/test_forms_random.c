@@ -58,18 +58,22 @@ static void make_parts(draft *d)
         else if (one_in(2))
             regroup(d);
         else
-            grow(d, one_in(12) ? LW_EQUATION : one_in(4) ? LW_CUT : one_in(4) ? LW_VARIABLE : LW_FILL, widest);
+            grow(d, one_in(12) ? LW_EQUATION : one_in(4) ? LW_CUT : one_in(4) ? LW_VARIABLE
+                  : one_in(3) ? LW_VALUE : LW_FILL, widest);
 }
 
-/* What can stand on the two sides of a seam, that is where a row is joined. In the first two cases it is one piece. */
+/*
+  What can stand on the two sides of a seam, that is where a row is joined, or
+  between two bits of a marker. In the first three cases it is one piece.
+*/
 enum {
-    FILLS_MERGE, PARTS_MERGE,
+    FILLS_MERGE, PARTS_MERGE, MARKER_ALIKE, MARKER_CHANGES,
     FILLS_DIFFER, FILL_AND_PART, BIT_LEFT_OUT, BIT_TWICE, NEXT_HIGHER, FIRST_AGAIN, BACK,
     NEXT_VARIABLE, IN_STEP, OTHER_VARIABLE, SEAMS
 };
 
 static const char *const seam_names[SEAMS] = {
-    "fills of one bit, merged", "parts that meet, merged",
+    "fills of one bit, merged", "parts that meet, merged", "like bits of a marker, merged", "unlike bits of a marker",
     "fills of different bits", "a fill and a part", "a bit or more left out", "a bit twice", "the next higher bit",
     "the last bit and the first", "another higher bit",
     "the last bit, the first of the next variable", "bits of two variables, in step", "bits of two variables, not so",
@@ -98,7 +102,8 @@ static void count_seams(const table *t, size_t row, size_t seams[SEAMS])
 {
     static ref_table facts;
     static ref_source sources[REF_ROWS][REF_WIDTH];
-    static bool seam[REF_ROWS][REF_WIDTH]; /* of each bit but the first: whether it is on the right of a seam */
+    enum { NO_SEAM, JOINED, IN_MARKER };
+    static uint8_t seam[REF_ROWS][REF_WIDTH]; /* of each bit but the first: whether it is on the right of a seam */
     static size_t variables[REF_ROWS];     /* their widths */
     size_t count = 0;
 
@@ -110,21 +115,26 @@ static void count_seams(const table *t, size_t row, size_t seams[SEAMS])
         if (n[0] == LW_VARIABLE)
             variables[count++] = w;
         if (n[0] == LW_VARIABLE || n[0] == LW_FILL) {
-            memset(seam[r], 0, w);
+            memset(seam[r], NO_SEAM, w);
+        } else if (n[0] == LW_VALUE) {
+            memset(seam[r], IN_MARKER, w);
+            seam[r][0] = NO_SEAM;
         } else if (n[0] == LW_JOIN) {
             memcpy(seam[r], seam[n[1]], facts.width[n[1]]);
             memcpy(seam[r] + facts.width[n[1]], seam[n[2]], facts.width[n[2]]);
-            seam[r][facts.width[n[1]]] = true;
+            seam[r][facts.width[n[1]]] = JOINED;
         } else if (n[0] == LW_CUT) {
             memcpy(seam[r], seam[n[1]] + (facts.width[n[1]] - 1 - n[2]), w);
-            seam[r][0] = false;
+            seam[r][0] = NO_SEAM;
         }
     }
-    for (size_t i = 1; i < facts.width[row]; i++)
-        if (seam[row][i]) {
-            ref_source right = sources[row][i];
-            seams[seam_of(sources[row][i - 1], right, variables[right.variable])]++;
-        }
+    for (size_t i = 1; i < facts.width[row]; i++) {
+        ref_source left = sources[row][i - 1], right = sources[row][i];
+        if (seam[row][i] == JOINED)
+            seams[seam_of(left, right, variables[right.variable])]++;
+        else if (seam[row][i] == IN_MARKER)
+            seams[left.kind == right.kind ? MARKER_ALIKE : MARKER_CHANGES]++;
+    }
 }
 
 /* The library against the reference on one random table and one random call. Gives the record. */
@@ -141,7 +151,7 @@ static lw_record test_random_call(unsigned long number, size_t seams[SEAMS])
         make_table(&d);
     size_t rows = d.rows;
     if (!parts && one_in(2))
-        damage(&d, (unsigned)(11 + below(9)));
+        damage(&d, some_refusal(11));
 
     size_t row = rows == 0 ? 0 : below(rows);
     for (size_t i = one_in(3) ? 0 : 4; rows != 0 && i != 0; i--) { /* mostly the widest of some */
@@ -165,7 +175,7 @@ static lw_record test_random_call(unsigned long number, size_t seams[SEAMS])
         count_seams(&d.t, row, of_row);
         for (int i = 0; i < SEAMS; i++) {
             seams[i] += of_row[i];
-            if (i != FILLS_MERGE && i != PARTS_MERGE)
+            if (i != FILLS_MERGE && i != PARTS_MERGE && i != MARKER_ALIKE)
                 apart += of_row[i];
         }
         check(want.pieces == apart, HERE, "%s: %u pieces, expected %zu", name, want.pieces, apart);
@@ -175,9 +185,9 @@ static lw_record test_random_call(unsigned long number, size_t seams[SEAMS])
 
 void test_random_forms(unsigned long tables)
 {
-    static const uint32_t outcomes[] = {0, 11, 12, 13, 14, 15, 16, 17, 18, 30, 32};
+    static const uint32_t outcomes[] = {0, 11, 12, 13, 14, 15, 40, 16, 17, 18, 30, 32};
     static const uint32_t limits[] = {1, 2, 3, 10, 100, 1024};
-    unsigned long seen[33] = {0}, forms[6] = {0};
+    unsigned long seen[41] = {0}, forms[6] = {0};
     size_t seams[SEAMS] = {0};
 
     for (unsigned long i = 0; i < tables; i++) {
@@ -281,8 +291,9 @@ static void make_small(draft *d)
     }
     while (d->rows < rows) {
         size_t a = narrow_term(d), b = narrow_term(d), c = narrow_term(d), w = 1 + below(3), low = below(d->width[a]);
-        switch (below(7)) {
+        switch (below(8)) {
         case 0:  add_row(d, w, FILL(below(2), w)); break;
+        case 7:  add_row(d, w, MARKER(some_bits(w), w)); break;
         case 1:  join(d, a, b); break;
         case 2:  cut(d, a, low + below(d->width[a] - low), low); break;
         case 3:  rebuild(d, a); break;

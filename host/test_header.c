@@ -4,7 +4,8 @@
   The header comes first and twice, so that it needs no other and may be included
   again. Its version as a number is that of the text, and both are the version of
   the manual pages and of the pkg-config file that `make install-data` has put
-  into the folder INSTALLED.
+  into the folder INSTALLED. The page of the program has each kind of a row, and
+  each refusal that a sheet can meet.
 */
 
 #include "linkwords.h"
@@ -51,10 +52,30 @@ static void test_installed(void)
     check_file(HERE, "share/man/man3/linkwords.3", "\"linkwords " LW_VERSION_TEXT "\"", false);
 }
 
+static void test_page(void)
+{
+    static const unsigned kinds[] = {LW_VARIABLE, LW_FILL, LW_JOIN, LW_CUT, LW_EQUATION, LW_VALUE};
+    static const unsigned refusals[] = {
+        LW_REFUSED_SHEET, LW_REFUSED_NAMES, LW_REFUSED_LINE, LW_REFUSED_LINES, LW_REFUSED_KIND, LW_REFUSED_UNUSED,
+        LW_REFUSED_NAME, LW_REFUSED_WIDTH, LW_REFUSED_VALUE, LW_REFUSED_CUT, LW_REFUSED_MAXIMUM, LW_REFUSED_SIDES,
+    };
+    char words[16];
+
+    for (size_t i = 0; i < COUNT(kinds); i++) {
+        snprintf(words, sizeof words, "%u \\fI", kinds[i]);
+        check_file(HERE, "share/man/man1/linkwords.1", words, false);
+    }
+    for (size_t i = 0; i < COUNT(refusals); i++) {
+        snprintf(words, sizeof words, "%u\t", refusals[i]);
+        check_file(HERE, "share/man/man1/linkwords.1", words, false);
+    }
+}
+
 const test_list tests = {
     .name = "header",
     .groups = {
         {.name = "the version", .run = test_version},
         {.name = "what is installed", .run = test_installed},
+        {.name = "the program's page", .run = test_page},
     },
 };

@@ -141,7 +141,7 @@ static void fix_all(draft *d)
 /* So many variable bits in a few variables, and then rows of the other kinds, so many; the last is an equation. */
 static void make_equations(draft *d, size_t bits, size_t widest, size_t rows)
 {
-    static const size_t kinds[] = {LW_CUT, LW_CUT, LW_JOIN, LW_EQUATION, LW_EQUATION, LW_FILL};
+    static const size_t kinds[] = {LW_CUT, LW_CUT, LW_JOIN, LW_EQUATION, LW_EQUATION, LW_FILL, LW_VALUE};
 
     clear(d);
     while (bits != 0 && d->variables < 60) {

@@ -94,9 +94,9 @@ static void test_random(unsigned long tables)
     for (unsigned long i = 0; i < tables; i++) {
         make_table(&d);
         if (one_in(2))
-            damage(&d, (unsigned)(12 + below(8)));
+            damage(&d, some_refusal(12));
         if (one_in(4))
-            damage(&d, (unsigned)(12 + below(8)));
+            damage(&d, some_refusal(12));
         all_three(d.t.numbers, d.rows, d.bits);
     }
 }
@@ -167,10 +167,28 @@ static void test_null(void)
     check_record(HERE, "solve", lw_solve_rows(NULL, 0, answer, 16384, work, 16384), always);
 }
 
+/* A marker as a record: its value, its form, and a word that is equal to it. */
+static void test_marker(void)
+{
+    static const lw_row rows[] = {{LW_VARIABLE, 3, 0, 0}, {LW_VALUE, 6, 3, 0}, {LW_EQUATION, 0, 1, 0}};
+    static const uint8_t pattern[] = {0, 0, 1}, bits[] = {1, 1, 0};
+    static const uint16_t pieces[] = {1, 0, 1, 0, 0, 0, 0, 0}, fills[] = {0, 1, 2, 0, 0, 0, 1, 0};
+    static uint16_t answer[16384], work[16384], out[4096];
+    uint8_t got[3];
+
+    check_record(HERE, "value", lw_value_rows(rows, 3, 1, pattern, 3, got, 3), (lw_record){.free = 3});
+    check(memcmp(got, bits, sizeof bits) == 0, HERE, "value %u %u %u", got[0], got[1], got[2]);
+    check_record(HERE, "form", lw_normal_form_rows(rows, 3, 1, out, 4096), (lw_record){.pieces = 2, .free = 3});
+    check(memcmp(out, pieces, sizeof pieces) == 0, HERE, "form");
+    check_record(HERE, "solve", lw_solve_rows(rows, 3, answer, 16384, work, 16384),
+                 (lw_record){.outcome = 2, .pieces = 2, .ties = 3});
+    check(memcmp(answer, fills, sizeof fills) == 0, HERE, "answer");
+}
+
 /* Each outcome was had. */
 static void test_outcomes(void)
 {
-    static const unsigned seen[] = {0, 1, 2, 10, 11, 12, 13, 14, 15, 16, 17, 18, 30, 31, 32};
+    static const unsigned seen[] = {0, 1, 2, 10, 11, 12, 13, 14, 15, 40, 16, 17, 18, 30, 31, 32};
 
     printf("outcomes:");
     for (unsigned i = 0; i < COUNT(outcomes); i++)
@@ -185,7 +203,8 @@ const test_list tests = {
     .name = "rows", .inputs = 20000,
     .groups = {
         {.name = "no records", .run = test_null},
-        {.name = "refusals 11 to 18", .run = test_refusals},
+        {.name = "a marker", .run = test_marker},
+        {.name = "refusals 11 to 18, 40", .run = test_refusals},
         {.name = "long runs", .run = test_long},
         {.name = "random tables", .run_random = test_random},
         {.name = "outcomes", .run = test_outcomes},

@@ -3,8 +3,8 @@
 
       test_sheet [SHEETS]
 
-  First sheets and refusals worked by hand. Then texts that are compared with
-  reference.c: each that differs in one byte from a short sheet, and SHEETS
+  First sheets and refusals worked by hand, and every byte behind the letter h.
+  Then texts that are compared with reference.c: each that differs in one byte from a short sheet, and SHEETS
   random ones (100000 if not given), which are good sheets with bytes changed:
   test_sheet_random.c. Last, how the time of a call grows. But for the last,
   every call is made on guarded buffers, and its record, every byte of the sheet
@@ -59,6 +59,13 @@ void put_number(text *t, unsigned number)
     char digits[16];
     snprintf(digits, sizeof digits, "%u", number);
     put(t, digits);
+}
+
+void put_hexadecimal(text *t, unsigned number, int digits)
+{
+    char word[16];
+    snprintf(word, sizeof word, "h%0*x", digits, number);
+    put(t, word);
 }
 
 static void print_text(const uint8_t *bytes, size_t len)
@@ -207,6 +214,129 @@ static void test_values(void)
         }
 }
 
+/* Values of h and hexadecimal digits, beside decimal ones. */
+static void test_hexadecimal(void)
+{
+    static text t;
+    static uint16_t rows[2048];
+
+    ACCEPT(TEXT(NAMES "0 16 0 0\n5 hace1 16 0\n4 0 1 0\n"), TABLE(VARIABLE(16), MARKER(44257, 16), EQUATION(0, 1)));
+    ACCEPT(TEXT(NAMES "h5 h3 h2 h0\n"), TABLE(5, 3, 2, 0));
+    ACCEPT(TEXT(NAMES "h0 h1 h9 ha\nhf h10 h1f hff\n"), TABLE(0, 1, 9, 10, 15, 16, 31, 255));
+    ACCEPT(TEXT(NAMES "h100 hfff h1000 hffff\n"), TABLE(256, 4095, 4096, 65535));
+    ACCEPT(TEXT(NAMES "hbad hbeef hcafe hdead\n"), TABLE(2989, 48879, 51966, 57005));
+    ACCEPT(TEXT(NAMES "h0 h00 h000 h0000\n"), TABLE(0, 0, 0, 0));
+    ACCEPT(TEXT(NAMES "ha h0a h00a h000a\n"), TABLE(10, 10, 10, 10));
+    ACCEPT(TEXT(NAMES "h10 10 h0010 16\n"), TABLE(16, 10, 16, 16));
+    ACCEPT(TEXT(NAMES "h9999 9999 hffff 65535\n"), TABLE(39321, 9999, 65535, 65535));
+
+    /* The reader tests no table. */
+    ACCEPT(TEXT(NAMES "h9 0 0 0\n"), TABLE(9, 0, 0, 0));
+    ACCEPT(TEXT(NAMES "hffff hffff hffff hffff\n"), TABLE(65535, 65535, 65535, 65535));
+    ACCEPT(TEXT(NAMES "5 4 2 1\n5 4 2 0\n5 0 1025 0\n"), TABLE(5, 4, 2, 1, 5, 4, 2, 0, 5, 0, 1025, 0));
+
+    /* Under other orders of the names, among which one is b and one c. */
+    ACCEPT(TEXT("c b a kind\nh0 h10 hace1 h5\n"), TABLE(MARKER(44257, 16)));
+    ACCEPT(TEXT("b c kind a\nhb hc h1 ha\n"), TABLE(1, 10, 11, 12));
+
+    /* Every value in each of its spellings, in one place of the sheets: h0 to hf, h00 to hff, .., hffff. */
+    size_t count = 0;
+    t.len = 0;
+    for (int digits = 1; digits <= 4; digits++)
+        for (unsigned number = 0; number < 1U << 4 * digits; number++) {
+            if (count == 0) {
+                t.len = 0;
+                put(&t, NAMES);
+            }
+            put_hexadecimal(&t, number, digits);
+            put_byte(&t, count % 4 == 3 ? '\n' : ' ');
+            rows[count++] = (uint16_t)number;
+            if (count == 2048 || (number == 65535 && digits == 4)) {
+                ACCEPT(ALL_OF(t), rows, count);
+                count = 0;
+            }
+        }
+    check(count == 0, HERE, "%zu values are not read", count);
+}
+
+/*
+  A word of h and len bytes, one of which is the byte and the others digits: as
+  value i of the only line, under names whose columns are place[0], place[1], ..
+  It is a value if there are one to four of them and the byte is a digit. A
+  newline ends the line, and is the end of a good one before bytes that are none.
+*/
+static void test_word(const text *names, const size_t place[4], size_t i, size_t len, size_t at, int byte)
+{
+    static const char digits[] = "0123456789abcdef";
+    static text t;
+    static uint16_t numbers[2048];
+    uint16_t row[5] = {5, 6, 7, 8, 9}; /* one number more than a row: it stays */
+    unsigned value = 0;
+    bool good = len >= 1 && len <= 4;
+
+    t.len = names->len;
+    memcpy(t.bytes, names->bytes, names->len);
+    for (size_t j = 0; j < 4; j++) {
+        if (j != i) {
+            put_number(&t, row[place[j]]);
+        } else {
+            put_byte(&t, 'h');
+            for (size_t k = 0; k < len; k++) {
+                int put_here = k == at ? byte : digits[(5 * k + 3 * i + len) % 16];
+                const char *digit = put_here == 0 ? NULL : strchr(digits, put_here);
+                put_byte(&t, put_here);
+                good = good && digit != NULL;
+                value = 16 * value + (good ? (unsigned)(digit - digits) : 0);
+            }
+        }
+        put_byte(&t, j == 3 ? '\n' : ' ');
+    }
+    row[place[i]] = (uint16_t)value;
+
+    for (size_t k = 0; k < 5; k++)
+        numbers[k] = 9;
+    lw_record want = {.pieces = 1};
+    if (!good)
+        want = (lw_record){.outcome = 22, .row = byte == '\n' && len != 0 && i == 3 && at >= 1};
+    lw_record got = lw_read_sheet(t.bytes, t.len, numbers, 2048);
+    if (!good)
+        row[0] = row[1] = row[2] = row[3] = 9;
+    if (!check(same_record(got, want) && memcmp(numbers, row, sizeof row) == 0, HERE,
+               "h and %zu bytes, byte %d at %zu, value %zu: record %u %u .. %u, expected %u %u .. %u", len, byte, at, i,
+               got.outcome, got.pieces, got.row, want.outcome, want.pieces, want.row) && checks_failed == 1)
+        print_text(t.bytes, t.len);
+}
+
+/* h and up to five bytes, of which each is every byte once; in each column, under each order of the names. */
+static void test_bytes_behind_h(void)
+{
+    static const char *const column[] = {"kind", "a", "b", "c"};
+    static text names;
+    size_t orders = 0;
+
+    for (size_t code = 0; code < 256; code++) {
+        const size_t place[4] = {code / 64, code / 16 % 4, code / 4 % 4, code % 4};
+        unsigned seen = 0;
+        names.len = 0;
+        for (size_t i = 0; i < 4; i++) {
+            put(&names, column[place[i]]);
+            put_byte(&names, i == 3 ? '\n' : ' ');
+            seen |= 1U << place[i];
+        }
+        if (seen != 15)
+            continue;
+        orders++;
+        for (size_t i = 0; i < 4; i++) {
+            test_word(&names, place, i, 0, 0, 0);
+            for (size_t len = 1; len <= 5; len++)
+                for (size_t at = 0; at < len; at++)
+                    for (int byte = 0; byte < 256; byte++)
+                        test_word(&names, place, i, len, at, byte);
+        }
+    }
+    check(orders == 24, HERE, "%zu orders of the names", orders);
+}
+
 /* The names in each order, and every other row of four names; the columns are written as kind, a, b, c. */
 static void test_orders(void)
 {
@@ -259,6 +389,7 @@ static void test_names(void)
         "kind a b d\n", "d a b c\n", "kind a b cc\n", "kind aa b c\n", "kin a b c\n", "kinds a b c\n", "ind a b c\n",
         "kid a b c\n", "knid a b c\n", "k a b c\n", "kindkind a b c\n", "kind a b row\n", "variable kind width fresh\n",
         "kind a b 0\n", "0 8 0 0\n", "outcome pieces fresh free ties row\n",
+        "kind a b h\n", "kind a b hc\n", "hkind a b c\n", "kind ha hb hc\n", "h0 a b c\n", "h0 h8 h0 h0\n",
         /* upper case */
         "Kind a b c\n", "KIND A B C\n", "kind A b c\n", "kind a B c\n", "kind a b C\n", "kinD a b c\n",
         /* spaces: two, at the start, at the end, none; a space within a name */
@@ -334,6 +465,13 @@ static void test_wrong_values(void)
         "340282366920938463463374607431768211456", "340282366920938463463374607431768211464",
         /* letters and other bytes, by themselves and beside digits */
         "a", "kind", "x", "x1", "1x", "1a", "0x8", "0x", "0b1", "0o7", "8u", "8L", "1e3", "1E3", "one", "O", "l", "I",
+        /* h without digits, with too many, with capitals and others, with h behind; a number otherwise hexadecimal */
+        "h", "hh", "H", "H1", "Hace1", "hA", "hACE1", "hAce1", "hacE1", "hFFFF", "hg", "h1g", "hg1", "hG", "h:", "h/",
+        "h`", "h@", "h12345", "h00000", "h00001", "h10000", "h0ace1", "hfffff", "hffffffff", "h00000000000000000001",
+        "h0000000000000001", "h100000001", "h10000000000000001", "1h", "ffh", "hffh", "0h1", "00h1", "hh1", "h1h",
+        "0x1", "0xace1", "h0x1", "hx1", "x1", "$1", "#1", "ace1", "f", "h+1", "h-1", "+h1", "-h1", "h.1", "h1.", "h_1",
+        "h1_0", "h'1", "\\h1", "'h1", "h\2601", "\3501", "h\t1", "h1\t", "h\r1", "h1\r",
+        /* other marks */
         "1.0", "1.", ".1", "1,0", "1,", "1'000", "1_000", "65,535", "1;", ":", "/", "0/", "0:", "9:", "*", "#", "\"1\"",
         "\260", "1\260", "\270", "\302\262", "\331\241", "(1)", "1\b",
         /* tabs, carriage returns and other white space beside it */
@@ -350,19 +488,31 @@ static void test_wrong_values(void)
             refuse_line(HERE, line);
         }
 
+    /* A space behind h, and within its digits. */
+    refuse_line(HERE, "h 1 0 6 1\n");
+    refuse_line(HERE, "h 1 0 6\n");
+    refuse_line(HERE, "3 h1 0 h 6\n");
+    refuse_line(HERE, "3 0 6 h 1\n");
+    refuse_line(HERE, "3 0 6 ha 1\n");
+    refuse_line(HERE, "3 0 6 h1 \n");
+
     /* A byte 0, and a value of as many digits as there is room for. */
     REFUSE(TEXT(NAMES "0 8 0 0\0\n"), 22, 0);
     REFUSE(TEXT(NAMES "0 8 0 \0\n"), 22, 0);
     REFUSE(TEXT(NAMES "0 8 0 0\n0 8\0000 0 0\n"), 22, 1);
     REFUSE(TEXT(NAMES "0 8 0 0\n\0"), 22, 1);
-    for (int digit = '0'; digit <= '9'; digit++) {
-        t.len = 0;
-        put(&t, NAMES "0 8 0 ");
-        while (t.len < 16383)
-            put_byte(&t, digit);
-        put_byte(&t, '\n');
-        REFUSE(ALL_OF(t), 22, 0);
-    }
+    REFUSE(TEXT(NAMES "0 h8 0 h\0\n"), 22, 0);
+    REFUSE(TEXT(NAMES "0 h8 0 h0\0\n"), 22, 0);
+    REFUSE(TEXT(NAMES "0 h8 0 h0\n0 h\0008 0 0\n"), 22, 1);
+    for (int digit = '0'; digit <= '9'; digit++)
+        for (int h = 0; h < 2; h++) {
+            t.len = 0;
+            put(&t, h == 0 ? NAMES "0 8 0 " : NAMES "0 8 0 h");
+            while (t.len < 16383)
+                put_byte(&t, digit);
+            put_byte(&t, '\n');
+            REFUSE(ALL_OF(t), 22, 0);
+        }
 }
 
 /* 22: lines wrong otherwise. */
@@ -400,6 +550,7 @@ static void test_wrong_lines(void)
     static const char *const last[] = {
         "0 8 0 0", "0 8 0 ", "0 8 0", "0 8 ", "0 8", "0 ", "0", " ", "x", "65536", "0 8 0 00", "0 8 0 0 ", "0 8 0 0\r",
         "0 8 0 0\t", "0 8 0 0\212", "0 8 0 0\v", "0 8 0 65535", "0 8 0 65536", "\r",
+        "0 8 0 h", "0 8 0 h0", "0 8 0 hffff", "0 8 0 hfffff", "h", "h1", "h1 ",
     };
     for (size_t i = 0; i < COUNT(last); i++)
         for (size_t lines = 0; lines < 512; lines = 2 * lines + 1) {
@@ -510,6 +661,11 @@ static void test_size(void)
         rows[i] = 65535;
     check(t.len == 12299, HERE, "the longest good sheet has %zu bytes", t.len);
     ACCEPT(ALL_OF(t), rows, 2048);
+    t.len = 0;
+    put(&t, NAMES);
+    put_times(&t, "hffff 65535 hffff hffff\n", 512);
+    check(t.len == 12299, HERE, "the longest good sheet in hexadecimal has %zu bytes", t.len);
+    ACCEPT(ALL_OF(t), rows, 2048);
 
     /*
       So one of 16384 bytes has some fault, which is then the refusal: names, a
@@ -528,6 +684,8 @@ static void test_size(void)
         {NAMES "0 8 0 0\n1 1 8 0\n", "0 0 0 0 ", 22, 2},
         {NAMES, "0 8 0 0\n", 23, 512},
         {NAMES "0 8 0 0\n", "65535 65535 65535 65535\n", 23, 512},
+        {NAMES, "hf", 22, 0},
+        {NAMES "5 hace1 16 0\n", "h0 h8 h0 h0\n", 23, 512},
     };
     static const size_t longer[] = {16385, 16386, 16400, 32768, 65535, 65536, 65536 + 11, 65536 + 19, 131072 + 11};
     for (size_t i = 0; i < COUNT(sheets); i++) {
@@ -594,11 +752,9 @@ static void test_output(void)
 }
 
 /* Every start of a sheet that goes on behind what is lent: nothing behind it is read. */
-static void test_starts(void)
+static void test_starts_of(const char *sheet, const uint16_t *rows)
 {
-    static const char sheet[] = SHEET;
-    static const uint16_t rows[] = {0, 8, 0, 0, 3, 0, 6, 3, 3, 0, 4, 1, 4, 1, 2, 0};
-    size_t len = sizeof sheet - 1, lines = 0; /* that end within what is lent */
+    size_t len = strlen(sheet), lines = 0; /* that end within what is lent */
 
     for (size_t lent = 0; lent <= len; lent++) {
         lw_record want = {.outcome = 0};
@@ -612,6 +768,14 @@ static void test_starts(void)
             want.outcome = 22, want.row = (uint32_t)(lines - 1);
         call(HERE, "start of a sheet", (const uint8_t *)sheet, len, lent, NULL, 2048, want, rows);
     }
+}
+
+static void test_starts(void)
+{
+    static const uint16_t rows[] = {0, 8, 0, 0, 3, 0, 6, 3, 3, 0, 4, 1, 4, 1, 2, 0};
+    static const uint16_t marker[] = {0, 16, 0, 0, 5, 44257, 16, 0, 4, 0, 1, 0};
+    test_starts_of(SHEET, rows);
+    test_starts_of(NAMES "h0 h10 h0 h0\n5 hace1 16 h0000\nh4 h0 h1 h0\n", marker);
 }
 
 /* NULL with length 0 for each buffer. */
@@ -666,6 +830,20 @@ static void test_use(void)
     check_record(HERE, "kind 9", lw_value(numbers, 4 * (size_t)read.pieces, 0, pattern, 8, value, 8),
                  (lw_record){.outcome = 12, .row = 1});
 
+    /* A marker: its bits, and its fills. One that is too large is read, and refused by the call. */
+    static const uint8_t bits[] = {0, 1, 1, 0};
+    static const uint16_t fills[] = {0, 0, 0, 0, 1, 0, 1, 0, 0, 0, 0, 0};
+    read = lw_read_sheet(TEXT(NAMES "0 8 0 0\n5 h6 4 0\n"), numbers, 2048);
+    check_record(HERE, "marker", read, (lw_record){.pieces = 2});
+    check_record(HERE, "marker", lw_value(numbers, 8, 1, pattern, 8, value, 8), (lw_record){.free = 4});
+    check(memcmp(value, bits, sizeof bits) == 0, HERE, "value of a marker");
+    check_record(HERE, "marker", lw_normal_form(numbers, 8, 1, form, 4096), (lw_record){.pieces = 3, .free = 4});
+    check(memcmp(form, fills, sizeof fills) == 0, HERE, "normal form of a marker");
+    read = lw_read_sheet(TEXT(NAMES "0 8 0 0\n5 h10 4 0\n"), numbers, 2048);
+    check_record(HERE, "marker of 16 in 4 bits", read, (lw_record){.pieces = 2});
+    check_record(HERE, "marker of 16 in 4 bits", lw_value(numbers, 8, 1, pattern, 8, value, 8),
+                 (lw_record){.outcome = 40, .row = 1});
+
     /* No rows. */
     read = lw_read_sheet(TEXT(NAMES), numbers, 2048);
     check_record(HERE, "no rows", read, (lw_record){.pieces = 0});
@@ -709,6 +887,8 @@ const test_list tests = {
         {.name = "the header's constants", .run = test_constants},
         {.name = "sheets", .run = test_sheets},
         {.name = "values", .run = test_values},
+        {.name = "hexadecimal values", .run = test_hexadecimal},
+        {.name = "every byte behind h", .run = test_bytes_behind_h},
         {.name = "the 24 orders of the names", .run = test_orders},
         {.name = "refusal 21", .run = test_names},
         {.name = "refusal 22: wrong values", .run = test_wrong_values},

@@ -23,6 +23,7 @@ void put_byte(text *t, int byte);
 void put(text *t, const char *words);
 void put_times(text *t, const char *words, size_t times);
 void put_number(text *t, unsigned number);
+void put_hexadecimal(text *t, unsigned number, int digits); /* h and so many digits, or as many as it needs */
 
 /*
   One call on the first lent bytes of a text of len bytes: the record; the text

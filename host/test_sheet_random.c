@@ -3,7 +3,7 @@
   test_sheet.c
 
   Texts that differ in one byte from a short sheet, texts with a short word for
-  a value, and random sheets with bytes changed.
+  a value, and random sheets in both spellings with bytes changed.
 */
 
 #include "reference.h"
@@ -38,7 +38,7 @@ static void insert_bytes(text *t, size_t at, const uint8_t *bytes, size_t count)
 /* Every text that one changed, inserted or removed byte makes of a short sheet. */
 void test_one_byte(void)
 {
-    static const char *const sheets[] = {NAMES, "c a kind b\n10 0 65535 7\n", SHEET};
+    static const char *const sheets[] = {NAMES, "c a kind b\n10 0 65535 7\n", SHEET, "b a kind c\nh1f hace1 h0 h00a\n"};
     static text t, good;
     unsigned long texts = 0, accepted = 0;
 
@@ -67,19 +67,19 @@ void test_one_byte(void)
     printf("%lu texts with one byte changed, inserted or removed: %lu accepted\n", texts, accepted);
 }
 
-/* Every word of up to three bytes of these, as the second and as the last value. */
-void test_words(void)
+/* Every word of some letters and then up to so many bytes of these, as the second and as the last value. */
+static void compare_words(const char *start, const char *bytes, size_t most)
 {
-    static const char bytes[] = {'0', '1', '6', '9', ' ', '\n', '\r', '\t', '+', '-', 'a'};
     static text t;
-    size_t count = sizeof bytes;
+    size_t count = strlen(bytes);
     unsigned long texts = 0, accepted = 0;
 
-    for (size_t len = 0, words = 1; len <= 3; len++, words *= count)
+    for (size_t len = 0, words = 1; len <= most; len++, words *= count)
         for (size_t word = 0; word < words; word++)
             for (int place = 0; place < 2; place++) {
                 t.len = 0;
                 put(&t, place == 0 ? "kind b a c\n3 " : "kind b a c\n3 1 5 ");
+                put(&t, start);
                 for (size_t i = 0, rest = word; i < len; i++, rest /= count)
                     put_byte(&t, bytes[rest % count]);
                 put(&t, place == 0 ? " 5 7\n" : "\n");
@@ -87,7 +87,16 @@ void test_words(void)
                 if (compare(HERE, "word", &t, 2048) == 0)
                     accepted++;
             }
-    printf("%lu texts with a word of up to three bytes: %lu accepted\n", texts, accepted);
+    printf("%lu texts with a word of %s%sup to %zu bytes: %lu accepted\n", texts, start, *start == '\0' ? "" : " and ",
+           most, accepted);
+    check(accepted != 0 && accepted < texts, HERE, "all or none of the words are values");
+}
+
+void test_words(void)
+{
+    compare_words("", "0169 \n\r\t+-ahA", 3);
+    compare_words("h", "09afgAh \n", 4);
+    compare_words("h", "0c", 9);
 }
 
 static unsigned random_value(void)
@@ -95,6 +104,15 @@ static unsigned random_value(void)
     static const unsigned edges[] = {0, 1, 9, 10, 99, 100, 999, 1000, 6553, 6554, 9999, 10000, 65529, 65534, 65535};
     return one_in(4) ? edges[below(COUNT(edges))]
          : (unsigned)(one_in(2) ? below(12) : one_in(2) ? below(1025) : below(65536));
+}
+
+/* A value in one of its spellings. */
+static void put_value(text *t, unsigned number)
+{
+    if (one_in(2))
+        put_number(t, number);
+    else
+        put_hexadecimal(t, number, (int)below(5)); /* as many digits as it needs, or more */
 }
 
 /* A good sheet of so many lines. */
@@ -113,7 +131,7 @@ static void make_sheet(text *t, size_t lines)
         put_byte(t, i == 3 ? '\n' : ' ');
     }
     for (size_t i = 0; i < 4 * lines; i++) {
-        put_number(t, random_value());
+        put_value(t, random_value());
         put_byte(t, i % 4 == 3 ? '\n' : ' ');
     }
 }
@@ -121,7 +139,7 @@ static void make_sheet(text *t, size_t lines)
 /* Mostly a byte that a sheet may have. */
 static uint8_t random_byte(void)
 {
-    static const char bytes[] = "0123456789 \nkindabc\r\t+-";
+    static const char bytes[] = "0123456789 \nkindabcefhgAH\r\t+-";
     return one_in(4) ? (uint8_t)below(256) : one_in(2) ? (uint8_t)bytes[below(12)]
          : (uint8_t)bytes[below(sizeof bytes - 1)];
 }

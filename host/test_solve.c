@@ -126,7 +126,7 @@ static void call(where at, const char *name, const uint16_t *numbers, size_t len
     }
 }
 
-/* What a solve yields and writes, 10 to 18 by the reference and the rest by the plain solver. */
+/* What a solve yields and writes, 10 to 18 and 40 by the reference and the rest by the plain solver. */
 static lw_record expected(const uint16_t *numbers, size_t len, size_t answer_len, size_t work_len,
                           uint16_t answer[LEAST])
 {
@@ -336,6 +336,75 @@ static void test_fills(void)
            SOLVED(1, 0, 0, 6), ANSWER(ZEROS(0, 6)));
 }
 
+/* The sync marker, 1010 1100 1110 0001, in an answer of variable v. */
+#define SYNC(v) \
+    ONES(v, 1), ZEROS(v, 1), ONES(v, 1), ZEROS(v, 1), ONES(v, 2), ZEROS(v, 2), ONES(v, 3), ZEROS(v, 4), ONES(v, 1)
+
+/* Markers: fixed bits, solved as fills are. */
+static void test_markers(void)
+{
+    /* A word that is the sync marker, by one row, and by the nine fills that it took before. */
+    ACCEPT(TABLE(VARIABLE(16), MARKER(0xACE1, 16), EQUATION(0, 1)), SOLVED(9, 0, 0, 16), ANSWER(SYNC(0)));
+    ACCEPT(TABLE(VARIABLE(16), FILL(1, 1), FILL(0, 1), JOIN(1, 2), JOIN(3, 3), FILL(1, 2), FILL(0, 2), FILL(1, 3),
+                 FILL(0, 4), JOIN(4, 5), JOIN(9, 6), JOIN(10, 7), JOIN(11, 8), JOIN(12, 1), EQUATION(0, 13)),
+           SOLVED(9, 0, 0, 16), ANSWER(SYNC(0)));
+    ACCEPT(TABLE(FILL(1, 1), FILL(0, 1), JOIN(0, 1), JOIN(2, 2), FILL(1, 2), FILL(0, 2), FILL(1, 3), FILL(0, 4),
+                 JOIN(3, 4), JOIN(8, 5), JOIN(9, 6), JOIN(10, 7), JOIN(11, 0), MARKER(0xACE1, 16), EQUATION(12, 13)),
+           ALWAYS(0), NO_ANSWER);
+
+    /* In a table without equations; equal to itself; two of them, alike and not; with a fill. */
+    ACCEPT(TABLE(MARKER(6, 4)), ALWAYS(0), NO_ANSWER);
+    ACCEPT(TABLE(VARIABLE(3), MARKER(6, 4)), ALWAYS(3), NO_ANSWER);
+    ACCEPT(TABLE(MARKER(6, 4), EQUATION(0, 0)), ALWAYS(0), NO_ANSWER);
+    ACCEPT(TABLE(MARKER(6, 4), MARKER(6, 4), EQUATION(0, 1)), ALWAYS(0), NO_ANSWER);
+    ACCEPT(TABLE(MARKER(6, 4), MARKER(7, 4), EQUATION(0, 1)), NEVER(0, 2), NO_ANSWER);
+    ACCEPT(TABLE(MARKER(6, 4), MARKER(14, 4), EQUATION(1, 0)), NEVER(0, 2), NO_ANSWER);
+    ACCEPT(TABLE(MARKER(3, 2), FILL(1, 2), EQUATION(0, 1)), ALWAYS(0), NO_ANSWER);
+    ACCEPT(TABLE(MARKER(0, 16), FILL(0, 16), EQUATION(0, 1)), ALWAYS(0), NO_ANSWER);
+    ACCEPT(TABLE(MARKER(1, 16), FILL(0, 16), EQUATION(0, 1)), NEVER(0, 2), NO_ANSWER);
+    ACCEPT(TABLE(MARKER(6, 4), MARKER(1, 2), MARKER(2, 2), JOIN(1, 2), EQUATION(0, 3)), ALWAYS(0), NO_ANSWER);
+
+    /* Its bits against the bits of one word, of two, and of a word that stands twice. */
+    ACCEPT(TABLE(VARIABLE(4), VARIABLE(3), MARKER(0x2C, 7), JOIN(0, 1), EQUATION(3, 2)), SOLVED(6, 0, 0, 7),
+           ANSWER(ZEROS(0, 1), ONES(0, 1), ZEROS(0, 1), ONES(0, 1), ONES(1, 1), ZEROS(1, 2)));
+    ACCEPT(TABLE(VARIABLE(2), JOIN(0, 0), MARKER(10, 4), EQUATION(1, 2)), SOLVED(2, 0, 0, 2),
+           ANSWER(ONES(0, 1), ZEROS(0, 1)));
+    ACCEPT(TABLE(VARIABLE(2), JOIN(0, 0), MARKER(9, 4), EQUATION(1, 2)), NEVER(0, 3), NO_ANSWER);
+
+    /* A part of a word; a cut of a marker; a marker between pieces that may be chosen. */
+    ACCEPT(TABLE(VARIABLE(8), CUT(0, 5, 2), MARKER(6, 4), EQUATION(1, 2)), SOLVED(5, 2, 4, 4),
+           ANSWER(FRESH(0, 2, 0), ZEROS(0, 1), ONES(0, 2), ZEROS(0, 1), FRESH(0, 2, 1)));
+    ACCEPT(TABLE(VARIABLE(4), MARKER(0xACE1, 16), CUT(1, 12, 9), EQUATION(0, 2)), SOLVED(3, 0, 0, 4),
+           ANSWER(ZEROS(0, 1), ONES(0, 2), ZEROS(0, 1)));
+    ACCEPT(TABLE(VARIABLE(8), VARIABLE(2), VARIABLE(2), MARKER(6, 4), JOIN(1, 3), JOIN(4, 2), EQUATION(0, 5)),
+           SOLVED(7, 2, 4, 8), ANSWER(FRESH(0, 2, 0), ZEROS(0, 1), ONES(0, 2), ZEROS(0, 1), FRESH(0, 2, 1),
+                                      FRESH(1, 2, 0), FRESH(2, 2, 1)));
+
+    /* Its end beside fixed bits of other equations: one run. */
+    ACCEPT(TABLE(VARIABLE(6), CUT(0, 5, 2), MARKER(6, 4), CUT(0, 1, 0), FILL(0, 2), EQUATION(1, 2), EQUATION(3, 4)),
+           SOLVED(3, 0, 0, 6), ANSWER(ZEROS(0, 1), ONES(0, 2), ZEROS(0, 3)));
+    ACCEPT(TABLE(VARIABLE(4), CUT(0, 3, 2), MARKER(1, 2), CUT(0, 1, 0), MARKER(2, 2), EQUATION(1, 2), EQUATION(3, 4)),
+           SOLVED(3, 0, 0, 4), ANSWER(ZEROS(0, 1), ONES(0, 2), ZEROS(0, 1)));
+
+    /* Passed along a chain, the marker's equation first, last and in the middle; and broken. */
+    ACCEPT(TABLE(VARIABLE(2), VARIABLE(2), VARIABLE(2), MARKER(2, 2), EQUATION(0, 3), EQUATION(0, 1), EQUATION(1, 2)),
+           SOLVED(6, 0, 0, 6), ANSWER(ONES(0, 1), ZEROS(0, 1), ONES(1, 1), ZEROS(1, 1), ONES(2, 1), ZEROS(2, 1)));
+    ACCEPT(TABLE(VARIABLE(2), VARIABLE(2), VARIABLE(2), MARKER(2, 2), EQUATION(0, 1), EQUATION(1, 2), EQUATION(3, 2)),
+           SOLVED(6, 0, 0, 6), ANSWER(ONES(0, 1), ZEROS(0, 1), ONES(1, 1), ZEROS(1, 1), ONES(2, 1), ZEROS(2, 1)));
+    ACCEPT(TABLE(VARIABLE(2), VARIABLE(2), MARKER(2, 2), MARKER(3, 2), EQUATION(0, 2), EQUATION(0, 1), EQUATION(1, 3)),
+           NEVER(4, 6), NO_ANSWER);
+
+    /* Pairs that are there already: the same marker twice, and fills that say the same. */
+    ACCEPT(TABLE(VARIABLE(4), MARKER(6, 4), EQUATION(0, 1), EQUATION(1, 0)), SOLVED(3, 0, 0, 4),
+           ANSWER(ZEROS(0, 1), ONES(0, 2), ZEROS(0, 1)));
+    ACCEPT(TABLE(VARIABLE(4), MARKER(6, 4), CUT(0, 2, 1), FILL(1, 2), EQUATION(2, 3), EQUATION(0, 1)),
+           SOLVED(3, 0, 0, 4), ANSWER(ZEROS(0, 1), ONES(0, 2), ZEROS(0, 1)));
+
+    /* A word's low bits against the marker of a word before it: a fixed bit comes by way of the marker. */
+    ACCEPT(TABLE(VARIABLE(4), VARIABLE(4), MARKER(9, 4), CUT(0, 1, 0), CUT(1, 3, 2), EQUATION(0, 2), EQUATION(3, 4)),
+           SOLVED(6, 1, 2, 6), ANSWER(ONES(0, 1), ZEROS(0, 2), ONES(0, 1), ZEROS(1, 1), ONES(1, 1), FRESH(1, 2, 0)));
+}
+
 /* Ties, and the row at which no pattern is left. */
 static void test_ties(void)
 {
@@ -485,7 +554,7 @@ static void test_memory(void)
         }
 }
 
-/* Refusals 11 to 18. */
+/* Refusals 11 to 18 and 40. */
 static void test_table_refusals(void)
 {
     table t;
@@ -501,6 +570,7 @@ static void test_table_refusals(void)
 
     /* A table without a pattern is refused too, for a fault behind the row at which none is left. */
     REFUSE_TABLE(TABLE(FILL(0, 1), FILL(1, 1), EQUATION(0, 1), VARIABLE(1), EQUATION(0, 2)), 14, 4);
+    REFUSE_TABLE(TABLE(FILL(0, 1), FILL(1, 1), EQUATION(0, 1), MARKER(2, 1)), 40, 3);
 }
 
 /* NULL with length 0 for each buffer. */
@@ -644,7 +714,7 @@ static void test_small_table(unsigned long number, unsigned long outcomes[3], un
     bool has[FEATURES] = {false};
     char name[64];
 
-    make_small(&s);
+    make_small(&s, !one_in(3));
     snprintf(name, sizeof name, "small table %lu", number);
     lw_record record = ref_check(s.d.t.numbers, s.d.t.len, &facts);
     if (!check(record.outcome == 0 && facts.bits <= ENUM_BITS, HERE, "%s: refused %u, row %u", name,
@@ -720,7 +790,7 @@ static uint32_t test_damaged_table(unsigned long number)
     char name[64];
 
     if (one_in(2)) {
-        make_small(&s);
+        make_small(&s, !one_in(3));
         d = &s.d;
     } else if (one_in(20)) {
         make_limit(d);
@@ -728,7 +798,7 @@ static uint32_t test_damaged_table(unsigned long number)
         make_table(d);
     }
     for (size_t i = below(3); i != 0; i--)
-        damage(d, (unsigned)(11 + below(9)));
+        damage(d, some_refusal(11));
     for (size_t i = one_in(3) ? 1 + below(3) : 0; i != 0 && d->rows != 0; i--) {
         size_t at = below(4 * d->rows);
         d->t.numbers[at] = (uint16_t)below(one_in(2) ? 20 : 65536);
@@ -747,8 +817,8 @@ static uint32_t test_damaged_table(unsigned long number)
 
 static void test_damaged(unsigned long small_tables)
 {
-    static const uint32_t outcomes[] = {0, 1, 2, 10, 11, 12, 13, 14, 15, 16, 17, 18};
-    unsigned long seen[19] = {0}, tables = small_tables / 5;
+    static const uint32_t outcomes[] = {0, 1, 2, 10, 11, 12, 13, 14, 15, 40, 16, 17, 18};
+    unsigned long seen[41] = {0}, tables = small_tables / 5;
 
     for (unsigned long i = 0; i < tables; i++)
         seen[test_damaged_table(i)]++;
@@ -766,11 +836,12 @@ static void test_large(void)
 {
     static plan p;
     static uint16_t answer[LEAST];
-    unsigned long outcomes[3] = {0}, full = 0, wide = 0, chained = 0, early = 0, many = 0, bits_full = 0;
+    unsigned long outcomes[3] = {0}, full = 0, wide = 0, chained = 0, early = 0, many = 0, bits_full = 0, marked = 0;
     char name[64];
 
     for (unsigned long i = 0; i < LARGE_TABLES; i++) {
         size_t answer_len = some_length(), work_len = some_length(), widest = 0, last = 0, cuts = 0, longest = 0;
+        bool marker = false;
         make_large(&p);
         lw_record want = expected(ALL(p.d.t), answer_len, work_len, answer);
         snprintf(name, sizeof name, "large table %lu", i);
@@ -782,6 +853,7 @@ static void test_large(void)
             const uint16_t *n = p.d.t.numbers + 4 * r;
             cuts = n[0] == LW_CUT && n[1] + 1U == r ? cuts + 1 : 0;
             longest = cuts > longest ? cuts : longest;
+            marker |= n[0] == LW_VALUE;
             if (n[0] == LW_EQUATION) {
                 widest = p.d.width[n[1]] > widest ? p.d.width[n[1]] : widest;
                 last = r;
@@ -794,14 +866,15 @@ static void test_large(void)
         early += want.outcome == 1 && want.row < last;
         many += want.pieces >= 1000;
         bits_full += p.d.bits == 4096;
+        marked += marker;
     }
     printf("%d large tables: always %lu, never %lu, solved %lu\n", LARGE_TABLES, outcomes[0], outcomes[1], outcomes[2]);
     printf("    of 4096 variable bits %lu, of 64 equations %lu, with an equation of 1024 bits %lu,\n"
-           "    with a chain of 100 cuts %lu, never before the last equation %lu, of 1000 pieces %lu\n",
-           bits_full, full, wide, chained, early, many);
+           "    with a chain of 100 cuts %lu, never before the last equation %lu, of 1000 pieces %lu, with a marker %lu\n",
+           bits_full, full, wide, chained, early, many, marked);
     for (size_t i = 0; i < 3; i++)
         check(10 * outcomes[i] >= LARGE_TABLES, HERE, "outcome %zu is rare", i);
-    check(bits_full != 0 && full != 0 && wide != 0 && chained != 0 && early != 0 && many != 0, HERE,
+    check(bits_full != 0 && full != 0 && wide != 0 && chained != 0 && early != 0 && many != 0 && marked != 0, HERE,
           "some kind of large table does not occur");
 }
 
@@ -813,10 +886,11 @@ const test_list tests = {
         {.name = "the sheet's printed answer", .run = test_sheet},
         {.name = "fresh pieces", .run = test_pieces},
         {.name = "fixed bits", .run = test_fills},
+        {.name = "markers", .run = test_markers},
         {.name = "ties, and never", .run = test_ties},
         {.name = "largest answers and tables", .run = test_limits},
         {.name = "refusal 10", .run = test_memory},
-        {.name = "refusals 11 to 18", .run = test_table_refusals},
+        {.name = "refusals 11 to 18, 40", .run = test_table_refusals},
         {.name = "NULL with length 0", .run = test_null},
         {.name = "right sides worked by hand", .run = test_right_side},
         {.name = "random right sides", .run = test_random_parts},

@@ -46,51 +46,103 @@ static void add(call *c, size_t kind, size_t a, size_t b, size_t low)
     c->table_len += 4;
 }
 
-/* Each row is a cut of all bits of the row before it. */
-static void cuts(call *c)
+/* Row 0: a variable of so many bits, or a marker of the value 1. */
+
+static void variable(call *c, size_t width)
 {
-    add(c, LW_VARIABLE, 1024, 0, 0);
-    for (size_t r = 1; r < 512; r++)
-        add(c, LW_CUT, r - 1, 1023, 0);
-    c->pattern_len = 1024;
+    add(c, LW_VARIABLE, width, 0, 0);
+    c->pattern_len = width;
 }
 
-/* Each row is a join of the row before it, on the left, and of row 0. */
-static void left_joins(call *c)
+static void marker(call *c, size_t width)
 {
-    add(c, LW_VARIABLE, 1, 0, 0);
+    add(c, LW_VALUE, 1, width, 0);
+}
+
+/* Each row is a cut of all bits of the row before it. */
+static void add_cuts(call *c, size_t width)
+{
+    for (size_t r = 1; r < 512; r++)
+        add(c, LW_CUT, r - 1, width - 1, 0);
+}
+
+/* Each row is a join of the row before it, on the left, and of row 0, which has one bit. */
+static void add_left_joins(call *c)
+{
     add(c, LW_CUT, 0, 0, 0);
     for (size_t r = 2; r < 512; r++)
         add(c, LW_JOIN, r - 1, 0, 0);
-    c->pattern_len = 1;
 }
 
 /* The same with the row before it on the right. */
-static void right_joins(call *c)
+static void add_right_joins(call *c)
 {
-    left_joins(c);
-    for (size_t r = 2; r < 512; r++) {
-        c->table[4 * r + 1] = 0;
-        c->table[4 * r + 2] = (uint16_t)(r - 1);
-    }
+    add(c, LW_CUT, 0, 0, 0);
+    for (size_t r = 2; r < 512; r++)
+        add(c, LW_JOIN, 0, r - 1, 0);
 }
 
 /* Cuts and joins in turn. */
-static void cuts_and_joins(call *c)
+static void add_cuts_and_joins(call *c)
 {
-    add(c, LW_VARIABLE, 1, 0, 0);
     for (size_t r = 1; r < 512; r++)
         if (r % 2 == 1)
             add(c, LW_CUT, r - 1, r / 2, 0);
         else
             add(c, LW_JOIN, r - 1, 0, 0);
-    c->pattern_len = 1;
+}
+
+static void cuts(call *c)
+{
+    variable(c, 1024);
+    add_cuts(c, 1024);
+}
+
+static void left_joins(call *c)
+{
+    variable(c, 1);
+    add_left_joins(c);
+}
+
+static void right_joins(call *c)
+{
+    variable(c, 1);
+    add_right_joins(c);
+}
+
+static void cuts_and_joins(call *c)
+{
+    variable(c, 1);
+    add_cuts_and_joins(c);
+}
+
+static void cuts_of_marker(call *c)
+{
+    marker(c, 16);
+    add_cuts(c, 16);
+}
+
+static void left_joins_of_marker(call *c)
+{
+    marker(c, 1);
+    add_left_joins(c);
+}
+
+static void right_joins_of_marker(call *c)
+{
+    marker(c, 1);
+    add_right_joins(c);
+}
+
+static void cuts_and_joins_of_marker(call *c)
+{
+    marker(c, 1);
+    add_cuts_and_joins(c);
 }
 
 static void one_variable(call *c)
 {
-    add(c, LW_VARIABLE, 1024, 0, 0);
-    c->pattern_len = 1024;
+    variable(c, 1024);
 }
 
 /* Refused at its last row. */
@@ -98,6 +150,12 @@ static void bad_cut(call *c)
 {
     cuts(c);
     c->table[4 * 511 + 2] = 1024;
+}
+
+static void bad_marker(call *c)
+{
+    cuts(c);
+    c->table[4 * 511] = LW_VALUE, c->table[4 * 511 + 1] = 65535, c->table[4 * 511 + 2] = 15;
 }
 
 /* Refused at once. */
@@ -148,6 +206,30 @@ static void solve_right_joins(call *c)
 static void solve_cuts_and_joins(call *c)
 {
     cuts_and_joins(c);
+    shift(c, 255);
+}
+
+static void solve_cuts_of_marker(call *c)
+{
+    cuts_of_marker(c);
+    shift(c, 16);
+}
+
+static void solve_left_joins_of_marker(call *c)
+{
+    left_joins_of_marker(c);
+    shift(c, 508);
+}
+
+static void solve_right_joins_of_marker(call *c)
+{
+    right_joins_of_marker(c);
+    shift(c, 508);
+}
+
+static void solve_cuts_and_joins_of_marker(call *c)
+{
+    cuts_and_joins_of_marker(c);
     shift(c, 255);
 }
 
@@ -321,6 +403,13 @@ static void long_lines(call *c)
     lines(c, "65535 65535 65535 65535\n", 512);
 }
 
+/* As long, in hexadecimal. */
+static void hexadecimal_lines(call *c)
+{
+    lines(c, "c b a kind\n", 1);
+    lines(c, "hffff hffff hffff hffff\n", 512);
+}
+
 /* The longest sheet that is looked at. */
 static void many_lines(call *c)
 {
@@ -369,13 +458,19 @@ static const test tables[] = {
     {"512 rows, joins chained on the left", left_joins, LW_ACCEPTED, 511},
     {"512 rows, joins chained on the right", right_joins, LW_ACCEPTED, 511},
     {"512 rows, cuts and joins in turn", cuts_and_joins, LW_ACCEPTED, 256},
+    {"chained cuts of a marker", cuts_of_marker, LW_ACCEPTED, 16},
+    {"joins of a marker, on the left", left_joins_of_marker, LW_ACCEPTED, 511},
+    {"joins of a marker, on the right", right_joins_of_marker, LW_ACCEPTED, 511},
+    {"cuts and joins of a marker", cuts_and_joins_of_marker, LW_ACCEPTED, 256},
     {"refused 11", no_whole_row, LW_REFUSED_TABLE, 0},
     {"refused 16 at row 511", bad_cut, LW_REFUSED_CUT, 0},
+    {"refused 40 at row 511", bad_marker, LW_REFUSED_VALUE, 0},
     {"refused 31", bad_pattern, LW_REFUSED_PATTERN, 0},
 };
 static const test sheets[] = {
     {"one line", one_line, LW_ACCEPTED, 0},
     {"12299 bytes, 512 lines", long_lines, LW_ACCEPTED, 0},
+    {"12299 bytes, hexadecimal", hexadecimal_lines, LW_ACCEPTED, 0},
     {"refused 20", too_long, LW_REFUSED_SHEET, 0},
     {"refused 21", no_names, LW_REFUSED_NAMES, 0},
     {"refused 22 at line 511", no_end, LW_REFUSED_LINE, 0},
@@ -388,11 +483,16 @@ static const test solves[] = {
     {"512 rows, joins chained on the left", solve_left_joins, LW_ALWAYS, 1},
     {"512 rows, joins chained on the right", solve_right_joins, LW_ALWAYS, 1},
     {"512 rows, cuts and joins in turn", solve_cuts_and_joins, LW_ALWAYS, 1},
+    {"chained cuts of a marker", solve_cuts_of_marker, LW_NEVER, 0},
+    {"joins of a marker, on the left", solve_left_joins_of_marker, LW_ALWAYS, 0},
+    {"joins of a marker, on the right", solve_right_joins_of_marker, LW_ALWAYS, 0},
+    {"cuts and joins of a marker", solve_cuts_and_joins_of_marker, LW_ALWAYS, 0},
     {"64 equations of 1024 bits", solve_words, LW_SOLVED, 1024},
     {"never at the last of 64 equations", solve_never, LW_NEVER, 0},
     {"refused 10", short_work, LW_REFUSED_MEMORY, 0},
     {"refused 11", no_whole_row, LW_REFUSED_TABLE, 0},
     {"refused 16 at row 511", bad_cut, LW_REFUSED_CUT, 0},
+    {"refused 40 at row 511", bad_marker, LW_REFUSED_VALUE, 0},
 };
 static const test parts[] = {
     {"4096 rows of one variable", all_rows, 0, LW_SOLVER_NUMBERS},

@@ -96,7 +96,7 @@ static void test_constants(void)
 {
     static const constant constants[] = {
         CONSTANT(LW_VARIABLE, 0), CONSTANT(LW_FILL, 1), CONSTANT(LW_JOIN, 2), CONSTANT(LW_CUT, 3),
-        CONSTANT(LW_EQUATION, 4),
+        CONSTANT(LW_EQUATION, 4), CONSTANT(LW_VALUE, 5),
         CONSTANT(LW_ROW_NUMBERS, 4), CONSTANT(LW_MAX_ROWS, 512), CONSTANT(LW_MAX_WIDTH, 1024),
         CONSTANT(LW_MAX_VARIABLES, 64), CONSTANT(LW_MAX_VARIABLE_BITS, 4096), CONSTANT(LW_MAX_EQUATIONS, 64),
         CONSTANT(LW_ACCEPTED, 0),
@@ -104,6 +104,7 @@ static void test_constants(void)
         CONSTANT(LW_REFUSED_NAME, 14), CONSTANT(LW_REFUSED_WIDTH, 15), CONSTANT(LW_REFUSED_CUT, 16),
         CONSTANT(LW_REFUSED_MAXIMUM, 17), CONSTANT(LW_REFUSED_SIDES, 18),
         CONSTANT(LW_REFUSED_ROW, 30), CONSTANT(LW_REFUSED_PATTERN, 31), CONSTANT(LW_REFUSED_OUTPUT, 32),
+        CONSTANT(LW_REFUSED_VALUE, 40),
     };
     check_constants(HERE, constants, COUNT(constants));
     check(sizeof(lw_record) == 24, HERE, "a record has %zu bytes", sizeof(lw_record));
@@ -168,6 +169,81 @@ static void test_values(void)
     ACCEPT(TABLE(VARIABLE(8), CUT(0, 6, 3), CUT(0, 4, 1), EQUATION(1, 2)), 1, "10110010", "0110");
     ACCEPT(TABLE(VARIABLE(8), CUT(0, 6, 3), CUT(0, 4, 1), EQUATION(1, 2)), 2, "10110010", "1001");
     ACCEPT(TABLE(FILL(0, 1), FILL(1, 1), EQUATION(0, 1)), 1, "", "1");
+}
+
+/* Markers: the bits of a number, high bit first. */
+static void test_markers(void)
+{
+    ACCEPT(TABLE(MARKER(6, 4)), 0, "", "0110");
+    ACCEPT(TABLE(MARKER(6, 3)), 0, "", "110");
+    ACCEPT(TABLE(MARKER(0, 1)), 0, "", "0");
+    ACCEPT(TABLE(MARKER(1, 1)), 0, "", "1");
+    ACCEPT(TABLE(MARKER(1, 16)), 0, "", "0000000000000001");
+    ACCEPT(TABLE(MARKER(32768, 16)), 0, "", "1000000000000000");
+    ACCEPT(TABLE(MARKER(0, 16)), 0, "", "0000000000000000");
+    ACCEPT(TABLE(MARKER(65535, 16)), 0, "", "1111111111111111");
+    ACCEPT(TABLE(MARKER(0xACE1, 16)), 0, "", "1010110011100001");
+
+    /* It takes no place in a pattern, and does not count among the variables. */
+    ACCEPT(TABLE(MARKER(2, 2), VARIABLE(3), MARKER(5, 3), VARIABLE(2)), 0, "01110", "10");
+    ACCEPT(TABLE(MARKER(2, 2), VARIABLE(3), MARKER(5, 3), VARIABLE(2)), 1, "01110", "011");
+    ACCEPT(TABLE(MARKER(2, 2), VARIABLE(3), MARKER(5, 3), VARIABLE(2)), 2, "01110", "101");
+    ACCEPT(TABLE(MARKER(2, 2), VARIABLE(3), MARKER(5, 3), VARIABLE(2)), 3, "01110", "10");
+
+    /* Joined on either side, and cut: bits 3 to 0 of 1010 1100 1110 0001 are 0001, 15 to 12 are 1010. */
+    ACCEPT(TABLE(MARKER(2, 3), VARIABLE(2), JOIN(0, 1)), 2, "11", "01011");
+    ACCEPT(TABLE(MARKER(2, 3), VARIABLE(2), JOIN(1, 0)), 2, "11", "11010");
+    ACCEPT(TABLE(MARKER(2, 3), JOIN(0, 0)), 1, "", "010010");
+    ACCEPT(TABLE(MARKER(2, 3), FILL(0, 2), JOIN(0, 1)), 2, "", "01000");
+    ACCEPT(TABLE(MARKER(0xACE1, 16), CUT(0, 3, 0)), 1, "", "0001");
+    ACCEPT(TABLE(MARKER(0xACE1, 16), CUT(0, 15, 12)), 1, "", "1010");
+    ACCEPT(TABLE(MARKER(0xACE1, 16), CUT(0, 11, 4)), 1, "", "11001110");
+    ACCEPT(TABLE(MARKER(0xACE1, 16), CUT(0, 15, 0)), 1, "", "1010110011100001");
+    ACCEPT(TABLE(MARKER(0xACE1, 16), CUT(0, 11, 4), CUT(1, 5, 2)), 2, "", "0011");
+    ACCEPT(TABLE(MARKER(0xACE1, 16), VARIABLE(2), JOIN(0, 1), CUT(2, 4, 1)), 3, "10", "0011");
+    ACCEPT(TABLE(MARKER(0xACE1, 16), VARIABLE(2), JOIN(1, 0), CUT(2, 17, 14)), 3, "10", "1010");
+    for (uint16_t bit = 0; bit < 16; bit++)
+        ACCEPT(TABLE(MARKER(0xACE1, 16), CUT(0, bit, bit)), 1, "", (0xACE1 >> bit & 1) == 1 ? "1" : "0");
+
+    /* An equation of it does not bear on values. */
+    ACCEPT(TABLE(VARIABLE(3), MARKER(5, 3), EQUATION(0, 1)), 0, "010", "010");
+    ACCEPT(TABLE(VARIABLE(3), MARKER(5, 3), EQUATION(0, 1)), 1, "010", "101");
+
+    /* It is no variable and no equation, of which there may be 64: 512 markers. */
+    table t = {.len = 0};
+    for (size_t i = 0; i < 512; i++)
+        add(&t, MARKER(i, 9));
+    ACCEPT(ALL(t), 511, "", "111111111");
+    ACCEPT(ALL(t), 0, "", "000000000");
+    ACCEPT(ALL(t), 342, "", "101010110");
+}
+
+/* Every number of every width; and all widths with the numbers next to each power of 2, c being 0 or not. */
+static void test_all_markers(void)
+{
+    static const size_t unused[] = {0, 1, 65535};
+    uint8_t bits[16];
+
+    for (size_t w = 1; w <= 16; w++)
+        for (size_t number = 0; number < (size_t)1 << w; number++) {
+            table t = {.len = 0};
+            add(&t, MARKER(number, w));
+            for (size_t j = 0, rest = number; j < w; j++, rest /= 2)
+                bits[w - 1 - j] = (uint8_t)(rest % 2);
+            call(HERE, "marker", ALL(t), 0, NULL, 0, w, (lw_record){.free = (uint32_t)w}, bits);
+        }
+
+    for (size_t w = 0; w < 65536; w += w < 1100 ? 1 : 997)
+        for (size_t i = 0; i < 3 * 17 * COUNT(unused); i++) {
+            size_t number = ((size_t)1 << i % 17) + i / 17 % 3 - 1, c = unused[i / (3 * 17)];
+            lw_record want = {.outcome = c != 0 ? 13 : w < 1 || w > 1024 ? 15 : w > 16 || number >> w != 0 ? 40 : 0};
+            table t = {.len = 0};
+            if (number > 65535)
+                continue;
+            want.free = want.outcome == 0 ? (uint32_t)w : 0;
+            add(&t, LW_VALUE, number, w, c);
+            check_record(HERE, "marker or none", lw_value(ALL(t), 0, NULL, 0, bits, sizeof bits), want);
+        }
 }
 
 /* Bits without a period or a symmetry that a slip could hide in. */
@@ -257,6 +333,19 @@ static void test_limits(void)
     t.numbers[4 * 4 + 1] = 1024;
     REFUSE_TABLE(ALL(t), 17, 4);
 
+    /* Markers count neither as variables nor as equations nor among the bits. */
+    t.len = 0;
+    for (size_t i = 0; i < 64; i++) {
+        add(&t, VARIABLE(64));
+        add(&t, MARKER(40961, 16));
+    }
+    for (size_t i = 0; i < 64; i++)
+        add(&t, EQUATION(1, 3));
+    ACCEPT_BYTES(ALL(t), 126, bits, 4096, bits + 4032, 64);
+    add(&t, MARKER(2, 2));
+    add(&t, VARIABLE(1));
+    REFUSE_TABLE(ALL(t), 17, 193);
+
     /* 64 and 65 equations. */
     t.len = 0;
     add(&t, VARIABLE(2));
@@ -318,7 +407,7 @@ static void test_chains(void)
     ACCEPT_BYTES(ALL(t), 511, zeros, 1, grown, 511);
 }
 
-/* Refusals 11 to 18: refused_tables.h has the tables. (17 is among the limits.) */
+/* Refusals 11 to 18 and 40: refused_tables.h has the tables. (17 is among the limits.) */
 static void test_table_refusals(void)
 {
     refuse_one_by_one(refuse_table);
@@ -376,7 +465,8 @@ static void test_call_refusals(void)
     REFUSE(four, len, 0, "10112", 0, 31);
 
     /* A fault of the table comes before all three, also behind the row asked for. */
-    REFUSE_TABLE(TABLE(VARIABLE(3), VARIABLE(2), CUT(0, 1, 0), 5, 0, 0, 0), 12, 3);
+    REFUSE_TABLE(TABLE(VARIABLE(3), VARIABLE(2), CUT(0, 1, 0), 6, 0, 0, 0), 12, 3);
+    REFUSE_TABLE(TABLE(VARIABLE(3), VARIABLE(2), CUT(0, 1, 0), MARKER(4, 2)), 40, 3);
 }
 
 /* NULL with length 0 for each buffer. */
@@ -413,7 +503,7 @@ static uint32_t test_random_call(unsigned long number)
     make_table(&d);
     size_t rows = d.rows, bits = d.bits < sizeof pattern ? d.bits : sizeof pattern - 1;
     for (size_t i = one_in(3) ? 1 + below(2) : 0; i != 0; i--)
-        damage(&d, (unsigned)(11 + below(9)));
+        damage(&d, some_refusal(11));
 
     size_t row = rows == 0 ? 0 : below(rows);
     if (one_in(20))
@@ -437,8 +527,8 @@ static uint32_t test_random_call(unsigned long number)
 
 static void test_random(unsigned long tables)
 {
-    static const uint32_t outcomes[] = {0, 11, 12, 13, 14, 15, 16, 17, 18, 30, 31, 32};
-    unsigned long seen[33] = {0};
+    static const uint32_t outcomes[] = {0, 11, 12, 13, 14, 15, 40, 16, 17, 18, 30, 31, 32};
+    unsigned long seen[41] = {0};
 
     for (unsigned long i = 0; i < tables; i++)
         seen[test_random_call(i)]++;
@@ -455,11 +545,13 @@ const test_list tests = {
     .groups = {
         {.name = "the header's constants", .run = test_constants},
         {.name = "values worked by hand", .run = test_values},
+        {.name = "markers worked by hand", .run = test_markers},
+        {.name = "every marker", .run = test_all_markers},
         {.name = "widths 1 to 1024", .run = test_widths},
         {.name = "limits", .run = test_limits},
         {.name = "chains of 500 rows and more", .run = test_chains},
-        {.name = "refusals 11 to 18, one by one", .run = test_table_refusals},
-        {.name = "refusals 11 to 18, two at once", .run = test_two_table_refusals},
+        {.name = "refusals 11 to 18, 40, one by one", .run = test_table_refusals},
+        {.name = "refusals 11 to 18, 40, two at once", .run = test_two_table_refusals},
         {.name = "refusals 30 to 32", .run = test_call_refusals},
         {.name = "NULL with length 0", .run = test_null},
         {.name = "random tables against the reference", .run_random = test_random},

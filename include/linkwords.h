@@ -1,14 +1,14 @@
 /* linkwords.h -- words of fixed width, built by joins and cuts
 
   A word is a sequence of bits. This library works on terms over such words: a
-  term is a variable, a fill (a constant whose bits are all alike), a join of
-  two words (concatenation) or a cut out of a word (extraction), and equations
-  stand between terms. The caller describes the terms in a table of numbers,
-  which can also be read from a text, or of row structs; the calls take that
-  table and leave their results in buffers of the caller. One of them solves
-  the equations: it tells whether every, no or some choice of the variables'
-  bits meets them all, and for some it describes these choices. Another makes
-  such a choice from the description.
+  term is a variable, a fill (a constant whose bits are all alike), a marker (a
+  constant given as a number), a join of two words (concatenation) or a cut out
+  of a word (extraction), and equations stand between terms. The caller
+  describes the terms in a table of numbers, which can also be read from a text,
+  or of row structs; the calls take that table and leave their results in
+  buffers of the caller. One of them solves the equations: it tells whether
+  every, no or some choice of the variables' bits meets them all, and for some
+  it describes these choices. Another makes such a choice from the description.
 
   The library is proved: for every input each call yields the record and the
   buffer contents that this header names, and it always returns. It is linked
@@ -26,12 +26,14 @@
      2 LW_JOIN      join, left part high    left row    right row 0
      3 LW_CUT       bits b down to c of a   row         high      low
      4 LW_EQUATION  a and b are equal       left row    right row 0
+     5 LW_VALUE     marker, a value as bits value       width     0
 
   A row names only rows before it, and never an equation. Many rows may name
   the same row. Columns that a kind does not use are 0.
 
   Every row but an equation has a width of 1 to 1024 bits: a join has the sum
-  of the widths of its two sides, and a cut has high - low + 1. An equation has
+  of the widths of its two sides, and a cut has high - low + 1. A marker has a
+  width of 1 to 16 bits, and its value is below 2 to the width. An equation has
   no width, and its sides are equally wide.
 
   A table has at most 512 rows, 64 variables, 4096 variable bits (the widths of
@@ -50,8 +52,9 @@
   A row's value under a pattern is as many bits as the row is wide: a variable
   has its bits of the pattern, a fill has copies of its bit, a join has the
   value of a followed by the value of b, and a cut has the bits high down to
-  low of the value of a. Equations do not bear on the values of other rows: a
-  value is to be had under every pattern.
+  low of the value of a. A marker has the bits of its number a, with zeros at
+  the high end up to its width: 6 in 4 bits is 0110. Equations do not bear on
+  the values of other rows: a value is to be had under every pattern.
 
 
                                Normal forms
@@ -70,6 +73,11 @@
   j and bits j-1 down to k of one variable. Nothing else is put together: not
   parts of a variable that leave out a bit, overlap, or stand in reverse order,
   nor parts of two variables.
+
+  A marker is shown as fills, and these are put together like others. So the
+  normal form of 6 in 4 bits is 0 0 0 0, 1 0 1 0, 0 0 0 0; joined with a fill of
+  three zeros behind it, its last piece is 0 0 3 0; and 3 in 2 bits has the
+  normal form of a fill of two ones.
 
   Two rows of a table have the same value under every pattern exactly if their
   normal forms are the same, piece by piece.
@@ -149,9 +157,17 @@
   One space (byte 32) stands between a name or value and the next. Each line,
   the last one too, ends in a newline (byte 10). Nothing else is in a line:
   there is no space at its start or end, no tab, no carriage return (byte 13)
-  before the newline, and no line is empty. A name is in lower case. A value is
-  a number from 0 to 65535, in decimal digits without a sign and without leading
-  zeros: 0 is a value; 00, 01, +1 and 65536 are not.
+  before the newline, and no line is empty. A name is in lower case.
+
+  A value is a number from 0 to 65535, in one of two spellings. In decimal it is
+  digits without a sign and without leading zeros: 0 is a value; 00, 01, +1 and
+  65536 are not. In hexadecimal it is the letter h and one to four of the digits
+  0 to 9 and a to f, and leading zeros may stand there: hace1 is 44257, and each
+  of ha, h0a and h000a is 10; h, hA, Ha, hg, h12345, 0x1 and 1h are not values.
+  Both spellings may stand in every column. So this line is a marker of 16 bits,
+  1010 1100 1110 0001:
+
+     5 hace1 16 0
 
   What follows the last newline is one more line, which is malformed, since it
   does not end in a newline; if nothing follows, there is no line more. So a
@@ -167,22 +183,26 @@
 
   A call that works on a table tests all of it, also rows that it does not need.
   First the length is tested, then the rows, from the lowest up, and each by all
-  of 12 to 18 in this order before the next row. So the refusal is about the
-  lowest row at fault.
+  of 12 to 18 and 40, in the order below, before the next row. So the refusal is
+  about the lowest row at fault.
 
      outcome                 cause                               field row
      11 LW_REFUSED_TABLE     table_len is no multiple of 4, or   512
                              is above 2048 (over 512 rows)
-     12 LW_REFUSED_KIND      the kind is above 4                 that row
+     12 LW_REFUSED_KIND      the kind is above 5                 that row
      13 LW_REFUSED_UNUSED    b or c of a variable is not 0, or   that row
-                             c of a fill, a join or an equation
+                             c of a fill, a join, an equation or
+                             a marker
      14 LW_REFUSED_NAME      a or b of a join or an equation,    that row
                              or a of a cut, is not the number
                              of an earlier row, or is the number
                              of an equation
-     15 LW_REFUSED_WIDTH     the width of a variable, a fill or  that row
-                             a join is outside 1 to 1024, or the
-                             bit of a fill is above 1
+     15 LW_REFUSED_WIDTH     the width of a variable, a fill, a  that row
+                             join or a marker is outside 1 to
+                             1024, or a fill's bit is above 1
+     40 LW_REFUSED_VALUE     the width of a marker is above 16,  that row
+                             or its value is 2 to the width or
+                             more
      16 LW_REFUSED_CUT       high of a cut is not below the      that row
                              width of the row it cuts, or low is
                              above high
@@ -229,8 +249,8 @@ extern "C" {
   The version of the library, as text and as a number that grows from version to
   version: major * 1000000 + minor * 1000 + patch.
 */
-#define LW_VERSION_TEXT "0.11.0"
-#define LW_VERSION      11000
+#define LW_VERSION_TEXT "0.12.0"
+#define LW_VERSION      12000
 
 /* constants */
 
@@ -240,6 +260,7 @@ extern "C" {
 #define LW_JOIN     2
 #define LW_CUT      3
 #define LW_EQUATION 4
+#define LW_VALUE    5 /* a marker */
 
 /* Kind of a piece that is a part of a variable; a fill has its bit as kind. */
 #define LW_PART 2
@@ -270,7 +291,7 @@ extern "C" {
 /* Refusals. */
 #define LW_REFUSED_MEMORY    10 /* answer table or work area below 16384 numbers */
 #define LW_REFUSED_TABLE     11 /* length no multiple of 4, or over 512 rows */
-#define LW_REFUSED_KIND      12 /* kind above 4 */
+#define LW_REFUSED_KIND      12 /* kind above 5 */
 #define LW_REFUSED_UNUSED    13 /* a column that the kind does not use is not 0 */
 #define LW_REFUSED_NAME      14 /* a named row is not earlier, or is an equation */
 #define LW_REFUSED_WIDTH     15 /* width outside 1 to 1024, or a fill's bit above 1 */
@@ -286,6 +307,7 @@ extern "C" {
 #define LW_REFUSED_OUTPUT    32 /* output buffer too short */
 #define LW_REFUSED_ANSWER    33 /* answer table not of its form, or over 4096 bits */
 #define LW_REFUSED_FRESH     34 /* fresh bits of another number, or a byte above 1 */
+#define LW_REFUSED_VALUE     40 /* a marker's width above 16, or its value 2 to the width or more */
 
 /*
   Stack: the most bytes that a call was seen to use, on tables made for that; it
@@ -293,14 +315,14 @@ extern "C" {
   that binds memcpy or memset only at its first use does not.
 */
 #define LW_STACK_VALUE             43456
-#define LW_STACK_NORMAL_FORM      125056
-#define LW_STACK_READ_SHEET         4288
-#define LW_STACK_SOLVE            174144
+#define LW_STACK_NORMAL_FORM      141440
+#define LW_STACK_READ_SHEET         4352
+#define LW_STACK_SOLVE            190336
 #define LW_STACK_RIGHT_SIDE           64
 #define LW_STACK_MAKE_PATTERN      16576
 #define LW_STACK_VALUE_ROWS        47616
-#define LW_STACK_NORMAL_FORM_ROWS 129216
-#define LW_STACK_SOLVE_ROWS       178240
+#define LW_STACK_NORMAL_FORM_ROWS 145600
+#define LW_STACK_SOLVE_ROWS       194496
 
 /* the record */
 
@@ -341,7 +363,7 @@ lw_record lw_value(const uint16_t *table, size_t table_len, size_t row,
      behind the row asked for; then the row, the pattern and the output.
 
      outcome                 cause                               field row
-     11 to 18                the table is refused: see Refusals  512, or
+     11 to 18, 40            the table is refused: see Refusals  512, or
                              of a term table above               that row
      30 LW_REFUSED_ROW       the table has no such row, or it is 0
                              an equation
@@ -375,7 +397,7 @@ lw_record lw_normal_form(const uint16_t *table, size_t table_len, size_t row,
      behind the row asked for; then the row, and then the output.
 
      outcome                 cause                               field row
-     11 to 18                the table is refused: see Refusals  512, or
+     11 to 18, 40            the table is refused: see Refusals  512, or
                              of a term table above               that row
      30 LW_REFUSED_ROW       the table has no such row, or it is 0
                              an equation
@@ -475,7 +497,7 @@ lw_record lw_solve(const uint16_t *table, size_t table_len,
      10 LW_REFUSED_MEMORY    answer_len or work_len is below     0
                              LW_SOLVER_NUMBERS (16384), however
                              small the table is
-     11 to 18                the table is refused: see Refusals  512, or
+     11 to 18, 40            the table is refused: see Refusals  512, or
                              of a term table above               that row
 
      The table is only read. No two of table, answer and work may overlap.

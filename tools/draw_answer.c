@@ -423,7 +423,7 @@ static void draw_refused(lw_record r)
 
     switch (r.outcome) {
     case LW_REFUSED_KIND:
-        draw_row_and_note(r, "The kind is above 4.");
+        draw_row_and_note(r, "The kind is above 5.");
         break;
     case LW_REFUSED_UNUSED:
         draw_row_and_note(r, "A column that the kind does not use is not 0.");
@@ -433,6 +433,9 @@ static void draw_refused(lw_record r)
         break;
     case LW_REFUSED_WIDTH:
         draw_row_and_note(r, "The width is outside 1 to 1024, or the bit of a fill is above 1.");
+        break;
+    case LW_REFUSED_VALUE:
+        draw_row_and_note(r, "The width of the marker is above 16, or its value does not fit its width.");
         break;
     case LW_REFUSED_CUT:
         draw_row_and_note(r, "The high of the cut is not below the width, or its low is above its high.");

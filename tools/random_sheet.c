@@ -4,13 +4,23 @@
       random_sheet NUMBER
 
   The same number gives the same sheet. Those of an even number are small, those
-  of an odd one have up to 4096 variable bits.
+  of an odd one have up to 4096 variable bits. Its values are decimal or, about as
+  often, hexadecimal.
 */
 
 #include <stdlib.h>
 
 #include "../host/large_table.h"
 #include "../host/small_table.h"
+
+/* In one of its spellings: decimal, or h and as many digits as it needs or more, up to four. */
+static void print_value(unsigned number)
+{
+    if (one_in(2))
+        printf("%u", number);
+    else
+        printf("h%0*x", (int)below(5), number);
+}
 
 int main(int argc, char **argv)
 {
@@ -21,13 +31,13 @@ int main(int argc, char **argv)
 
     seed = number;
     if (number % 2 == 0)
-        make_small(&small);
+        make_small(&small, true);
     else
         make_large(&large);
     printf("kind a b c\n");
-    for (size_t r = 0; r < d->rows; r++) {
-        const uint16_t *n = d->t.numbers + 4 * r;
-        printf("%u %u %u %u\n", n[0], n[1], n[2], n[3]);
+    for (size_t i = 0; i < 4 * d->rows; i++) {
+        print_value(d->t.numbers[i]);
+        putchar(i % 4 == 3 ? '\n' : ' ');
     }
     return 0;
 }

@@ -54,6 +54,7 @@ static void print_row(size_t r)
     switch (table[4 * r]) {
     case LW_VARIABLE: width[r] = a; break;
     case LW_FILL:     width[r] = b; break;
+    case LW_VALUE:    width[r] = b; break;
     case LW_JOIN:     width[r] = width[a] + width[b]; break;
     case LW_CUT:      width[r] = b - c + 1; break;
     default:          return;
@@ -68,6 +69,9 @@ static void print_row(size_t r)
         break;
     case LW_FILL:
         print_fill(a, b);
+        break;
+    case LW_VALUE: /* the number a in b bits, as SMT-LIB writes it */
+        printf("(_ bv%u %u)", a, b);
         break;
     case LW_JOIN:
         printf("(concat r%u r%u)", a, b);
