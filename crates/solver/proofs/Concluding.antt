@@ -24,10 +24,9 @@ use Rattle.answers.specs.Solve.{unsatisfiable, solvedRows, tiesTo, alwaysRecord
 use Rattle.answers.proofs.Tables.{tableClasses, classes-run, represent, conflict-most, apart-one, solved-rows, is-left, never-record, always-record, solved-record, all-ties, rows-few}
 use Rattle.answers.proofs.Theorems.{links-before}
 use Rattle.answers.proofs.Demands.{solved-sum, solved-appear}
-use Rattle.classes.specs.inner.Links.{rootsOf}
 use Rattle.borders.specs.inner.Rows.{RowsPut, PutsRows}
 use Rattle.borders.proofs.Answering.{bits-most}
-use Rattle.solver.specs.inner.Equations.{EquationsTaken}
+use Rattle.solver.specs.inner.Equations.{EquationsTaken, ClassesTaken}
 use Rattle.solver.specs.inner.Call.{answerOver, Answered}
 
 -- a number below 2 ^ 32 stays
@@ -39,9 +38,12 @@ pub same-record : {p p′ f f′ o o′ k k′ : ℕ} → p ≡ p′ → f ≡ f
     → _≡_ {A = Record} (record { outcome = 2; pieces = p; fresh = f; free = o; ties = k; row = 0 }) (record { outcome = 2; pieces = p′; fresh = f′; free = o′; ties = k′; row = 0 })
 same-record a b c d = rw (a, b, c, d) refl
 
-module _ (table : List ℕ) (accepted : firstFault table ≡ Accepted) (links answer : List ℕ) (row ties : ℕ) (E : EquationsTaken (rowsOf table) links row ties) where
+module _ (table : List ℕ) (accepted : firstFault table ≡ Accepted) (links answer : List ℕ) (row ties : ℕ) (F : ClassesTaken (rowsOf table) links row ties) where
   abbrev t : List Row
   t = rowsOf table
+
+  E : EquationsTaken (rowsOf table) links row ties
+  E = F .taken
 
   abbrev n : ℕ
   n = bitsOf (rowsOf table)
@@ -79,18 +81,17 @@ module _ (table : List ℕ) (accepted : firstFault table ≡ Accepted) (links an
     some : unsatisfiable t ≡ false
     some = is-left table accepted (sym (E .row-is) ∙ whole-row)
 
-    pub classes-table : rootsOf links ≡ tableClasses table accepted
-    classes-table = E .classes-are whole-row ∙ sym (classes-run table accepted)
+    pub classes-table : links ≡ tableClasses table accepted
+    classes-table = F .settled whole-row ∙ sym (classes-run table accepted)
 
-    pub conclude-solved : ties ≢ 0 → (bits : ℕ) → bits ≡ n → (settled answer′ : List ℕ) (pieces fresh : ℕ) → settled ≡ rootsOf links
-        → PutsRows table settled answer answer′ pieces fresh → 16384 ≤ length answer → (r : Record)
+    pub conclude-solved : ties ≢ 0 → (bits : ℕ) → bits ≡ n → (answer′ : List ℕ) (pieces fresh : ℕ)
+        → PutsRows table links answer answer′ pieces fresh → 16384 ≤ length answer → (r : Record)
         → r ≡ record { outcome = 2; pieces = pieces % 4294967296; fresh = fresh % 4294967296; free = (bits - ties) % 4294967296; ties = ties % 4294967296; row = 0 }
         → Answered t answer answer′ r
     unfolding answerOver
-    conclude-solved z bits w settled answer′ pieces fresh s P room r e =
-        let q : settled ≡ tableClasses table accepted = s ∙ classes-table in
+    conclude-solved z bits w answer′ pieces fresh P room r e =
         let put : RowsPut table (tableClasses table accepted) answer answer′ pieces fresh =
-        subst (λ (c : List ℕ). PutsRows table c answer answer′ pieces fresh) q P _ accepted (represent table accepted) (apart-one table accepted some) room in
+        subst (λ (c : List ℕ). PutsRows table c answer answer′ pieces fresh) classes-table P _ accepted (represent table accepted) (apart-one table accepted some) room in
         let rows : solvedRows t ≡ answerRows n (variableWidths t) (inClass (tableClasses table accepted)) = solved-rows table accepted some in
         let many : pieces ≡ length (solvedRows t) = put .pieces-are ∙ ap length (sym rows) in
         let new : fresh ≡ freshPieces (solvedRows t) = put .fresh-are ∙ sym (solved-appear table accepted some) in

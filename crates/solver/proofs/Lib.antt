@@ -1,5 +1,6 @@
 pub mod Taking
 pub mod Filling
+pub mod Settling
 pub mod Concluding
 pub mod Stops
 pub mod ShortCopy

@@ -5,14 +5,14 @@ ghost use mathlib.Core.Path.{_≡_};
 ghost use Prim.Native.Nat.{_%_, _≤_, suc};
 ghost use lib.ListN.{length};
 ghost use Rattle.answers.specs.Solve.{solveRecord, answerAfter, workAfter};
-ghost use Rattle.solver.specs.inner.Equations.{TakesEquations};
+ghost use Rattle.solver.specs.inner.Equations.{TakesEquations, SettlesTies, TableClasses};
 ghost use Rattle.solver.specs.inner.Call.{Unlinks, Concludes, AnswersTable, SolvesAccepted};
 use terms::Record;
 
 // How far the equations were taken: to the row at which two different fixed bits met, or through all rows; and the ties before it.
-struct Taken {
-    row: usize,
-    ties: usize,
+pub struct Taken {
+    pub row: usize,
+    pub ties: usize,
 }
 
 // Takes the equations of a table in row order, and the bit pairs of each from the high end: the classes of their bits are joined. Two
@@ -66,53 +66,27 @@ fn unlink(links: &mut [u16])
     }
 }
 
-// The record of the equations that were taken, and for outcome 2 the answer's rows.
-fn conclude(
-    table: &[u16],
-    bits: usize,
-    row: usize,
-    ties: usize,
-    links: &mut [u16],
-    answer: &mut [u16],
-) -> Record
-    ensures { λ r. ⌜ Concludes (now (table .entry)) bits row ties (now (links .entry)) (now (answer .entry)) (now (answer .exit)) r ⌝ }
+// The closing sweep, where no conflict was met. Without ties each source links to itself already.
+fn settle_ties(table: &[u16], row: usize, ties: usize, links: &mut [u16])
+    ensures { λ _. ⌜ SettlesTies (now (table .entry)) row ties (now (links .entry)) (now (links .exit)) ⌝ }
 {
-    if row < table.len() / 4 {
-        return Record {
-            outcome: 1,
-            pieces: 0,
-            fresh: 0,
-            free: 0,
-            ties: numbers::short(ties),
-            row: numbers::short(row),
-        };
-    }
-    if ties == 0 {
-        return records::complete(0, numbers::short(bits));
-    }
-    classes::settle(links);
-    let counts = borders::put_rows(table, links, answer);
-    Record {
-        outcome: 2,
-        pieces: numbers::short(counts.pieces),
-        fresh: numbers::short(counts.fresh),
-        free: numbers::short(numbers::minus(bits, ties)),
-        ties: numbers::short(ties),
-        row: 0,
+    if table.len() / 4 <= row {
+        if 0 < ties {
+            classes::settle(links);
+        }
     }
 }
 
-// The answer of an accepted table: its equations are taken from sources that link to themselves.
-fn answer_table(
+// The classes of a table's bits: its equations are taken from sources that link to themselves; then each link is its source's
+// representative, unless two different fixed bits met.
+pub fn table_classes(
     table: &[u16],
     widths: &[u16],
     places: &[u16],
-    bits: usize,
-    links: &mut [u16],
     form: &mut [u16],
-    answer: &mut [u16],
-) -> Record
-    ensures { λ r. ⌜ (length (now (links .entry)) ≡ suc (suc bits) → AnswersTable (now (table .entry)) (now (widths .entry)) (now (places .entry)) bits (length (now (form .entry))) (now (answer .entry)) (now (answer .exit)) r) ⌝ }
+    links: &mut [u16],
+) -> Taken
+    ensures { λ r. ⌜ TableClasses (now (table .entry)) (now (widths .entry)) (now (places .entry)) (length (now (form .entry))) (now (links .entry)) (now (links .exit)) (r .row) (r .ties) ⌝ }
 {
     let mut short = [0u16; 2048];
     let len = sides::shorten(table, &mut short[..]);
@@ -130,6 +104,58 @@ fn answer_table(
         &mut right[..],
         links,
     );
+    settle_ties(table, taken.row, taken.ties, links);
+    taken
+}
+
+// The record of the equations that were taken, and for outcome 2 the answer's rows.
+fn conclude(
+    table: &[u16],
+    bits: usize,
+    row: usize,
+    ties: usize,
+    links: &[u16],
+    answer: &mut [u16],
+) -> Record
+    ensures { λ r. ⌜ Concludes (now (table .entry)) bits row ties (now (links .entry)) (now (answer .entry)) (now (answer .exit)) r ⌝ }
+{
+    if row < table.len() / 4 {
+        return Record {
+            outcome: 1,
+            pieces: 0,
+            fresh: 0,
+            free: 0,
+            ties: numbers::short(ties),
+            row: numbers::short(row),
+        };
+    }
+    if ties == 0 {
+        return records::complete(0, numbers::short(bits));
+    }
+    let counts = borders::put_rows(table, links, answer);
+    Record {
+        outcome: 2,
+        pieces: numbers::short(counts.pieces),
+        fresh: numbers::short(counts.fresh),
+        free: numbers::short(numbers::minus(bits, ties)),
+        ties: numbers::short(ties),
+        row: 0,
+    }
+}
+
+// The answer of an accepted table, from the classes of its bits.
+fn answer_table(
+    table: &[u16],
+    widths: &[u16],
+    places: &[u16],
+    bits: usize,
+    links: &mut [u16],
+    form: &mut [u16],
+    answer: &mut [u16],
+) -> Record
+    ensures { λ r. ⌜ (length (now (links .entry)) ≡ suc (suc bits) → AnswersTable (now (table .entry)) (now (widths .entry)) (now (places .entry)) bits (length (now (form .entry))) (now (answer .entry)) (now (answer .exit)) r) ⌝ }
+{
+    let taken = table_classes(table, widths, places, form, links);
     conclude(table, bits, taken.row, taken.ties, links, answer)
 }
 

@@ -1,15 +1,13 @@
 -- `conclude` meets its contract: each outcome has its law in proofs/Concluding.antt. Assumes nothing.
 use borrow.Author.Needs.{needs}
 use mathlib.Core.Path.{ap, ap₂, _∙_}
-use Prim.Native.Nat.{ℕ, _≤_, _%_}
+use Prim.Native.Nat.{ℕ, _%_}
 use native.Mathlib.Omega.{arith}
-use lib.ListN.{length}
 use denote.Ref.{now}
-use Rattle.terms.specs.Table.{rowsOf}
 use Rattle.terms.specs.Calls.{completed}
 use Rattle.terms.proofs.Rows.{rows-length}
 use Rattle.answers.specs.Solve.{neverRecord}
-use Rattle.solver.proofs.Concluding.{conclude-never, conclude-always, conclude-solved, whole-row, same-record}
+use Rattle.solver.proofs.Concluding.{conclude-never, conclude-always, conclude-solved, same-record}
 use Rattle.solver.proofs.conclude.Statement.{statement}
 use Rattle.solver.proofs.conclude.Tie as tie
 
@@ -37,9 +35,6 @@ returns-2 c =
     conclude-always (now (c .before .before .before .before .before .before .before .args .table)) accepted (now (c .before .before .before .before .before .before .before .args .links)) (now (c .before .before .before .before .before .before .before .args .answer)) (c .before .before .before .before .before .before .before .args .row) (c .before .before .before .before .before .before .before .args .ties) E
     (omega (arith, c .before .before .before .if1 .left, rows-length (now (c .before .before .before .before .before .before .before .args .table)))) (c .before .before .if2 .taken) (c .before .before .before .before .before .before .before .args .bits) bits _ (c .complete .ensures ∙ ap (completed 0) (c .before .short3 .ensures))
 
-settle-requires : tie.Need-settle-requires
-settle-requires c κs = search needs
-
 put-rows-requires : tie.Need-put-rows-requires
 put-rows-requires c κs = search needs
 
@@ -61,16 +56,12 @@ short-requires-7 c κs = search needs
 same-length : tie.Need-same-length
 same-length c = search needs
 
-same-length-2 : tie.Need-same-length-2
-same-length-2 c = search needs
-
 returns-3 : tie.Need-returns-3
 returns-3 c =
     λ accepted bits E room.
-    let l : length (rowsOf (now (c .before .before .before .before .before .before .before .before .before .before .before .before .before .before .before .before .before .before .before .args .table))) ≤ c .before .before .before .before .before .before .before .before .before .before .before .before .before .before .before .before .before .before .before .args .row = omega (arith, c .before .before .before .before .before .before .before .before .before .before .before .before .before .before .before .if1 .left, rows-length (now (c .before .before .before .before .before .before .before .before .before .before .before .before .before .before .before .before .before .before .before .args .table))) in
-    let low = E .low (whole-row (now (c .before .before .before .before .before .before .before .before .before .before .before .before .before .before .before .before .before .before .before .args .table)) accepted (now (c .before .before .before .before .before .before .before .before .before .before .before .before .before .before .before .before .before .before .before .args .links)) (now (c .before .before .before .before .before .before .before .before .before .before .before .before .before .before .before .before .before .before .before .args .answer)) (c .before .before .before .before .before .before .before .before .before .before .before .before .before .before .before .before .before .before .before .args .row) (c .before .before .before .before .before .before .before .before .before .before .before .before .before .before .before .before .before .before .before .args .ties) E l) in
-    conclude-solved (now (c .before .before .before .before .before .before .before .before .before .before .before .before .before .before .before .before .before .before .before .args .table)) accepted (now (c .before .before .before .before .before .before .before .before .before .before .before .before .before .before .before .before .before .before .before .args .links)) (now (c .before .before .before .before .before .before .before .before .before .before .before .before .before .before .before .before .before .before .before .args .answer)) (c .before .before .before .before .before .before .before .before .before .before .before .before .before .before .before .before .before .before .before .args .row) (c .before .before .before .before .before .before .before .before .before .before .before .before .before .before .before .before .before .before .before .args .ties) E l
-    (c .before .before .before .before .before .before .before .before .before .before .before .before .before .before .if2 .left) (c .before .before .before .before .before .before .before .before .before .before .before .before .before .before .before .before .before .before .before .args .bits) bits _ _ _ _ (c .before .before .before .before .before .before .before .before .before .before .before .before .settle .ensures low) (c .before .before .before .before .before .before .before .put-rows .ensures) room _
+    conclude-solved (now (c .before .before .before .before .before .before .before .before .before .before .before .before .before .before .args .table)) accepted (now (c .before .before .before .before .before .before .before .before .before .before .before .before .before .before .args .links)) (now (c .before .before .before .before .before .before .before .before .before .before .before .before .before .before .args .answer)) (c .before .before .before .before .before .before .before .before .before .before .before .before .before .before .args .row) (c .before .before .before .before .before .before .before .before .before .before .before .before .before .before .args .ties) E
+    (omega (arith, c .before .before .before .before .before .before .before .before .before .before .if1 .left, rows-length (now (c .before .before .before .before .before .before .before .before .before .before .before .before .before .before .args .table))))
+    (c .before .before .before .before .before .before .before .before .before .if2 .left) (c .before .before .before .before .before .before .before .before .before .before .before .before .before .before .args .bits) bits _ _ _ (c .before .before .before .before .before .before .before .put-rows .ensures) room _
     (same-record (c .before .before .before .before .short4 .ensures) (c .before .before .before .short5 .ensures) (c .before .short6 .ensures ∙ ap (λ (x : ℕ). x % 4294967296) (c .before .before .minus .ensures)) (c .short7 .ensures))
 
 pub conclude-spec : {M : Type 1} → statement M
@@ -83,7 +74,6 @@ conclude-spec =
     short-requires-3
     complete-requires
     returns-2
-    settle-requires
     put-rows-requires
     short-requires-4
     short-requires-5
@@ -91,5 +81,4 @@ conclude-spec =
     short-requires-6
     short-requires-7
     same-length
-    same-length-2
     returns-3)

@@ -15,7 +15,7 @@ use Rattle.terms.specs.inner.Places.{sourceBefore}
 use Rattle.laws.specs.Buffers.{overwrite}
 use Rattle.answers.specs.Answer.{answerNumbers}
 use Rattle.answers.specs.Solve.{solvedRows, answerRecord}
-use Rattle.solver.specs.inner.Equations.{EquationsTaken}
+use Rattle.solver.specs.inner.Equations.{ClassesTaken}
 
 -- Links that were undone: each source links to itself.
 abbrev pub Unlinks : List ℕ → List ℕ → Type 0
@@ -33,7 +33,7 @@ pub record Answered (t : List Row) (answer answer′ : List ℕ) (r : Record) : 
 -- What is made of the equations that were taken.
 abbrev pub Concludes : List ℕ → ℕ → ℕ → ℕ → List ℕ → List ℕ → List ℕ → Record → Type 0
 Concludes table bits row ties links answer answer′ found =
-    firstFault table ≡ Accepted → bits ≡ bitsOf (rowsOf table) → EquationsTaken (rowsOf table) links row ties → 16384 ≤ length answer
+    firstFault table ≡ Accepted → bits ≡ bitsOf (rowsOf table) → ClassesTaken (rowsOf table) links row ties → 16384 ≤ length answer
     → Answered (rowsOf table) answer answer′ found
 
 -- The same, from the table's widths and the places of its variables, with room for the normal form of a side.
