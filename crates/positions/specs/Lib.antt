@@ -1,0 +1,3 @@
+pub mod Call
+pub mod Positions
+pub mod inner
