@@ -9,6 +9,7 @@ ghost use Rattle.sheets.specs.Call.{sheetRecord, tableAfter};
 ghost use Rattle.answers.specs.Solve.{solveRecord, answerAfter, workAfter};
 ghost use Rattle.answers.specs.RightSide.{rightSideStart, rightSideLength};
 ghost use Rattle.assignments.specs.Call.{patternRecord, patternAfter};
+ghost use Rattle.positions.specs.Call.{positionsRecord, positionsAfter};
 use answers::Part;
 use terms::Record;
 use terms::Row;
@@ -66,6 +67,15 @@ pub extern "C" fn lw_make_pattern(answer: &[u16], fresh: &[u8], pattern: &mut [u
     ensures pattern { λ _. ⌜ now (pattern .exit) ≡ patternAfter (now (answer .entry)) (now (fresh .entry)) (now (pattern .entry)) ⌝ }
 {
     maker::make_pattern(answer, fresh, pattern)
+}
+
+// The starts at which the words of a run meet a table.
+#[no_mangle]
+pub extern "C" fn lw_marker_positions(table: &[u16], words: &[u16], list: &mut [u32]) -> Record
+    ensures record { λ r. ⌜ r ≡ positionsRecord (now (table .entry)) (now (words .entry)) ⌝ }
+    ensures list { λ _. ⌜ now (list .exit) ≡ positionsAfter (now (table .entry)) (now (words .entry)) (now (list .entry)) ⌝ }
+{
+    positions::marker_positions(table, words, list)
 }
 
 // The same calls on a table that is lent as row records. The records are copied as numbers into an area of 513 rows, one more than
