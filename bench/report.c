@@ -2,48 +2,7 @@
 
 #include "report.h"
 
-/* Figures as text, which is kept for the next few only. */
-
-enum { TEXT = 32, TEXTS = 16 };
-
-static char *new_text(void)
-{
-    static char texts[TEXTS][TEXT];
-    static size_t next;
-    return texts[next++ % TEXTS];
-}
-
-static const char *whole(size_t n)
-{
-    char *text = new_text();
-    if (n < 1000)
-        snprintf(text, TEXT, "%zu", n);
-    else if (n < 1000000)
-        snprintf(text, TEXT, "%zu,%03zu", n / 1000, n % 1000);
-    else
-        snprintf(text, TEXT, "%zu,%03zu,%03zu", n / 1000000, n / 1000 % 1000, n % 1000);
-    return text;
-}
-
-/* About three digits. */
-static const char *figure(double x)
-{
-    if (x >= 99.95)
-        return whole((size_t)(x + 0.5));
-    char *text = new_text();
-    snprintf(text, TEXT, "%.*f", x >= 9.995 ? 1 : x >= 0.0995 ? 2 : 3, x);
-    return text;
-}
-
-static const char *micro(double time)
-{
-    return figure(1e6 * time);
-}
-
-static const char *milli(double time)
-{
-    return figure(1e3 * time);
-}
+#include "figures.h"
 
 /* The report. */
 

@@ -5,7 +5,7 @@
   again. Its version as a number is that of the text, and both are the version of
   the manual pages and of the pkg-config file that `make install-data` has put
   into the folder INSTALLED. The page of the program has each kind of a row, and
-  each refusal that a sheet can meet.
+  each refusal that a sheet can meet; the page of the library has each call.
 */
 
 #include "linkwords.h"
@@ -71,11 +71,33 @@ static void test_page(void)
     }
 }
 
+/* Each call stands in the header and on the page, and can be linked. */
+static void test_calls(void)
+{
+    static const struct {
+        const char *name;
+        void (*call)(void);
+    } calls[] = {
+#define CALL(name) {#name "(", (void (*)(void))name}
+        CALL(lw_value), CALL(lw_normal_form), CALL(lw_read_sheet), CALL(lw_solve), CALL(lw_right_side),
+        CALL(lw_make_pattern), CALL(lw_marker_positions), CALL(lw_value_rows), CALL(lw_normal_form_rows),
+        CALL(lw_solve_rows),
+#undef CALL
+    };
+
+    for (size_t i = 0; i < COUNT(calls); i++) {
+        check(calls[i].call != NULL, HERE, "%s is not there", calls[i].name);
+        check_file(HERE, "include/linkwords.h", calls[i].name, false);
+        check_file(HERE, "share/man/man3/linkwords.3", calls[i].name, false);
+    }
+}
+
 const test_list tests = {
     .name = "header",
     .groups = {
         {.name = "the version", .run = test_version},
         {.name = "what is installed", .run = test_installed},
         {.name = "the program's page", .run = test_page},
+        {.name = "the calls", .run = test_calls},
     },
 };

@@ -35,6 +35,9 @@ typedef struct {
     size_t answer_len, work_len, rows_in_use, variable;
     uint8_t fresh[LW_MAX_VARIABLE_BITS];
     size_t fresh_len;
+    uint16_t words[LW_MAX_WORDS + 1];
+    size_t words_len;
+    uint32_t list[1000];
     uint32_t outcome; /* what the call gave; 0 for a right side */
     size_t size;      /* the field free, or a right side's length */
 } call;
@@ -66,30 +69,30 @@ static void add_cuts(call *c, size_t width)
         add(c, LW_CUT, r - 1, width - 1, 0);
 }
 
-/* Each row is a join of the row before it, on the left, and of row 0, which has one bit. */
-static void add_left_joins(call *c)
+/* Each row is a join of the row before it, on the left, and of a row of one bit, row 0 or 1. */
+static void add_left_joins(call *c, size_t bit)
 {
     add(c, LW_CUT, 0, 0, 0);
     for (size_t r = 2; r < 512; r++)
-        add(c, LW_JOIN, r - 1, 0, 0);
+        add(c, LW_JOIN, r - 1, bit, 0);
 }
 
 /* The same with the row before it on the right. */
-static void add_right_joins(call *c)
+static void add_right_joins(call *c, size_t bit)
 {
     add(c, LW_CUT, 0, 0, 0);
     for (size_t r = 2; r < 512; r++)
-        add(c, LW_JOIN, 0, r - 1, 0);
+        add(c, LW_JOIN, bit, r - 1, 0);
 }
 
 /* Cuts and joins in turn. */
-static void add_cuts_and_joins(call *c)
+static void add_cuts_and_joins(call *c, size_t bit)
 {
     for (size_t r = 1; r < 512; r++)
         if (r % 2 == 1)
             add(c, LW_CUT, r - 1, r / 2, 0);
         else
-            add(c, LW_JOIN, r - 1, 0, 0);
+            add(c, LW_JOIN, r - 1, bit, 0);
 }
 
 static void cuts(call *c)
@@ -101,19 +104,19 @@ static void cuts(call *c)
 static void left_joins(call *c)
 {
     variable(c, 1);
-    add_left_joins(c);
+    add_left_joins(c, 0);
 }
 
 static void right_joins(call *c)
 {
     variable(c, 1);
-    add_right_joins(c);
+    add_right_joins(c, 0);
 }
 
 static void cuts_and_joins(call *c)
 {
     variable(c, 1);
-    add_cuts_and_joins(c);
+    add_cuts_and_joins(c, 0);
 }
 
 static void cuts_of_marker(call *c)
@@ -125,19 +128,19 @@ static void cuts_of_marker(call *c)
 static void left_joins_of_marker(call *c)
 {
     marker(c, 1);
-    add_left_joins(c);
+    add_left_joins(c, 0);
 }
 
 static void right_joins_of_marker(call *c)
 {
     marker(c, 1);
-    add_right_joins(c);
+    add_right_joins(c, 0);
 }
 
 static void cuts_and_joins_of_marker(call *c)
 {
     marker(c, 1);
-    add_cuts_and_joins(c);
+    add_cuts_and_joins(c, 0);
 }
 
 static void one_variable(call *c)
@@ -268,6 +271,119 @@ static void short_work(call *c)
 {
     words(c, 64);
     c->work_len--;
+}
+
+/* Tables of 16-bit variables, on the longest run; its words are all 0. */
+
+static void longest_run(call *c)
+{
+    c->words_len = LW_MAX_WORDS;
+}
+
+/*
+  Puts an equation in place of the last rows: row 508, which has this width,
+  without its high and its low bit, equal to itself. Before it stands a variable.
+*/
+static void search(call *c, size_t width)
+{
+    c->table_len = 4 * 509;
+    add(c, LW_CUT, 508, width - 2, 1);
+    add(c, LW_VARIABLE, 16, 0, 0);
+    add(c, LW_EQUATION, 509, 509, 0);
+    longest_run(c);
+}
+
+static void search_word(call *c)
+{
+    variable(c, 16);
+    longest_run(c);
+}
+
+static void search_cuts(call *c)
+{
+    variable(c, 16);
+    add_cuts(c, 16);
+    search(c, 16);
+}
+
+static void search_left_joins(call *c)
+{
+    variable(c, 16);
+    add_left_joins(c, 1);
+    search(c, 508);
+}
+
+static void search_right_joins(call *c)
+{
+    variable(c, 16);
+    add_right_joins(c, 1);
+    search(c, 508);
+}
+
+static void search_cuts_and_joins(call *c)
+{
+    variable(c, 16);
+    add_cuts_and_joins(c, 1);
+    search(c, 255);
+}
+
+static void search_left_joins_of_marker(call *c)
+{
+    marker(c, 16);
+    add_left_joins(c, 1);
+    search(c, 508);
+}
+
+static void search_right_joins_of_marker(call *c)
+{
+    marker(c, 16);
+    add_right_joins(c, 1);
+    search(c, 508);
+}
+
+static void search_cuts_and_joins_of_marker(call *c)
+{
+    marker(c, 16);
+    add_cuts_and_joins(c, 1);
+    search(c, 255);
+}
+
+/* All bits of so many of 64 words are equal. The run is shorter, for the time. */
+static void equal_words(call *c, size_t count)
+{
+    for (size_t v = 0; v < 64; v++)
+        add(c, LW_VARIABLE, 16, 0, 0);
+    add(c, LW_CUT, 0, 15, 1);
+    add(c, LW_CUT, 0, 14, 0);
+    add(c, LW_EQUATION, 64, 65, 0);
+    for (size_t v = 1; v < count; v++)
+        add(c, LW_EQUATION, 0, v, 0);
+    c->words_len = 1000;
+}
+
+static void search_equal(call *c)
+{
+    equal_words(c, 64);
+}
+
+/* The last equation cannot be met. */
+static void search_never(call *c)
+{
+    equal_words(c, 63);
+    add(c, LW_VALUE, 1, 16, 0);
+    add(c, LW_EQUATION, c->table_len / 4 - 1, 0, 0);
+}
+
+static void no_word(call *c)
+{
+    variable(c, 1024);
+    longest_run(c);
+}
+
+static void too_long_run(call *c)
+{
+    search_word(c);
+    c->words_len++;
 }
 
 /* Answer tables. */
@@ -487,12 +603,33 @@ static const test solves[] = {
     {"joins of a marker, on the left", solve_left_joins_of_marker, LW_ALWAYS, 0},
     {"joins of a marker, on the right", solve_right_joins_of_marker, LW_ALWAYS, 0},
     {"cuts and joins of a marker", solve_cuts_and_joins_of_marker, LW_ALWAYS, 0},
+    {"joins of a word's bit, on the left", search_left_joins, LW_ALWAYS, 32},
+    {"joins of a word's bit, on the right", search_right_joins, LW_ALWAYS, 32},
+    {"joins of a marker's bit, on the left", search_left_joins_of_marker, LW_ALWAYS, 16},
+    {"joins of a marker's bit, on the right", search_right_joins_of_marker, LW_ALWAYS, 16},
     {"64 equations of 1024 bits", solve_words, LW_SOLVED, 1024},
     {"never at the last of 64 equations", solve_never, LW_NEVER, 0},
     {"refused 10", short_work, LW_REFUSED_MEMORY, 0},
     {"refused 11", no_whole_row, LW_REFUSED_TABLE, 0},
     {"refused 16 at row 511", bad_cut, LW_REFUSED_CUT, 0},
     {"refused 40 at row 511", bad_marker, LW_REFUSED_VALUE, 0},
+};
+static const test searches[] = {
+    {"one variable", search_word, LW_ACCEPTED, 0},
+    {"512 rows, chained cuts", search_cuts, LW_ACCEPTED, 0},
+    {"joins of a word's bit, on the left", search_left_joins, LW_ACCEPTED, 0},
+    {"joins of a word's bit, on the right", search_right_joins, LW_ACCEPTED, 0},
+    {"cuts and joins of a word's bit", search_cuts_and_joins, LW_ACCEPTED, 0},
+    {"joins of a marker's bit, on the left", search_left_joins_of_marker, LW_ACCEPTED, 0},
+    {"joins of a marker's bit, on the right", search_right_joins_of_marker, LW_ACCEPTED, 0},
+    {"cuts and joins of a marker's bit", search_cuts_and_joins_of_marker, LW_ACCEPTED, 0},
+    {"64 words of equal bits", search_equal, LW_ACCEPTED, 0},
+    {"never at the last of 64 equations", search_never, LW_ACCEPTED, 0},
+    {"refused 11", no_whole_row, LW_REFUSED_TABLE, 0},
+    {"refused 16 at row 511", bad_cut, LW_REFUSED_CUT, 0},
+    {"refused 40 at row 511", bad_marker, LW_REFUSED_VALUE, 0},
+    {"refused 41", no_word, LW_REFUSED_WINDOW, 0},
+    {"refused 42", too_long_run, LW_REFUSED_RUN, 0},
 };
 static const test parts[] = {
     {"4096 rows of one variable", all_rows, 0, LW_SOLVER_NUMBERS},
@@ -580,6 +717,7 @@ RUN(lw_read_sheet, record, c->sheet, c->sheet_len, TABLE)
 RUN(lw_solve, record, TABLE, SOLVE)
 RUN(lw_right_side, part, c->answer, LW_SOLVER_NUMBERS, c->rows_in_use, c->variable)
 RUN(lw_make_pattern, record, c->answer, c->answer_len, c->fresh, c->fresh_len, c->pattern, c->pattern_len)
+RUN(lw_marker_positions, record, TABLE, c->words, c->words_len, c->list, COUNT(c->list))
 RUN(lw_value_rows, record, ROWS, VALUE)
 RUN(lw_normal_form_rows, record, ROWS, FORM)
 RUN(lw_solve_rows, record, ROWS, SOLVE)
@@ -598,6 +736,7 @@ static const struct {
     {"lw_solve", run_lw_solve, LW_STACK_SOLVE, solves, COUNT(solves)},
     {"lw_right_side", run_lw_right_side, LW_STACK_RIGHT_SIDE, parts, COUNT(parts)},
     {"lw_make_pattern", run_lw_make_pattern, LW_STACK_MAKE_PATTERN, patterns, COUNT(patterns)},
+    {"lw_marker_positions", run_lw_marker_positions, LW_STACK_MARKER_POSITIONS, searches, COUNT(searches)},
     {"lw_value_rows", run_lw_value_rows, LW_STACK_VALUE_ROWS, tables, COUNT(tables)},
     {"lw_normal_form_rows", run_lw_normal_form_rows, LW_STACK_NORMAL_FORM_ROWS, tables, COUNT(tables) - 1},
     {"lw_solve_rows", run_lw_solve_rows, LW_STACK_SOLVE_ROWS, solves, COUNT(solves)},
@@ -676,7 +815,7 @@ static size_t measure_test(const char *name, void (*run)(call *), const test *t)
         check(c.outcome == t->outcome && c.size == t->size, HERE, "%s, %s: outcome %u, size %zu", name, t->name,
               c.outcome, c.size);
     }
-    printf("%-19s %-36s %zu bytes of stack\n", name, t->name, use);
+    printf("%-19s %-37s %zu bytes of stack\n", name, t->name, use);
     check(use > sizeof(void *) && use < STACK / 2, HERE, "%s, %s: nothing measured", name, t->name);
     return use;
 }
@@ -693,7 +832,7 @@ static void test_calls(void)
             size_t use = measure_test(calls[i].name, calls[i].run, &calls[i].tests[t]);
             greatest = use > greatest ? use : greatest;
         }
-        printf("%-19s %-36s %zu bytes of stack, the header says %zu\n", calls[i].name, "greatest", greatest, stated);
+        printf("%-19s %-37s %zu bytes of stack, the header says %zu\n", calls[i].name, "greatest", greatest, stated);
         check(stated >= greatest, HERE, "%s: %zu bytes of stack used, the header says only %zu", calls[i].name,
               greatest, stated);
         check(stated <= greatest + greatest / 16 + 64, HERE, "%s: only %zu bytes of stack used, the header says %zu",

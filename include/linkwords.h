@@ -8,7 +8,8 @@
   or of row structs; the calls take that table and leave their results in
   buffers of the caller. One of them solves the equations: it tells whether
   every, no or some choice of the variables' bits meets them all, and for some
-  it describes these choices. Another makes such a choice from the description.
+  it describes these choices. Another makes such a choice from the description,
+  and one finds the places of a long run of words at which the words meet them.
 
   The library is proved: for every input each call yields the record and the
   buffer contents that this header names, and it always returns. It is linked
@@ -137,6 +138,33 @@
   with them the pattern is 1 0 1 0 1 0 1 0.
 
 
+                             Runs and windows
+
+  A run is 16-bit words, numbered from 0, such as a recording of a link. A table
+  whose variables all have 16 bits describes some words of a run that stand one
+  behind the other: its window. A window is as many words as the table has
+  variables, also those that no equation names, and word j of a window is
+  variable j. Bit 15 of a word is the high bit of the variable.
+
+  A start is the number of a window's first word. A window begins at each word
+  from which on there are words enough, so windows overlap. A window meets the
+  table if the pattern that its words are does.
+
+  This sheet describes two words: the marker ace1, and a word whose low four
+  bits are those of the marker.
+
+     kind a b c
+     0 16 0 0
+     0 16 0 0
+     5 hace1 16 0
+     4 0 2 0
+     3 0 3 0
+     3 1 3 0
+     4 4 5 0
+
+  In the run ace1 0001 ace1 ace1 1231 the windows from 0, 2 and 3 on meet it.
+
+
                                   Sheets
 
   A sheet is the numbers of a table as text: a line of names, and then for each
@@ -216,10 +244,11 @@
                                Every call
 
   Lengths count elements, not bytes: 16-bit numbers for a table, for a normal
-  form, for an answer table and for a work area, bytes for a pattern, for a
-  value, for fresh bits and for a sheet. A table of R rows has length 4 * R, and
-  so has an answer table of R rows. The calls whose names end in _rows take the
-  table as an array of row structs instead, and the number of rows.
+  form, for an answer table, for a work area and for a run, 32-bit numbers for a
+  list of starts, bytes for a pattern, for a value, for fresh bits and for a
+  sheet. A table of R rows has length 4 * R, and so has an answer table of R
+  rows. The calls whose names end in _rows take the table as an array of row
+  structs instead, and the number of rows.
 
   Each pointer is to as many elements as its length says, aligned for their
   type. The buffers of one call must not overlap. A pointer may be NULL where
@@ -249,8 +278,8 @@ extern "C" {
   The version of the library, as text and as a number that grows from version to
   version: major * 1000000 + minor * 1000 + patch.
 */
-#define LW_VERSION_TEXT "0.12.0"
-#define LW_VERSION      12000
+#define LW_VERSION_TEXT "0.13.0"
+#define LW_VERSION      13000
 
 /* constants */
 
@@ -281,6 +310,7 @@ extern "C" {
 #define LW_MAX_VARIABLES       64
 #define LW_MAX_VARIABLE_BITS 4096
 #define LW_MAX_EQUATIONS       64
+#define LW_MAX_WORDS      1048576 /* words of a run */
 
 /* Outcomes of an accepted call: of lw_solve the last three, of the others the first. */
 #define LW_ACCEPTED 0
@@ -308,6 +338,8 @@ extern "C" {
 #define LW_REFUSED_ANSWER    33 /* answer table not of its form, or over 4096 bits */
 #define LW_REFUSED_FRESH     34 /* fresh bits of another number, or a byte above 1 */
 #define LW_REFUSED_VALUE     40 /* a marker's width above 16, or its value 2 to the width or more */
+#define LW_REFUSED_WINDOW    41 /* no variable, or one that has not 16 bits */
+#define LW_REFUSED_RUN       42 /* run over 1048576 words */
 
 /*
   Stack: the most bytes that a call was seen to use, on tables made for that; it
@@ -317,12 +349,13 @@ extern "C" {
 #define LW_STACK_VALUE             43456
 #define LW_STACK_NORMAL_FORM      141440
 #define LW_STACK_READ_SHEET         4352
-#define LW_STACK_SOLVE            190336
+#define LW_STACK_SOLVE            190848
 #define LW_STACK_RIGHT_SIDE           64
 #define LW_STACK_MAKE_PATTERN      16576
+#define LW_STACK_MARKER_POSITIONS 168576
 #define LW_STACK_VALUE_ROWS        47616
 #define LW_STACK_NORMAL_FORM_ROWS 145600
-#define LW_STACK_SOLVE_ROWS       194496
+#define LW_STACK_SOLVE_ROWS       195008
 
 /* the record */
 
@@ -576,6 +609,47 @@ lw_record lw_make_pattern(const uint16_t *answer, size_t answer_len,
 
      The answer table and the fresh bits are only read. Neither may overlap
      pattern.
+*/
+
+lw_record lw_marker_positions(const uint16_t *table, size_t table_len,
+                              const uint16_t *words, size_t words_len,
+                              uint32_t *list, size_t list_len);
+/*
+     Lists the starts in the run at which the words meet the table, for a table
+     whose variables all have 16 bits (see Runs and windows). words is the run.
+
+     If the call is accepted, outcome is LW_ACCEPTED, pieces is the number of
+     all starts of windows that meet the table, and all other fields are 0. The
+     beginning of list then has these starts, rising, each once: all of them, or
+     if they are more than list_len the first list_len of them. The numbers of
+     list that follow keep their content. So pieces may be above list_len, and
+     with a list of length 0 the starts are counted; a list as long as the run
+     takes them all.
+
+     With k variables the starts that are tested are 0 to words_len - k. A run
+     of fewer than k words has none: pieces is 0, and nothing is written. A table
+     that no pattern meets finds none, and one that every pattern meets, such as
+     a table without equations, finds them all.
+
+     Otherwise outcome is the first refusal that applies, in the order below,
+     and nothing is written to list. The table is tested first, then its
+     variables, and then the length of the run. The length of the list is not
+     tested.
+
+     outcome                 cause                               field row
+     11 to 18, 40            the table is refused: see Refusals  512, or
+                             of a term table above               that row
+     41 LW_REFUSED_WINDOW    the table has no variable, or one   0
+                             whose width is not 16, wherever it
+                             stands
+     42 LW_REFUSED_RUN       words_len is above LW_MAX_WORDS     0
+                             (1048576)
+
+     The table is analysed once, and then a start takes a few operations on
+     words: one for each word that has fixed bits, and one for each two words
+     and each shift between tied bits of them, up to the first that fails.
+
+     The table and the run are only read. Neither may overlap list.
 */
 
 /* calls on row records */

@@ -1,0 +1,81 @@
+/* test_positions.h -- what the three files of the tests of lw_marker_positions share */
+
+#ifndef TEST_POSITIONS_H
+#define TEST_POSITIONS_H
+
+#include "plain_positions.h"
+#include "random_table.h"
+#include "test.h"
+
+enum {
+    WORD = 16,      /* bits of a word */
+    WINDOW = 64,    /* words of the longest window */
+    RUN = 1048576,  /* words of the longest run */
+    LONG = RUN + 64 /* words of long_run */
+};
+
+/* So many variables of 16 bits, rows 0 and so on. */
+void add_words(table *t, size_t count);
+
+/* An equation of bits high down to low of row a and as many bits of row b, the high one b_high. */
+void add_equal(table *t, size_t a, size_t high, size_t low, size_t b, size_t b_high);
+
+/* Bits high down to low of row a are those of a number. */
+void add_fixed(table *t, size_t a, size_t high, size_t low, size_t value);
+
+/* An accepted table of 16-bit variables, solved by plain_solver.c. */
+typedef struct {
+    size_t bits;
+    lw_record record;
+    uint16_t answer[4 * WORD * WINDOW];
+} solved_table;
+
+void solve_plainly(const uint16_t *numbers, size_t len, solved_table *s);
+
+/* Words that meet it, with random bits where they are free; any words if none meet it. */
+void meeting_words(const solved_table *s, uint16_t words[WINDOW]);
+
+/* LONG words, with guards; check_long_run tests that no call has changed them. */
+const uint16_t *long_run(void);
+void check_long_run(where at);
+
+/*
+  One call: the record; table and words unchanged; at the beginning of the list
+  as many of the want.pieces starts of want_list as it can take if the call is
+  accepted, and behind them, or else everywhere, what was there before.
+*/
+void call(where at, const char *name, const uint16_t *numbers, size_t len, const uint16_t *words, size_t words_len,
+          size_t list_len, lw_record want, const uint32_t *want_list);
+
+/* The starts that plain_positions finds, which are kept until the next call of it. */
+const uint32_t *plain_list(const uint16_t *numbers, size_t len, const uint16_t *words, size_t words_len,
+                           lw_record *record);
+
+/* One call against plain_positions, with a list for so many more starts than there are. Gives their number. */
+size_t compare(where at, const char *name, const uint16_t *numbers, size_t len, const uint16_t *words,
+               size_t words_len, size_t more);
+
+/* The same with a list that takes none, one, too few, just enough and too many of them. */
+size_t compare_lists(where at, const char *name, const uint16_t *numbers, size_t len, const uint16_t *words,
+                     size_t words_len);
+
+/*
+  A table that some words meet and some do not, on a run of windows one behind the
+  other: one that meets it, and others with one bit of a word changed; each bit in
+  turn if there are at most 4 words, else so many bits. Some start is found, and
+  with at most 4 words some is not.
+*/
+void compare_changed(where at, const char *name, const table *t, size_t count, size_t changes);
+
+/* The groups of the other two files. */
+void test_fixed_bits(void);
+void test_fixed_parts(void);
+void test_equal_bits(void);
+void test_equal_parts(void);
+void test_within_a_word(void);
+void test_chains(void);
+void test_across_words(void);
+void test_most_groups(void);
+void test_random(unsigned long cases);
+
+#endif /* TEST_POSITIONS_H */
