@@ -11,12 +11,12 @@ use lib.ListN.{length}
 use borrow.Author.Tests.{ltb-false, eqb-true, not-false, le-ltb, eq-eqb}
 use Rattle.terms.specs.declared.Row.{Row}
 use Rattle.terms.specs.declared.Fault.{Fault}
-use Rattle.terms.specs.declared.Fault.the-variants.{Accepted, Shape, Kind, Unused, Named, Width, Value, Bounds, Count, Sides}
+use Rattle.terms.specs.declared.Fault.the-variants.{Accepted, Shape, Kind, Unused, Named, Width, Value, Bounds, Count}
 use Rattle.terms.specs.Table.{rowsOf}
 use Rattle.terms.specs.Calls.{faultNumber, faultRow}
-use Rattle.terms.specs.Faults.{nonzero, breaks11, breaks12, breaks13, breaks14, breaks15, breaks40, breaks16, breaks17, breaks18, faultAt, isAccepted, lowestFault, firstFault}
+use Rattle.terms.specs.Faults.{nonzero, breaks11, breaks12, breaks13, breaks14, breaks15, breaks40, breaks16, breaks17, faultAt, isAccepted, lowestFault, firstFault}
 use Rattle.terms.specs.Acceptance.{Exactly, WholeRows, KeepsAll, Reaches, Says, Refused, Acceptance}
-use Rattle.terms.proofs.RuleOrder.{told-12, told-13, told-14, told-15, told-40, told-16, told-17, told-18, told-none}
+use Rattle.terms.proofs.RuleOrder.{told-12, told-13, told-14, told-15, told-40, told-16, told-17, told-none}
 use Rattle.terms.proofs.Faults.{all-kept, kept, lowest-here, lowest-past}
 use Rattle.laws.proofs.Bools.{not-both, or-first, or-second}
 use Rattle.laws.proofs.Numbers.{below-or-at}
@@ -52,7 +52,6 @@ module _ (numbers : List ℕ) where
       next k (breaks40 t r) (λ h. says (told-40 t r k h) (reach, k, h)) λ k.
       next k (breaks16 t r) (λ h. says (told-16 t r k h) (reach, k, h)) λ k.
       next k (breaks17 t r) (λ h. says (told-17 t r k h) (reach, k, h)) λ k.
-      next k (breaks18 t r) (λ h. says (told-18 t r k h) (reach, k, h)) λ k.
       absurd (not-both (ap isAccepted (told-none t r k)) fault)
     where
       says : {f : Fault} → faultAt t r ≡ f → Says f numbers → Says (faultAt t r) numbers
@@ -114,7 +113,6 @@ module _ (numbers : List ℕ) where
   said (Value r) s = ends-at r (s .0) (Value r) refl (told-40 t r (s .1) (s .2))
   said (Bounds r) s = ends-at r (s .0) (Bounds r) refl (told-16 t r (s .1) (s .2))
   said (Count r) s = ends-at r (s .0) (Count r) refl (told-17 t r (s .1) (s .2))
-  said (Sides r) s = ends-at r (s .0) (Sides r) refl (told-18 t r (s .1) (s .2))
 
   pub fault-exactly : (f : Fault) → Exactly (firstFault numbers ≡ f) (Says f numbers)
   fault-exactly f = record { to = λ e. subst (λ (f : Fault). Says f numbers) e table-says; of = said f }
@@ -132,8 +130,7 @@ numbered n r =
     (cond (eqb n (faultNumber (Value r))) (Value r)
     (cond (eqb n (faultNumber (Bounds r))) (Bounds r)
     (cond (eqb n (faultNumber (Count r))) (Count r)
-    (cond (eqb n (faultNumber (Sides r))) (Sides r)
-    Accepted))))))))
+    Accepted)))))))
 
 numbered-is : (f : Fault) → numbered (faultNumber f) (faultRow f) ≡ f
 unfolding numbered
@@ -146,7 +143,6 @@ numbered-is (Width r) = refl
 numbered-is (Value r) = refl
 numbered-is (Bounds r) = refl
 numbered-is (Count r) = refl
-numbered-is (Sides r) = refl
 
 pub number-exactly : (numbers : List ℕ) (f : Fault) → Exactly (Refused numbers (faultNumber f) (faultRow f)) (Says f numbers)
 number-exactly numbers f =
@@ -155,7 +151,19 @@ number-exactly numbers f =
       of = λ s. let e = fault-exactly numbers f .of s in (ap faultNumber e, ap faultRow e);
     }
 
--- Acceptance and each number of a table's refusals, both ways.
+-- no fault has the number 18
+pub fault-never-18 : (f : Fault) → faultNumber f ≡ 18 → ⊥
+fault-never-18 Accepted e = omega arith
+fault-never-18 Shape e = omega arith
+fault-never-18 (Kind r) e = omega arith
+fault-never-18 (Unused r) e = omega arith
+fault-never-18 (Named r) e = omega arith
+fault-never-18 (Width r) e = omega arith
+fault-never-18 (Value r) e = omega arith
+fault-never-18 (Bounds r) e = omega arith
+fault-never-18 (Count r) e = omega arith
+
+-- Acceptance and each number of a table's refusals, both ways; and 18 is none of them.
 pub acceptance : (numbers : List ℕ) → Acceptance numbers
 acceptance numbers =
     record {
@@ -168,5 +176,5 @@ acceptance numbers =
       refused-40 = λ r. number-exactly numbers (Value r);
       refused-16 = λ r. number-exactly numbers (Bounds r);
       refused-17 = λ r. number-exactly numbers (Count r);
-      refused-18 = λ r. number-exactly numbers (Sides r);
+      never-18 = λ r e. fault-never-18 (firstFault numbers) (e .0);
     }

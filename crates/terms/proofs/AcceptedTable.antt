@@ -9,7 +9,7 @@ use lib.ListN.{length}
 use borrow.Author.Tests.{ne-eqb}
 use Rattle.terms.specs.declared.Row.{Row}
 use Rattle.terms.specs.declared.Fault.{Fault}
-use Rattle.terms.specs.declared.Fault.the-variants.{Accepted, Shape, Kind, Unused, Named, Width, Value, Bounds, Count, Sides}
+use Rattle.terms.specs.declared.Fault.the-variants.{Accepted, Shape, Kind, Unused, Named, Width, Value, Bounds, Count}
 use Rattle.terms.specs.Table.{rowsOf, rowAt}
 use Rattle.terms.specs.Calls.{faultNumber}
 use Rattle.terms.specs.Faults.{isAccepted, firstFault, absent}
@@ -29,7 +29,6 @@ fault-none (Width r) h = absurd (not-both h refl)
 fault-none (Value r) h = absurd (not-both h refl)
 fault-none (Bounds r) h = absurd (not-both h refl)
 fault-none (Count r) h = absurd (not-both h refl)
-fault-none (Sides r) h = absurd (not-both h refl)
 
 pub record Table (numbers : List ℕ) : Type 0 where
   pub few : length (rowsOf numbers) ≤ 512
@@ -56,7 +55,6 @@ fault-high (Width r) h = omega arith
 fault-high (Value r) h = omega arith
 fault-high (Bounds r) h = omega arith
 fault-high (Count r) h = omega arith
-fault-high (Sides r) h = omega arith
 
 pub fault-numbered : (f : Fault) → isAccepted f ≡ false → eqb (faultNumber f) 0 ≡ false
 fault-numbered f h = ne-eqb (faultNumber f) 0 (λ e. omega (arith, e, fault-high f h))

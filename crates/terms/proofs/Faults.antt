@@ -7,12 +7,12 @@ use Prim.Native.Nat.{ℕ, zero, suc, _+_, _-_, _^_, _<_, _≤_}
 use native.Mathlib.Omega.{arith}
 use lib.Dec.{eqb, ltb}
 use lib.ListN.{length, take}
-use borrow.Author.Tests.{ltb-true, ltb-false, eqb-true, eqb-false, not-false, lt-ltb, le-ltb, ne-eqb}
+use borrow.Author.Tests.{ltb-true, ltb-false, eqb-false, not-false, lt-ltb, le-ltb, ne-eqb}
 use Rattle.terms.specs.declared.Row.{Row}
 use Rattle.terms.specs.declared.Fault.{Fault}
-use Rattle.terms.specs.declared.Fault.the-variants.{Kind, Unused, Named, Width, Value, Bounds, Count, Sides}
+use Rattle.terms.specs.declared.Fault.the-variants.{Kind, Unused, Named, Width, Value, Bounds, Count}
 use Rattle.terms.specs.Table.{rowAt, byKind, widthIn, widthOf, bitsOf, countKind}
-use Rattle.terms.specs.Faults.{breaks12, breaks13, breaks14, breaks15, breaks40, breaks16, breaks17, breaks18, unusedColumn, notTerm, misnamed, outside, wrongWidth, wrongValue, wrongBounds, tooMany, unequalSides, firstRule, rulesAt, faultAt, isAccepted, lowestFault}
+use Rattle.terms.specs.Faults.{breaks12, breaks13, breaks14, breaks15, breaks40, breaks16, breaks17, unusedColumn, notTerm, misnamed, outside, wrongWidth, wrongValue, wrongBounds, tooMany, firstRule, rulesAt, faultAt, isAccepted, lowestFault}
 use Rattle.terms.specs.Acceptance.{KeepsAll}
 use Rattle.terms.proofs.RuleOrder.{told-none}
 use Rattle.terms.proofs.RowKinds.{Fixed, fixed-kind, KindOf, is-variable, is-fixed, is-concat, is-extract, is-equation, kind-of}
@@ -93,10 +93,6 @@ module _ (t : List Row) (r : ℕ) (e : rowAt t r .kind ≡ 3) where
   unfolding breaks16 wrongBounds byKind
   cut-keeps-16 h l = rw (e, lt-ltb (rowAt t r .b) (widthOf t (rowAt t r .a)) h, le-ltb (rowAt t r .b) (rowAt t r .c) l)
 
-  pub cut-keeps-18 : breaks18 t r ≡ false
-  unfolding breaks18 unequalSides byKind
-  cut-keeps-18 = rw e
-
 pub inside : (w : ℕ) → outside w ≡ false → (1 ≤ w) × (w ≤ 1024)
 unfolding outside
 inside w h =
@@ -111,11 +107,10 @@ pub record Kept (t : List Row) (r : ℕ) : Type 0 where
   pub kept40 : breaks40 t r ≡ false
   pub kept16 : breaks16 t r ≡ false
   pub kept17 : breaks17 t r ≡ false
-  pub kept18 : breaks18 t r ≡ false
 
 -- the same as one product
 pub all-kept : (t : List Row) (r : ℕ) → Kept t r → KeepsAll t r
-all-kept t r k = (((((((k .kept12, k .kept13), k .kept14), k .kept15), k .kept40), k .kept16), k .kept17), k .kept18)
+all-kept t r k = ((((((k .kept12, k .kept13), k .kept14), k .kept15), k .kept40), k .kept16), k .kept17)
 
 pub kept : (t : List Row) (r : ℕ) → isAccepted (faultAt t r) ≡ true → Kept t r
 unfolding faultAt rulesAt
@@ -127,8 +122,7 @@ kept t r h =
     let k40 = rule-kept (breaks40 t r) (Value r) _ refl (k15 .1) in
     let k16 = rule-kept (breaks16 t r) (Bounds r) _ refl (k40 .1) in
     let k17 = rule-kept (breaks17 t r) (Count r) _ refl (k16 .1) in
-    let k18 = rule-kept (breaks18 t r) (Sides r) _ refl (k17 .1) in
-    record { kept12 = k12 .0; kept13 = k13 .0; kept14 = k14 .0; kept15 = k15 .0; kept40 = k40 .0; kept16 = k16 .0; kept17 = k17 .0; kept18 = k18 .0 }
+    record { kept12 = k12 .0; kept13 = k13 .0; kept14 = k14 .0; kept15 = k15 .0; kept40 = k40 .0; kept16 = k16 .0; kept17 = k17 .0 }
 
 -- and a row that breaks none is accepted
 pub unbroken : (t : List Row) (r : ℕ) → Kept t r → isAccepted (faultAt t r) ≡ true
@@ -207,12 +201,6 @@ module _ (t : List Row) (r : ℕ) (k : Kept t r) where
         ltb-false 4096 (bitsOf (take (suc r) t)) (or-second v b vb),
         ltb-false 64 (countKind 4 (take (suc r) t)) (or-second (v || b) e h),
       )
-
-  pub kept-sides : rowAt t r .kind ≡ 4 → widthOf t (rowAt t r .a) ≡ widthOf t (rowAt t r .b)
-  unfolding breaks18 unequalSides byKind
-  kept-sides e =
-      eqb-true (widthOf t (rowAt t r .a)) (widthOf t (rowAt t r .b))
-      (not-false (eqb (widthOf t (rowAt t r .a)) (widthOf t (rowAt t r .b))) (rw e at (k .kept18)))
 
 -- a row that breaks no rule has a width of at most 1,024, where the rows before it have
 width-next : (t : List Row) (r : ℕ) → r < length t → Kept t r → ((i : ℕ) → i < r → widthOf t i ≤ 1024) → widthOf t r ≤ 1024

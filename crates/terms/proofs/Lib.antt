@@ -13,7 +13,9 @@ pub mod Markers
 pub mod Acceptance
 pub mod AcceptedTable
 pub mod Equations
+pub mod Filled
 pub mod Satisfies
+pub mod FilledSides
 pub mod Separation
 pub mod RowKinds
 pub mod RowNumbers

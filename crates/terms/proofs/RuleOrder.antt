@@ -7,9 +7,9 @@ use Prim.Native.Nat.{ℕ}
 use lib.ListN.{drop}
 use Rattle.terms.specs.declared.Row.{Row}
 use Rattle.terms.specs.declared.Fault.{Fault}
-use Rattle.terms.specs.declared.Fault.the-variants.{Accepted, Kind, Unused, Named, Width, Value, Bounds, Count, Sides}
-use Rattle.terms.specs.Faults.{breaks12, breaks13, breaks14, breaks15, breaks40, breaks16, breaks17, breaks18, firstRule, rulesAt, faultAt}
-use Rattle.terms.specs.Acceptance.{Keeps12, Keeps13, Keeps14, Keeps15, Keeps40, Keeps16, Keeps17, KeepsAll}
+use Rattle.terms.specs.declared.Fault.the-variants.{Accepted, Kind, Unused, Named, Width, Value, Bounds, Count}
+use Rattle.terms.specs.Faults.{breaks12, breaks13, breaks14, breaks15, breaks40, breaks16, breaks17, firstRule, rulesAt, faultAt}
+use Rattle.terms.specs.Acceptance.{Keeps12, Keeps13, Keeps14, Keeps15, Keeps40, Keeps16, KeepsAll}
 
 module _ (t : List Row) (r : ℕ) where
   -- the fault of the rules behind the first n
@@ -68,14 +68,6 @@ module _ (t : List Row) (r : ℕ) where
   unfolding behind rulesAt firstRule
   told-17 k h = past-16 k ∙ rw h
 
-  past-17 : Keeps17 t r → faultAt t r ≡ behind 7
-  unfolding behind rulesAt firstRule
-  past-17 k = past-16 (k .0) ∙ rw (k .1)
-
-  pub told-18 : Keeps17 t r → breaks18 t r ≡ true → faultAt t r ≡ Sides r
-  unfolding behind rulesAt firstRule
-  told-18 k h = past-17 k ∙ rw h
-
   pub told-none : KeepsAll t r → faultAt t r ≡ Accepted
   unfolding behind rulesAt firstRule
-  told-none k = past-17 (k .0) ∙ rw (k .1)
+  told-none k = past-16 (k .0) ∙ rw (k .1)

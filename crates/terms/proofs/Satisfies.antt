@@ -1,4 +1,4 @@
--- What it is that an assignment satisfies a table: in each equation and-parts sides have the same value.
+-- What it is that an assignment satisfies a table: in each equation the filled sides have the same value.
 use mathlib.Core.Path.{_≡_, refl, sym, ap₂}
 use mathlib.Core.Bool.{Bool, true}
 use mathlib.Core.List.{List, [], _∷_}
@@ -8,7 +8,7 @@ use lib.Dec.{eqb}
 use lib.ListN.{length, getD}
 use borrow.Author.Tests.{eqb-true, eq-eqb}
 use Rattle.terms.specs.declared.Row.{Row}
-use Rattle.terms.specs.Table.{rowAt, byKind, valuesOf, valueOf, sameWord, sidesAgree, allRows, satisfies}
+use Rattle.terms.specs.Table.{rowAt, byKind, valuesOf, valueOf, sameWord, evened, sidesAgree, allRows, satisfies}
 use Rattle.terms.proofs.RowKinds.{each-kind}
 use Rattle.laws.proofs.Bools.{not-both, and-parts}
 
@@ -29,7 +29,7 @@ word-same [] = refl
 word-same (x ∷ v) = rw (eq-eqb x x refl) (word-same v)
 
 -- what is found of all rows holds of each, and the other way round
-all-at : (f : Row → Bool) (t : List Row) → allRows f t ≡ true → (r : ℕ) → r < length t → f (rowAt t r) ≡ true
+pub all-at : (f : Row → Bool) (t : List Row) → allRows f t ≡ true → (r : ℕ) → r < length t → f (rowAt t r) ≡ true
 unfolding allRows
 all-at f [] h r l = absurd (omega arith)
 all-at f (x ∷ t) h zero l = and-parts (f x) (allRows f t) h .0
@@ -40,26 +40,30 @@ unfolding allRows
 all-of f [] h = refl
 all-of f (x ∷ t) h = rw (h 0 (omega arith)) (all-of f t (λ r l. h (suc r) (omega arith)))
 
--- a row that is no equation agrees, and an equation agrees where its sides have the same value
-agree-at : (vs : List (List ℕ)) (r : Row) → r .kind ≡ 4 → sidesAgree vs r ≡ true → getD vs (r .a) [] ≡ getD vs (r .b) []
+-- a row that is no equation agrees, and an equation agrees where its filled sides have the same value
+pub agree-at : (vs : List (List ℕ)) (r : Row) → r .kind ≡ 4 → sidesAgree vs r ≡ true
+    → evened (getD vs (r .a) []) (getD vs (r .b) []) ≡ evened (getD vs (r .b) []) (getD vs (r .a) [])
 unfolding sidesAgree byKind
-agree-at vs r k h = same-word (getD vs (r .a) []) (getD vs (r .b) []) (rw k at h)
+agree-at vs r k h =
+    same-word (evened (getD vs (r .a) []) (getD vs (r .b) [])) (evened (getD vs (r .b) []) (getD vs (r .a) [])) (rw k at h)
 
-agree-of : (vs : List (List ℕ)) (r : Row) → (r .kind ≡ 4 → getD vs (r .a) [] ≡ getD vs (r .b) []) → sidesAgree vs r ≡ true
+pub agree-of : (vs : List (List ℕ)) (r : Row)
+    → (r .kind ≡ 4 → evened (getD vs (r .a) []) (getD vs (r .b) []) ≡ evened (getD vs (r .b) []) (getD vs (r .a) [])) → sidesAgree vs r ≡ true
 unfolding sidesAgree
 agree-of vs r h =
     sym (each-kind (r .kind) true (λ e. refl) (λ e. refl) (λ e. refl) (λ e. refl)
-    (λ k. sym (rw (h k) (word-same (getD vs (r .b) [])))) (λ e. refl))
+    (λ k. sym (rw (h k) (word-same (evened (getD vs (r .b) []) (getD vs (r .a) []))))) (λ e. refl))
 
 module _ (t : List Row) (p : List ℕ) where
-  -- In a table that an assignment satisfies and-parts sides of each equation have the same value.
+  -- In a table that an assignment satisfies the filled sides of each equation have the same value.
   pub satisfies-at : satisfies t p ≡ true → (r : ℕ) → r < length t → rowAt t r .kind ≡ 4
-      → valueOf t p (rowAt t r .a) ≡ valueOf t p (rowAt t r .b)
+      → evened (valueOf t p (rowAt t r .a)) (valueOf t p (rowAt t r .b)) ≡ evened (valueOf t p (rowAt t r .b)) (valueOf t p (rowAt t r .a))
   unfolding satisfies
   satisfies-at h r l k = agree-at (valuesOf t p) (rowAt t r) k (all-at (sidesAgree (valuesOf t p)) t h r l)
 
-  -- An assignment under which and-parts sides of each equation have the same value satisfies the table.
-  pub satisfies-of : ((r : ℕ) → r < length t → rowAt t r .kind ≡ 4 → valueOf t p (rowAt t r .a) ≡ valueOf t p (rowAt t r .b))
+  -- An assignment under which the filled sides of each equation have the same value satisfies the table.
+  pub satisfies-of : ((r : ℕ) → r < length t → rowAt t r .kind ≡ 4
+      → evened (valueOf t p (rowAt t r .a)) (valueOf t p (rowAt t r .b)) ≡ evened (valueOf t p (rowAt t r .b)) (valueOf t p (rowAt t r .a)))
       → satisfies t p ≡ true
   unfolding satisfies
   satisfies-of h = all-of (sidesAgree (valuesOf t p)) t (λ r l. agree-of (valuesOf t p) (rowAt t r) (h r l))

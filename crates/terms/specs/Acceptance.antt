@@ -1,4 +1,4 @@
--- What it says of a table that it is accepted, and what each of its refusals says (document 01, "Where a call stops", 11 to 18; document 02, 40): by the
+-- What it says of a table that it is accepted, and what each of its refusals says (document 01, "Where a call stops", 11 to 17; document 02, 40): by the
 -- rules alone, without a search for the first. `acceptance` and `fault-exactly` (proofs/Acceptance.antt) are the theorems.
 use mathlib.Core.Path.{_≡_}
 use mathlib.Core.Bool.{true, false}
@@ -7,10 +7,10 @@ use Prim.Native.Nat.{ℕ, _%_, _<_, _≤_}
 use lib.ListN.{length}
 use Rattle.terms.specs.declared.Row.{Row}
 use Rattle.terms.specs.declared.Fault.{Fault}
-use Rattle.terms.specs.declared.Fault.the-variants.{Accepted, Shape, Kind, Unused, Named, Width, Value, Bounds, Count, Sides}
+use Rattle.terms.specs.declared.Fault.the-variants.{Accepted, Shape, Kind, Unused, Named, Width, Value, Bounds, Count}
 use Rattle.terms.specs.Table.{rowsOf}
 use Rattle.terms.specs.Calls.{faultNumber, faultRow}
-use Rattle.terms.specs.Faults.{breaks12, breaks13, breaks14, breaks15, breaks40, breaks16, breaks17, breaks18, firstFault}
+use Rattle.terms.specs.Faults.{breaks12, breaks13, breaks14, breaks15, breaks40, breaks16, breaks17, firstFault}
 
 -- A holds exactly if B does.
 pub record Exactly (A B : Type 0) : Type 0 where
@@ -41,12 +41,9 @@ Keeps40 t r = Keeps15 t r × (breaks40 t r ≡ false)
 abbrev pub Keeps16 : List Row → ℕ → Type 0
 Keeps16 t r = Keeps40 t r × (breaks16 t r ≡ false)
 
-abbrev pub Keeps17 : List Row → ℕ → Type 0
-Keeps17 t r = Keeps16 t r × (breaks17 t r ≡ false)
-
 -- All rules of a row.
 abbrev pub KeepsAll : List Row → ℕ → Type 0
-KeepsAll t r = Keeps17 t r × (breaks18 t r ≡ false)
+KeepsAll t r = Keeps16 t r × (breaks17 t r ≡ false)
 
 -- Of at most 512 whole rows, row r is there and no row before it breaks a rule.
 pub record Reaches (numbers : List ℕ) (r : ℕ) : Type 0 where
@@ -66,13 +63,12 @@ Says (Width r) numbers = Reaches numbers r × Keeps14 (rowsOf numbers) r × (bre
 Says (Value r) numbers = Reaches numbers r × Keeps15 (rowsOf numbers) r × (breaks40 (rowsOf numbers) r ≡ true)
 Says (Bounds r) numbers = Reaches numbers r × Keeps40 (rowsOf numbers) r × (breaks16 (rowsOf numbers) r ≡ true)
 Says (Count r) numbers = Reaches numbers r × Keeps16 (rowsOf numbers) r × (breaks17 (rowsOf numbers) r ≡ true)
-Says (Sides r) numbers = Reaches numbers r × Keeps17 (rowsOf numbers) r × (breaks18 (rowsOf numbers) r ≡ true)
 
 -- A table is refused with this number and this row.
 abbrev pub Refused : List ℕ → ℕ → ℕ → Type 0
 Refused numbers number row = (faultNumber (firstFault numbers) ≡ number) × (faultRow (firstFault numbers) ≡ row)
 
--- Acceptance and each number of a table's refusals, both ways.
+-- Acceptance and each number of a table's refusals, both ways. No table is refused 18: document 02, (iii), took that number away.
 pub record Acceptance (numbers : List ℕ) : Type 0 where
   pub accepted : Exactly (firstFault numbers ≡ Accepted) (Says Accepted numbers)
   pub refused-11 : Exactly (Refused numbers 11 512) (Says Shape numbers)
@@ -83,4 +79,4 @@ pub record Acceptance (numbers : List ℕ) : Type 0 where
   pub refused-40 : (r : ℕ) → Exactly (Refused numbers 40 r) (Says (Value r) numbers)
   pub refused-16 : (r : ℕ) → Exactly (Refused numbers 16 r) (Says (Bounds r) numbers)
   pub refused-17 : (r : ℕ) → Exactly (Refused numbers 17 r) (Says (Count r) numbers)
-  pub refused-18 : (r : ℕ) → Exactly (Refused numbers 18 r) (Says (Sides r) numbers)
+  pub never-18 : (r : ℕ) → Refused numbers 18 r → ⊥

@@ -4,7 +4,7 @@ use mathlib.Core.List.{List, [], _∷_}
 use Prim.Native.Nat.{ℕ}
 use Rattle.terms.specs.declared.Record.{Record}
 use Rattle.terms.specs.declared.Fault.{Fault}
-use Rattle.terms.specs.declared.Fault.the-variants.{Accepted, Shape, Kind, Unused, Named, Width, Value, Bounds, Count, Sides}
+use Rattle.terms.specs.declared.Fault.the-variants.{Accepted, Shape, Kind, Unused, Named, Width, Value, Bounds, Count}
 
 -- A refusal's number stands as outcome; other fields are 0 but row.
 abbrev pub refusal : ℕ → ℕ → Record
@@ -25,7 +25,6 @@ faultNumber (Width r) = 15
 faultNumber (Value r) = 40
 faultNumber (Bounds r) = 16
 faultNumber (Count r) = 17
-faultNumber (Sides r) = 18
 
 abbrev pub faultRow : Fault → ℕ
 faultRow Accepted = 0
@@ -37,7 +36,6 @@ faultRow (Width r) = r
 faultRow (Value r) = r
 faultRow (Bounds r) = r
 faultRow (Count r) = r
-faultRow (Sides r) = r
 
 abbrev pub faultRecord : Fault → Record
 faultRecord f = refusal (faultNumber f) (faultRow f)

@@ -1,4 +1,4 @@
--- Which rule of document 01's table ("Where a call stops", numbers 11 to 18), and of document 02's (40), a term table breaks first.
+-- Which rule of document 01's table ("Where a call stops", numbers 11 to 17), and of document 02's (40), a term table breaks first.
 -- Each number is one definition, over the rows t of the table and the number r of a row.
 use mathlib.Core.Bool.{Bool, true, false, not, _&&_, _||_, cond}
 use mathlib.Core.List.{List, [], _∷_}
@@ -7,7 +7,7 @@ use lib.Dec.{eqb, ltb}
 use lib.ListN.{length, take}
 use Rattle.terms.specs.declared.Row.{Row}
 use Rattle.terms.specs.declared.Fault.{Fault}
-use Rattle.terms.specs.declared.Fault.the-variants.{Accepted, Shape, Kind, Unused, Named, Width, Value, Bounds, Count, Sides}
+use Rattle.terms.specs.declared.Fault.the-variants.{Accepted, Shape, Kind, Unused, Named, Width, Value, Bounds, Count}
 use Rattle.terms.specs.Table.{rowsOf, rowAt, byKind, widthOf, countKind, bitsOf}
 
 abbrev pub nonzero : ℕ → Bool
@@ -93,13 +93,6 @@ tooMany variables bits equations = ltb 64 variables || ltb 4096 bits || ltb 64 e
 unfoldable pub breaks17 : List Row → ℕ → Bool
 breaks17 t r = tooMany (countKind 0 (take (suc r) t)) (bitsOf (take (suc r) t)) (countKind 4 (take (suc r) t))
 
--- 18: sides of unequal width
-unfoldable pub unequalSides : Row → ℕ → ℕ → Bool
-unequalSides row left right = byKind (row .kind) false false false false (not (eqb left right))
-
-unfoldable pub breaks18 : List Row → ℕ → Bool
-breaks18 t r = unequalSides (rowAt t r) (widthOf t (rowAt t r .a)) (widthOf t (rowAt t r .b))
-
 -- The fault of the first rule that is broken, where each test says whether its rule is; without one, the row is accepted.
 unfoldable pub firstRule : List (Bool × Fault) → Fault
 firstRule [] = Accepted
@@ -115,7 +108,6 @@ rulesAt t r =
     ∷ (breaks40 t r, Value r)
     ∷ (breaks16 t r, Bounds r)
     ∷ (breaks17 t r, Count r)
-    ∷ (breaks18 t r, Sides r)
     ∷ []
 
 unfoldable pub faultAt : List Row → ℕ → Fault
@@ -131,7 +123,6 @@ isAccepted (Width r) = false
 isAccepted (Value r) = false
 isAccepted (Bounds r) = false
 isAccepted (Count r) = false
-isAccepted (Sides r) = false
 
 -- The fault of the lowest row that breaks a rule, of n rows from row r on.
 unfoldable pub lowestFault : List Row → ℕ → ℕ → Fault

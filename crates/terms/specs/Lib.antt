@@ -6,4 +6,5 @@ pub mod Value
 pub mod Acceptance
 pub mod Sound
 pub mod Markers
+pub mod Filled
 pub mod inner

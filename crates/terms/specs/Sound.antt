@@ -1,5 +1,5 @@
--- What the theorems on values are stated with (proofs/Equations.antt, Markers.antt): tables none of whose rows breaks a rule, and rows that are
--- a fill, a concatenation (join), an extraction (cut) or a value.
+-- What the theorems on values are stated with (proofs/Equations.antt, Markers.antt, FilledSides.antt): tables none of whose rows breaks a rule, and rows that are
+-- a fill, a concatenation (join), an extraction (cut), a value or an equation.
 use mathlib.Core.Path.{_≡_}
 use mathlib.Core.Bool.{true}
 use mathlib.Core.List.{List}
@@ -44,3 +44,10 @@ pub record IsExtract (t : List Row) (r a high low : ℕ) : Type 0 where
   pub word-is : rowAt t r .a ≡ a
   pub high-is : rowAt t r .b ≡ high
   pub low-is : rowAt t r .c ≡ low
+
+-- Row r of the table is the equation of a and b.
+pub record IsEquation (t : List Row) (r a b : ℕ) : Type 0 where
+  pub in-table : r < length t
+  pub is-equation : rowAt t r .kind ≡ 4
+  pub left-is : rowAt t r .a ≡ a
+  pub right-is : rowAt t r .b ≡ b

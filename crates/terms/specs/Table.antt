@@ -1,4 +1,4 @@
--- What a term table means (document 01, "The term table"; document 02, (i)): its rows, their widths and values, and when an
+-- What a term table means (document 01, "The term table"; document 02, (i) and (iii)): its rows, their widths and values, and when an
 -- assignment satisfies it. The bits of a word stand high end first.
 use mathlib.Core.Bool.{Bool, true, false, _&&_, cond}
 use mathlib.Core.List.{List, [], _∷_, _++_}
@@ -129,14 +129,21 @@ sameWord [] (y ∷ ys) = false
 sameWord (x ∷ xs) [] = false
 sameWord (x ∷ xs) (y ∷ ys) = eqb x y && sameWord xs ys
 
--- Whether a row, if it is an equation, has equal sides, where vs are the values of the rows.
+-- A word brought to the length of another: zeros at the high end for what it is shorter by, none if it is not shorter.
+unfoldable pub evened : List ℕ → List ℕ → List ℕ
+evened word other = replicate (length other - length word) 0 ++ word
+
+-- Whether a row, if it is an equation, has equal sides once the narrower one is filled, where vs are the values of the rows.
 unfoldable pub sidesAgree : List (List ℕ) → Row → Bool
-sidesAgree vs r = ifEquation r (sameWord (getD vs (r .a) []) (getD vs (r .b) [])) true
+sidesAgree vs r =
+    ifEquation r
+    (sameWord (evened (getD vs (r .a) []) (getD vs (r .b) [])) (evened (getD vs (r .b) []) (getD vs (r .a) [])))
+    true
 
 unfoldable pub allRows : (Row → Bool) → List Row → Bool
 allRows f [] = true
 allRows f (r ∷ rs) = f r && allRows f rs
 
--- Whether an assignment satisfies (meets) a table: in each equation both sides have equal values.
+-- Whether an assignment satisfies (meets) a table: in each equation the filled sides have equal values.
 unfoldable pub satisfies : List Row → List ℕ → Bool
 satisfies t p = allRows (sidesAgree (valuesOf t p)) t

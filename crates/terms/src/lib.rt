@@ -59,5 +59,4 @@ pub enum Fault {
     Value(u16),
     Bounds(u16),
     Count(u16),
-    Sides(u16),
 }
