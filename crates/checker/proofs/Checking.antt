@@ -15,7 +15,7 @@ use Rattle.terms.specs.declared.Row.{Row}
 use Rattle.terms.specs.declared.Fault.{Fault}
 use Rattle.terms.specs.declared.Fault.the-variants.{Accepted, Shape}
 use Rattle.terms.specs.Table.{rowsOf, rowAt, widthIn, widthsOf, widthOf, bitsIn, bitsOf, countKind}
-use Rattle.terms.specs.Faults.{breaks11, breaks12, breaks13, breaks14, breaks15, breaks40, breaks16, breaks17, breaks18, misnamed, wrongWidth, wrongBounds, tooMany, unequalSides, firstRule, rulesAt, faultAt, isAccepted, lowestFault, firstFault}
+use Rattle.terms.specs.Faults.{breaks11, breaks12, breaks13, breaks14, breaks15, breaks40, breaks16, breaks17, misnamed, wrongWidth, wrongBounds, tooMany, firstRule, rulesAt, faultAt, isAccepted, lowestFault, firstFault}
 use Rattle.checker.specs.inner.Check.{faultIn, rowsBefore, rowsPassed, rulesIn}
 use Rattle.laws.specs.Buffers.{overwrite}
 use Rattle.terms.proofs.RowKinds.{kind-same}
@@ -23,7 +23,7 @@ use Rattle.laws.proofs.Bools.{not-both}
 use Rattle.terms.proofs.Rows.{rows-length}
 use Rattle.laws.proofs.Buffers.{overwrite-length, overwrite-read, overwrite-more}
 use Rattle.terms.proofs.Widths.{widths-count, width-row, width-early, widths-more, width-same, bits-more, count-more}
-use Rattle.terms.proofs.Faults.{kept, kept-names, rule-same, concat-names, extract-names, equation-names, widths-small, totals-small, lowest-past, lowest-here}
+use Rattle.terms.proofs.Faults.{kept, kept-names, rule-same, concat-names, extract-names, widths-small, totals-small, lowest-past, lowest-here}
 use Rattle.terms.specs.Sound.{Passed}
 use Rattle.terms.proofs.AcceptedTable.{accepted-table}
 
@@ -72,7 +72,7 @@ first-row r n (s ∷ rules) all h = go (s .0) (first-row r n rules (all .1)) h
 
 fault-row : (t : List Row) (r n : ℕ) → isAccepted (faultAt t r) ≡ false → rowsBefore (faultAt t r) n ≡ r
 unfolding faultAt rulesAt
-fault-row t r n h = first-row r n (rulesAt t r) (refl, (refl, (refl, (refl, (refl, (refl, (refl, (refl, tt)))))))) h
+fault-row t r n h = first-row r n (rulesAt t r) (refl, (refl, (refl, (refl, (refl, (refl, (refl, tt))))))) h
 
 pub record Checking (table ws₀ ws : List ℕ) (variables bits equations r : ℕ) : Type 0 where
   pub within : r ≤ length (rowsOf table)
@@ -141,17 +141,6 @@ module _ (table ws₀ ws : List ℕ) (variables bits equations r : ℕ) (k : Che
         (λ e. ap (λ (w : ℕ). not (ltb (row .b) w) || ltb (row .b) (row .c)) (checking-read (row .a) (extract-names rows r row m e .earlier)))
         (λ e. refl)
 
-    sides-read : misnamed rows r (rowAt rows r) ≡ false
-        → unequalSides (rowAt rows r) (getD ws (rowAt rows r .a) 0) (getD ws (rowAt rows r .b) 0)
-        ≡ unequalSides (rowAt rows r) (widthOf rows (rowAt rows r .a)) (widthOf rows (rowAt rows r .b))
-    unfolding unequalSides
-    sides-read m =
-        let row = rowAt rows r in
-        kind-same (row .kind) (λ e. refl) (λ e. refl) (λ e. refl) (λ e. refl)
-        (λ e.
-        let names = equation-names rows r row m e in
-        ap₂ (λ (v w : ℕ). not (eqb v w)) (checking-read (row .a) (names .0 .earlier)) (checking-read (row .b) (names .1 .earlier)))
-
     totals-are : tooMany (variables + cond (eqb (rowAt rows r .kind) 0) 1 0) (bits + bitsIn (rowAt rows r)) (equations + cond (eqb (rowAt rows r .kind) 4) 1 0) ≡ breaks17 rows r
     unfolding breaks17
     totals-are = rw (k .n-variables, k .n-bits, k .n-equations, count-more 0 rows r l, bits-more rows r l, count-more 4 rows r l)
@@ -159,7 +148,7 @@ module _ (table ws₀ ws : List ℕ) (variables bits equations r : ℕ) (k : Che
     -- what the code asks of row r is the row's fault
     pub checking-fault : firstRule (rulesIn rows ws r (rowAt rows r) (variables + cond (eqb (rowAt rows r .kind) 0) 1 0) (bits + bitsIn (rowAt rows r)) (equations + cond (eqb (rowAt rows r .kind) 4) 1 0))
         ≡ faultAt rows r
-    unfolding rulesIn faultAt rulesAt breaks12 breaks13 breaks14 breaks15 breaks40 breaks16 breaks18
+    unfolding rulesIn faultAt rulesAt breaks12 breaks13 breaks14 breaks15 breaks40 breaks16
     checking-fault =
         let small : r % 65536 ≡ r = omega (arith, few) in
         rw small
@@ -169,8 +158,7 @@ module _ (table ws₀ ws : List ℕ) (variables bits equations r : ℕ) (k : Che
         rule-same _ _ _ _ _ (ap (wrongWidth (rowAt rows r)) (width-read m)) (λ _.
         rule-same _ _ _ _ _ refl (λ _.
         rule-same _ _ _ _ _ (bounds-read m) (λ _.
-        rule-same _ _ _ _ _ totals-are (λ _.
-        rule-same _ _ _ _ _ (sides-read m) (λ _. refl)))))))))
+        rule-same _ _ _ _ _ totals-are (λ _. refl))))))))
 
     pub checking-answer : (row : Row) (v b e : ℕ) (f : Fault) → row ≡ rowAt rows r
         → v ≡ variables + cond (eqb (row .kind) 0) 1 0 → b ≡ bits + bitsIn row → e ≡ equations + cond (eqb (row .kind) 4) 1 0

@@ -1,10 +1,10 @@
-// The check of document 01's rules 11 to 18 and of document 02's 40, each row's width, and where the variables stand. A table is lent as numbers, four to a row. The check is one
+// The check of document 01's rules 11 to 17 and of document 02's 40, each row's width, and where the variables stand. A table is lent as numbers, four to a row. The check is one
 // pass: a row's rules ask only for the kinds and widths of earlier rows and for three running totals.
 ghost use mathlib.Core.Path.{_≡_};
 ghost use Prim.Native.Nat.{_+_, _-_, _%_, _≤_};
 ghost use lib.ListN.{getD, length, take};
 ghost use Rattle.terms.specs.Table.{rowsOf, widthIn, widthsOf, bitsIn, bitsOf};
-ghost use Rattle.terms.specs.Faults.{unusedColumn, notTerm, misnamed, wrongWidth, wrongValue, wrongBounds, tooMany, unequalSides, firstRule};
+ghost use Rattle.terms.specs.Faults.{unusedColumn, notTerm, misnamed, wrongWidth, wrongValue, wrongBounds, tooMany, firstRule};
 ghost use Rattle.terms.specs.inner.Places.{NumbersVariables, FindsSources};
 ghost use Rattle.checker.specs.inner.Check.{rulesIn, faultIn, rowsPassed};
 ghost use Rattle.laws.specs.Buffers.{overwrite};
@@ -185,20 +185,6 @@ fn too_many(variables: usize, bits: usize, equations: usize) -> bool
     false
 }
 
-// Rule 18: an equation's sides have unequal widths.
-fn bad_sides(row: Row, left: usize, right: usize) -> bool
-    ensures { λ r. ⌜ r ≡ unequalSides row left right ⌝ }
-{
-    let kind = row.kind;
-    if kind != terms::EQUATION {
-        return false;
-    }
-    if left != right {
-        return true;
-    }
-    false
-}
-
 // The first rule that row r breaks; the totals count it too.
 fn row_fault(
     table: &[u16],
@@ -228,15 +214,11 @@ fn row_fault(
     if bad_value(row) {
         return Fault::Value(at);
     }
-    let left = width_at(widths, row.a);
-    if bad_bounds(row, left) {
+    if bad_bounds(row, width_at(widths, row.a)) {
         return Fault::Bounds(at);
     }
     if too_many(variables, bits, equations) {
         return Fault::Count(at);
-    }
-    if bad_sides(row, left, width_at(widths, row.b)) {
-        return Fault::Sides(at);
     }
     Fault::Accepted
 }

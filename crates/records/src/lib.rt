@@ -48,7 +48,6 @@ fn fault_number(f: Fault) -> u32
         Fault::Value(_) => 40,
         Fault::Bounds(_) => 16,
         Fault::Count(_) => 17,
-        Fault::Sides(_) => 18,
     }
 }
 
@@ -65,7 +64,6 @@ fn fault_row(f: Fault) -> u32
         Fault::Value(r) => r as u32,
         Fault::Bounds(r) => r as u32,
         Fault::Count(r) => r as u32,
-        Fault::Sides(r) => r as u32,
     }
 }
 
@@ -90,6 +88,5 @@ pub fn accepted(f: Fault) -> bool
         Fault::Value(_) => false,
         Fault::Bounds(_) => false,
         Fault::Count(_) => false,
-        Fault::Sides(_) => false,
     }
 }

@@ -1,13 +1,13 @@
 -- `row_fault` meets its contract: the rules are asked in the documents' order. Assumes nothing.
-use mathlib.Core.Path.{_≡_, sym, _∙_, ap, ap₂}
+use mathlib.Core.Path.{_≡_, sym, _∙_, ap}
 use mathlib.Core.Bool.{false}
 use lib.Dec.{ltb}
 use lib.ListN.{getD}
 use denote.Ref.{now}
 use borrow.Author.Tests.{lt-ltb, le-ltb}
-use Rattle.terms.specs.declared.Fault.the-variants.{Kind, Unused, Named, Width, Value, Bounds, Count, Sides}
+use Rattle.terms.specs.declared.Fault.the-variants.{Kind, Unused, Named, Width, Value, Bounds, Count}
 use Rattle.terms.specs.Table.{rowsOf, widthIn}
-use Rattle.terms.specs.Faults.{unusedColumn, misnamed, wrongWidth, wrongValue, wrongBounds, tooMany, unequalSides, firstRule}
+use Rattle.terms.specs.Faults.{unusedColumn, misnamed, wrongWidth, wrongValue, wrongBounds, tooMany, firstRule}
 use Rattle.checker.specs.inner.Check.{rulesIn}
 use borrow.Author.Needs.{needs}
 use Rattle.checker.proofs.row_fault.Statement.{statement}
@@ -37,13 +37,6 @@ said-16 d = ap (wrongBounds (d .before .before .before .before .before .before .
 said-17 : (d : tie.After-too-many) → tooMany (d .before .before .before .before .before .before .before .before .before .before .before .before .before .before .before .before .before .args .variables) (d .before .before .before .before .before .before .before .before .before .before .before .before .before .before .before .before .before .args .bits) (d .before .before .before .before .before .before .before .before .before .before .before .before .before .before .before .before .before .args .equations) ≡ d .too-many .result
 said-17 d = sym (d .too-many .ensures)
 
-said-18 : (d : tie.After-bad-sides)
-    → unequalSides (d .before .before .before .before .before .before .before .before .before .before .before .before .before .before .before .before .before .before .before .before .args .row) (getD (now (d .before .before .before .before .before .before .before .before .before .before .before .before .before .before .before .before .before .before .before .before .args .widths)) (d .before .before .before .before .before .before .before .before .before .before .before .before .before .before .before .before .before .before .before .before .args .row .a) 0) (getD (now (d .before .before .before .before .before .before .before .before .before .before .before .before .before .before .before .before .before .before .before .before .args .widths)) (d .before .before .before .before .before .before .before .before .before .before .before .before .before .before .before .before .before .before .before .before .args .row .b) 0)
-    ≡ d .bad-sides .result
-said-18 d =
-    ap₂ (unequalSides (d .before .before .before .before .before .before .before .before .before .before .before .before .before .before .before .before .before .before .before .before .args .row)) (sym (d .before .before .before .before .before .before .width-at .ensures .0)) (sym (d .before .width-at2 .ensures .0))
-    ∙ sym (d .bad-sides .ensures)
-
 narrow-requires : tie.Need-narrow-requires
 narrow-requires c κs = tt
 
@@ -70,12 +63,6 @@ bad-bounds-requires c κs = search needs
 
 too-many-requires : tie.Need-too-many-requires
 too-many-requires c κs = search needs
-
-width-at-requires-2 : tie.Need-width-at-requires-2
-width-at-requires-2 c κs = search needs
-
-bad-sides-requires : tie.Need-bad-sides-requires
-bad-sides-requires c κs = search needs
 
 returns : tie.Need-returns
 unfolding firstRule rulesIn
@@ -156,29 +143,13 @@ returns-8 : tie.Need-returns-8
 unfolding firstRule rulesIn
 returns-8 c =
     rw (
-      kept-12 (c .before .before .before .before .before .before .before .before .before .before .before .before .before .before .before .before .before),
-      said-13 (c .before .before .before .before .before .before .before .before .before .before .before .before .before .before .before .before) ∙ (c .before .before .before .before .before .before .before .before .before .before .before .before .before .before .before) .if2 .left,
-      said-14 (c .before .before .before .before .before .before .before .before .before .before .before .before .before .before) ∙ (c .before .before .before .before .before .before .before .before .before .before .before .before .before) .if3 .left,
-      said-15 (c .before .before .before .before .before .before .before .before .before .before .before) ∙ (c .before .before .before .before .before .before .before .before .before .before) .if4 .left,
-      said-40 (c .before .before .before .before .before .before .before .before .before) ∙ (c .before .before .before .before .before .before .before .before) .if5 .left,
-      said-16 (c .before .before .before .before .before .before) ∙ (c .before .before .before .before .before) .if6 .left,
-      said-17 (c .before .before .before .before) ∙ (c .before .before .before) .if7 .left,
-      said-18 (c .before) ∙ (c) .if8 .taken,
-    )
-    (ap Sides (c .before .before .before .before .before .before .before .before .before .before .before .before .before .before .before .before .before .before .narrow .ensures))
-
-returns-9 : tie.Need-returns-9
-unfolding firstRule rulesIn
-returns-9 c =
-    rw (
-      kept-12 (c .before .before .before .before .before .before .before .before .before .before .before .before .before .before .before .before .before),
-      said-13 (c .before .before .before .before .before .before .before .before .before .before .before .before .before .before .before .before) ∙ (c .before .before .before .before .before .before .before .before .before .before .before .before .before .before .before) .if2 .left,
-      said-14 (c .before .before .before .before .before .before .before .before .before .before .before .before .before .before) ∙ (c .before .before .before .before .before .before .before .before .before .before .before .before .before) .if3 .left,
-      said-15 (c .before .before .before .before .before .before .before .before .before .before .before) ∙ (c .before .before .before .before .before .before .before .before .before .before) .if4 .left,
-      said-40 (c .before .before .before .before .before .before .before .before .before) ∙ (c .before .before .before .before .before .before .before .before) .if5 .left,
-      said-16 (c .before .before .before .before .before .before) ∙ (c .before .before .before .before .before) .if6 .left,
-      said-17 (c .before .before .before .before) ∙ (c .before .before .before) .if7 .left,
-      said-18 (c .before) ∙ (c) .if8 .left,
+      kept-12 (c .before .before .before .before .before .before .before .before .before .before .before .before .before .before),
+      said-13 (c .before .before .before .before .before .before .before .before .before .before .before .before .before) ∙ (c .before .before .before .before .before .before .before .before .before .before .before .before) .if2 .left,
+      said-14 (c .before .before .before .before .before .before .before .before .before .before .before) ∙ (c .before .before .before .before .before .before .before .before .before .before) .if3 .left,
+      said-15 (c .before .before .before .before .before .before .before .before) ∙ (c .before .before .before .before .before .before .before) .if4 .left,
+      said-40 (c .before .before .before .before .before .before) ∙ (c .before .before .before .before .before) .if5 .left,
+      said-16 (c .before .before .before) ∙ (c .before .before) .if6 .left,
+      said-17 (c .before) ∙ (c) .if7 .left,
     )
 
 pub row-fault-spec : {M : Type 1} → statement M
@@ -201,7 +172,4 @@ row-fault-spec =
     returns-6
     too-many-requires
     returns-7
-    width-at-requires-2
-    bad-sides-requires
-    returns-8
-    returns-9)
+    returns-8)

@@ -6,9 +6,9 @@ use lib.Dec.{ltb}
 use lib.ListN.{length, getD, take}
 use Rattle.terms.specs.declared.Row.{Row}
 use Rattle.terms.specs.declared.Fault.{Fault}
-use Rattle.terms.specs.declared.Fault.the-variants.{Accepted, Shape, Kind, Unused, Named, Width, Value, Bounds, Count, Sides}
+use Rattle.terms.specs.declared.Fault.the-variants.{Accepted, Shape, Kind, Unused, Named, Width, Value, Bounds, Count}
 use Rattle.terms.specs.Table.{rowsOf, widthIn}
-use Rattle.terms.specs.Faults.{unusedColumn, misnamed, wrongWidth, wrongValue, wrongBounds, tooMany, unequalSides, firstFault}
+use Rattle.terms.specs.Faults.{unusedColumn, misnamed, wrongWidth, wrongValue, wrongBounds, tooMany, firstFault}
 
 -- The rules of row r as they are asked of it: ws has the widths of the rows before it, and the totals count it too.
 unfoldable pub rulesIn : List Row → List ℕ → ℕ → Row → ℕ → ℕ → ℕ → List (Bool × Fault)
@@ -20,7 +20,6 @@ rulesIn t ws r row variables bits equations =
     ∷ (wrongValue row, Value (r % 65536))
     ∷ (wrongBounds row (getD ws (row .a) 0), Bounds (r % 65536))
     ∷ (tooMany variables bits equations, Count (r % 65536))
-    ∷ (unequalSides row (getD ws (row .a) 0) (getD ws (row .b) 0), Sides (r % 65536))
     ∷ []
 
 -- What the check finds with room for so many widths: below 512 it takes no table.
@@ -38,7 +37,6 @@ rowsBefore (Width r) n = r
 rowsBefore (Value r) n = r
 rowsBefore (Bounds r) n = r
 rowsBefore (Count r) n = r
-rowsBefore (Sides r) n = r
 
 -- The rows that the check passes: all of them, or those before the fault.
 unfoldable pub rowsPassed : ℕ → List ℕ → List Row
