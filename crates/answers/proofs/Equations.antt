@@ -6,13 +6,14 @@ use mathlib.Core.Logic.{⊎-elim}
 use Prim.Native.Nat.{ℕ, zero, suc, _<_, _≤_}
 use native.Mathlib.Omega.{arith}
 use lib.Dec.{eqb}
-use lib.ListN.{length, getD, drop}
+use lib.ListN.{length, drop}
 use Rattle.terms.specs.declared.Row.{Row}
-use Rattle.terms.specs.Table.{rowAt, bitsOf, ifEquation, bitOf, valuesOf, sourceOf, sameWord, sidesAgree, allRows, satisfies}
+use Rattle.terms.specs.Table.{rowAt, bitsOf, ifEquation, bitOf, valuesOf, valueOf, sourceOf, sameWord, evened, sidesAgree, allRows, satisfies}
 use Rattle.terms.proofs.RowKinds.{Equation, equation-or-not, of-equation, of-term}
-use Rattle.terms.proofs.Faults.{kept, kept-names, kept-sides, equation-names}
+use Rattle.terms.proofs.Faults.{kept, kept-names, equation-names}
 use Rattle.terms.specs.Sound.{Sound}
-use Rattle.terms.proofs.Sources.{value-sources, source-length}
+use Rattle.terms.proofs.Filled.{evened-length, evened-map}
+use Rattle.terms.proofs.Sources.{value-sources}
 use Rattle.answers.specs.Pairs.{Pair, paired, pairsOf, pairsIn, equationPairs, satisfiesPairs}
 use Rattle.answers.specs.Representatives.{satisfiesAll, allPairs}
 use Rattle.answers.proofs.Agreement.{satisfies-turned}
@@ -26,6 +27,11 @@ pair-words p [] (y ∷ ys) h = absurd (omega arith)
 pair-words p (x ∷ xs) [] h = absurd (omega arith)
 pair-words p (x ∷ xs) (y ∷ ys) h = ap (λ (b : Bool). eqb (bitOf p x) (bitOf p y) && b) (pair-words p xs ys (omega arith))
 
+-- source 0 is the fixed bit 0
+zero-bit : (p : List ℕ) → bitOf p 0 ≡ 0
+unfolding bitOf
+zero-bit p = refl
+
 module _ (t : List Row) (p : List ℕ) (sound : Sound t) (whole : length p ≡ bitsOf t) where
   pub row-pairs : (r : ℕ) → r < length t → sidesAgree (valuesOf t p) (rowAt t r) ≡ satisfiesPairs p (pairsOf t (rowAt t r))
   unfolding sidesAgree pairsOf satisfiesPairs
@@ -34,11 +40,17 @@ module _ (t : List Row) (p : List ℕ) (sound : Sound t) (whole : length p ≡ b
       row : Row
       row = rowAt t r
 
+      left : List ℕ
+      left = sourceOf t (row .a)
+
+      right : List ℕ
+      right = sourceOf t (row .b)
+
       agree : Bool
-      agree = sameWord (getD (valuesOf t p) (row .a) []) (getD (valuesOf t p) (row .b) [])
+      agree = sameWord (evened (valueOf t p (row .a)) (valueOf t p (row .b))) (evened (valueOf t p (row .b)) (valueOf t p (row .a)))
 
       bits : List Pair
-      bits = paired (sourceOf t (row .a)) (sourceOf t (row .b))
+      bits = paired (evened left right) (evened right left)
 
       term : (Equation row → ⊥) → ifEquation row agree true ≡ satisfiesPairs p (ifEquation row bits [])
       term l = of-term row agree true l ∙ sym (ap (satisfiesPairs p) (of-term row bits [] l))
@@ -50,8 +62,9 @@ module _ (t : List Row) (p : List ℕ) (sound : Sound t) (whole : length p ≡ b
           let a : row .a < length t = omega (arith, names .0 .earlier, h) in
           let b : row .b < length t = omega (arith, names .1 .earlier, h) in
           of-equation row agree true e
-          ∙ ap₂ sameWord (value-sources t p sound whole (row .a) a) (value-sources t p sound whole (row .b) b)
-          ∙ pair-words p (sourceOf t (row .a)) (sourceOf t (row .b)) (source-length t sound (row .a) a ∙ kept-sides t r k e ∙ sym (source-length t sound (row .b) b))
+          ∙ ap₂ (λ (x y : List ℕ). sameWord (evened x y) (evened y x)) (value-sources t p sound whole (row .a) a) (value-sources t p sound whole (row .b) b)
+          ∙ ap₂ sameWord (evened-map (bitOf p) (zero-bit p) left right) (evened-map (bitOf p) (zero-bit p) right left)
+          ∙ pair-words p (evened left right) (evened right left) (evened-length left right)
           ∙ sym (ap (satisfiesPairs p) (of-equation row bits [] e))
 
   pub rows-pairs : (rs : List Row) → ((r : ℕ) → r < length rs → sidesAgree (valuesOf t p) (rowAt rs r) ≡ satisfiesPairs p (pairsOf t (rowAt rs r)))

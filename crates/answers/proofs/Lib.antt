@@ -4,6 +4,7 @@ pub mod Counting
 pub mod Exact
 pub mod Conflicts
 pub mod Equations
+pub mod Filled
 pub mod Order
 pub mod Theorems
 pub mod Slots

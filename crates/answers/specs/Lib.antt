@@ -3,6 +3,7 @@ pub mod Answer
 pub mod Solve
 pub mod RightSide
 pub mod Systems
+pub mod Filled
 pub mod Demands
 pub mod Representatives
 pub mod inner

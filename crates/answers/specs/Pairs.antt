@@ -7,7 +7,7 @@ use Prim.Native.Nat.{ℕ, _+_}
 use lib.Dec.{eqb}
 use Rattle.terms.specs.declared.Row.{Row}
 use Rattle.terms.specs.Assignments.{every}
-use Rattle.terms.specs.Table.{ifEquation, bitOf, sourceOf}
+use Rattle.terms.specs.Table.{ifEquation, bitOf, sourceOf, evened}
 
 pub record Pair : Type 0 where
   pub left : ℕ
@@ -19,9 +19,12 @@ paired [] ys = []
 paired (x ∷ xs) [] = []
 paired (x ∷ xs) (y ∷ ys) = record { left = x; right = y } ∷ paired xs ys
 
--- The bit pairs of a row, high end first: none, if it is no equation.
+-- The bit pairs of a row, high end first: none, if it is no equation. The narrower side is filled: a zero there is source 0, the fixed bit.
 unfoldable pub pairsOf : List Row → Row → List Pair
-pairsOf t r = ifEquation r (paired (sourceOf t (r .a)) (sourceOf t (r .b))) []
+pairsOf t r =
+    ifEquation r
+    (paired (evened (sourceOf t (r .a)) (sourceOf t (r .b))) (evened (sourceOf t (r .b)) (sourceOf t (r .a))))
+    []
 
 -- The bit pairs of each row in turn.
 unfoldable pub pairsIn : List Row → List Row → List (List Pair)

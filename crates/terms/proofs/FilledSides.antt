@@ -63,7 +63,7 @@ pub record SameFilled (vs : List (List ℕ)) (n j m : ℕ) : Type 0 where
 
 module _ (t : List Row) (sound : Sound t) where
   -- the sides of an equation are terms before it
-  sides-in : (r : ℕ) → r < length t → rowAt t r .kind ≡ 4 → (rowAt t r .a < length t) × (rowAt t r .b < length t)
+  pub sides-in : (r : ℕ) → r < length t → rowAt t r .kind ≡ 4 → (rowAt t r .a < length t) × (rowAt t r .b < length t)
   sides-in r h k =
       let names = equation-names t r (rowAt t r) (kept-names t r (kept t r (sound r h))) k in
       (omega (arith, names .0 .earlier), omega (arith, names .1 .earlier))
