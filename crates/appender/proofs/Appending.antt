@@ -1,20 +1,20 @@
--- What was appended to a buffer's form: sources one after the other, the sources of one piece, and the bits of a number.
+-- What was appended to a buffer's form: sources one after the other, the sources of one piece, copies of a bit, and the bits of a number.
 use mathlib.Core.Path.{_≡_, refl, sym, _∙_, ap, ap₂}
 use mathlib.Core.List.{List, [], _∷_, _++_, map, append-assoc, append-nil}
 use Prim.Native.Nat.{ℕ, suc, _+_, _-_, _/_, _%_, _^_, _≤_}
 use native.Mathlib.Omega.{arith}
-use lib.ListN.{length, length-append}
+use lib.ListN.{length, replicate, length-append}
 use Rattle.terms.specs.declared.Row.{Row}
 use Rattle.laws.specs.Binary.{binary}
 use Rattle.laws.specs.Buffers.{overwrite}
 use Rattle.laws.proofs.Binary.{bit-half}
 use Rattle.laws.proofs.Buffers.{overwrite-length}
-use Rattle.laws.proofs.Lists.{map-append}
+use Rattle.laws.proofs.Lists.{map-append, map-replicate}
 use Rattle.forms.specs.declared.Piece.{Piece}
 use Rattle.forms.specs.Form.{fill, add, group, pieceOf, formFrom, numbersOf, pieceWidth, formWidth, formOf, addAll}
 use Rattle.appender.specs.inner.Append.{Has, Appended}
 use Rattle.pieces.specs.inner.Pieces.{pushedCount, pushedNumbers}
-use Rattle.forms.proofs.Places.{constant-piece}
+use Rattle.forms.proofs.Places.{constant-piece, group-fills}
 use Rattle.forms.proofs.Maximal.{pushed, group-push}
 use Rattle.forms.specs.Proper.{Proper, AllProper, some}
 use Rattle.pieces.proofs.Pushing.{pushed-form}
@@ -70,6 +70,19 @@ module _ (t : List Row) (xs : List ℕ) (q : Piece) (single : formFrom t xs ≡ 
   pub appended-push : (n : ℕ) (out : List ℕ) (m : ℕ) (out′ : List ℕ) → m ≡ pushedCount out n q → out′ ≡ pushedNumbers out n q → Appended t xs n out m out′
   appended-push n out m out′ em eo = rw (em, eo) (appended-piece n out)
 
+-- copies of a bit are one piece
+copies-form : (t : List Row) (b n : ℕ) → b ≤ 1 → formFrom t (replicate (suc n) b) ≡ fill b n ∷ []
+unfolding formFrom
+copies-form t b n h =
+    ap group (map-replicate (pieceOf t) (suc n) b ∙ ap (replicate (suc n)) (constant-piece t b h)) ∙ group-fills b n h
+
+pub appended-fill : (t : List Row) (b count : ℕ) → b ≤ 1 → (count ≡ 0 → ⊥) → (q : Piece) → q ≡ fill b (count - 1) → (n : ℕ) (out : List ℕ) (m : ℕ) (out′ : List ℕ)
+    → m ≡ pushedCount out n q → out′ ≡ pushedNumbers out n q → Appended t (replicate count b) n out m out′
+appended-fill t b count h any q eq n out m out′ em eo =
+    let more : count ≡ suc (count - 1) = omega arith in
+    appended-push t (replicate count b) q
+    (ap (λ (k : ℕ). formFrom t (replicate k b)) more ∙ copies-form t b (count - 1) h ∙ ap (λ (p : Piece). p ∷ []) (sym eq)) n out m out′ em eo
+
 -- one bit
 single-bit : (t : List Row) (b : ℕ) → b ≤ 1 → formFrom t (b ∷ []) ≡ fill b 0 ∷ []
 unfolding formFrom group addAll add
@@ -90,9 +103,14 @@ appended-bit t a top k n m out out₁ l f i b ei eb q eq m′ out₂ em eo =
     (appended-both t (binary k (a / 2 ^ (top + 1 - k))) (b ∷ []) n m m′ out out₁ out₂ f
     (appended-push t (b ∷ []) q (single-bit t b (omega arith) ∙ ap (λ (p : Piece). p ∷ []) (sym eq)) m out₁ m′ out₂ em eo)))
 
--- what was appended to nothing is a row's form
+-- what was appended to nothing is the form of the sources; of a row, where they are the row's
+pub appended-first : (t : List Row) (xs base : List ℕ) (n : ℕ) (out : List ℕ) → length xs ≤ 1024 → 4096 ≤ length base → Appended t xs 0 base n out
+    → Has t xs base n out
+unfolding formFrom group addAll overwrite numbersOf
+appended-first t xs base n out small room f = f [] base (omega arith) room (record { pieces = refl; numbers = refl })
+
 pub appended-form : (t : List Row) (row : ℕ) (base : List ℕ) (n : ℕ) (out : List ℕ) → length (sourceOf t row) ≤ 1024 → 4096 ≤ length base
     → Appended t (sourceOf t row) 0 base n out → (n ≡ length (formOf t row)) × (out ≡ overwrite (numbersOf (formOf t row)) base)
-unfolding formOf formFrom group addAll overwrite numbersOf
+unfolding formOf
 appended-form t row base n out small room f =
-    let done = f [] base (omega arith) room (record { pieces = refl; numbers = refl }) in (done .pieces, done .numbers)
+    let done = appended-first t (sourceOf t row) base n out small room f in (done .pieces, done .numbers)

@@ -5,7 +5,7 @@
 // pass, and what stands in the buffer is always the normal form of the bits that were met.
 ghost use mathlib.Core.Path.{_≡_};
 ghost use Rattle.forms.specs.Form.{fill};
-ghost use Rattle.appender.specs.inner.Cuts.{isLeaf, leafPiece, AppendsBits, AppendsLeaf, AppendsForm, AppendsCut, leftBits, rightBits, AppendsPart, AppendsParts};
+ghost use Rattle.appender.specs.inner.Cuts.{isLeaf, leafPiece, AppendsFill, AppendsBits, AppendsLeaf, AppendsForm, AppendsCut, leftBits, rightBits, AppendsPart, AppendsParts};
 use forms::Piece;
 use terms::Row;
 
@@ -117,6 +117,22 @@ fn bit_piece(bit: u16) -> Piece
         high: 0,
         low: 0,
     }
+}
+
+// Appends copies of a bit, as one piece.
+pub fn put_fill(out: &mut [u16], n: usize, bit: u16, count: u16) -> usize
+    ensures { λ m. ⌜ AppendsFill bit count n (now (out .entry)) m (now (out .exit)) ⌝ }
+{
+    if count == 0 {
+        return n;
+    }
+    let fill = Piece {
+        kind: bit,
+        variable: 0,
+        high: numbers::difference(count, 1),
+        low: 0,
+    };
+    pieces::push(out, n, fill)
 }
 
 // Appends bits high to low of a number, one by one from the high end.

@@ -4,6 +4,7 @@ use mathlib.Core.Bool.{Bool, false, _||_, cond}
 use mathlib.Core.List.{List, [], _∷_, _++_}
 use Prim.Native.Nat.{ℕ, _+_, _-_, _/_, _^_, _<_, _≤_}
 use lib.Dec.{eqb, ltb}
+use lib.ListN.{replicate}
 use Rattle.laws.specs.Binary.{binary}
 use Rattle.terms.specs.declared.Row.{Row}
 use Rattle.terms.specs.Table.{rowsOf, widthOf, sourceOf, extract}
@@ -22,6 +23,10 @@ isLeaf kind = eqb kind 0 || eqb kind 1 || eqb kind 5
 -- The piece that bits high to low of a variable or a constant are, where v is a variable's number.
 unfoldable pub leafPiece : Row → ℕ → ℕ → ℕ → Piece
 leafPiece r v high low = cond (eqb (r .kind) 0) (part v high low) (fill (r .a) (high - low))
+
+-- Copies of a bit were appended.
+abbrev pub AppendsFill : ℕ → ℕ → ℕ → List ℕ → ℕ → List ℕ → Type 0
+AppendsFill bit count n out m out′ = (t : List Row) → bit ≤ 1 → Appended t (replicate count bit) n out m out′
 
 -- Bits high to low of a number were appended.
 abbrev pub AppendsBits : ℕ → ℕ → ℕ → ℕ → List ℕ → ℕ → List ℕ → Type 0
