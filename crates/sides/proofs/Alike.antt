@@ -10,12 +10,12 @@ use lib.ListN.{length, take, length-take, List·getD-eq-default}
 use lib.Seq.{getD-take}
 use borrow.Author.Tests.{eqb-true, eqb-false}
 use Rattle.terms.specs.declared.Row.{Row}
-use Rattle.terms.specs.Table.{rowAt, noRow, bitsIn, bitsOf, countKind, sourcesOf, sourceOf}
+use Rattle.terms.specs.Table.{rowAt, noRow, bitsIn, bitsOf, countKind, sourcesOf}
 use Rattle.terms.specs.inner.Places.{firstPlace}
 use Rattle.terms.proofs.RowKinds.{of-term, bits-other}
 use Rattle.terms.proofs.Places.{place-other}
 use Rattle.laws.proofs.Numbers.{lt-or-le}
-use Rattle.answers.specs.Pairs.{paired, pairsOf}
+use Rattle.answers.specs.Pairs.{pairsOf}
 
 -- a cut where the other is a cut, and equal where it is none
 pub record AlikeRow (s r : Row) : Type 0 where
@@ -90,8 +90,7 @@ alike-places (s ∷ ss) (r ∷ rs) a v =
 pairs-one : (t : List Row) (x y : Row) → x .kind ≡ 3 → y .kind ≡ 3 → pairsOf t x ≡ pairsOf t y
 unfolding pairsOf
 pairs-one t x y e f =
-    of-term x (paired (sourceOf t (x .a)) (sourceOf t (x .b))) [] (λ z. absurd (omega arith))
-    ∙ sym (of-term y (paired (sourceOf t (y .a)) (sourceOf t (y .b))) [] (λ z. absurd (omega arith)))
+    of-term x _ [] (λ z. absurd (omega arith)) ∙ sym (of-term y _ [] (λ z. absurd (omega arith)))
 
 same-pairs : (u t : List Row) (r : Row) → sourcesOf u ≡ sourcesOf t → pairsOf u r ≡ pairsOf t r
 unfolding pairsOf

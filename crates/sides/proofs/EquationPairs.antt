@@ -2,21 +2,23 @@
 use mathlib.Core.Path.{_≡_, refl, sym, _∙_, ap, ap₂}
 use mathlib.Core.Bool.{false}
 use mathlib.Core.List.{List, [], _∷_}
-use Prim.Native.Nat.{ℕ, suc, _+_, _<_, _≤_}
+use Prim.Native.Nat.{ℕ, suc, _+_, _<_, _≤_, max}
 use native.Mathlib.Omega.{arith}
 use lib.ListN.{length, getD}
 use Rattle.terms.specs.declared.Row.{Row}
-use Rattle.terms.specs.Table.{rowsOf, rowAt, bitsOf, widthOf, sourceOf}
+use Rattle.terms.specs.Table.{rowsOf, rowAt, bitsOf, widthOf, sourceOf, evened}
 use Rattle.laws.specs.Buffers.{overwrite}
 use Rattle.terms.specs.Faults.{absent}
 use Rattle.terms.proofs.AcceptedTable.{Table, accepted-table, term-present}
 use Rattle.laws.proofs.Buffers.{overwrite-read}
 use Rattle.terms.proofs.RowKinds.{of-equation, of-term}
-use Rattle.terms.proofs.Faults.{Term, Kept, kept, kept-names, kept-sides, equation-names, widths-small}
+use Rattle.terms.proofs.Faults.{Term, Kept, kept, kept-names, equation-names, widths-small}
+use Rattle.terms.proofs.Filled.{evened-word, evened-length}
 use Rattle.terms.proofs.Sources.{source-length}
 use Rattle.answers.specs.Pairs.{Pair, paired, pairsOf}
 use Rattle.sides.specs.inner.Sides.{Prepared, pairsFrom, SidesRead}
-use Rattle.sides.proofs.FormSources.{sources-below, below-read}
+use Rattle.sides.proofs.FormSources.{filled-below, below-read}
+use Rattle.sides.proofs.Spelling.{AllBelow}
 
 -- pairs read where two words stand
 pairs-from : (left right xs ys : List ℕ) (k : ℕ) → length xs ≡ length ys
@@ -53,7 +55,7 @@ module _ (table widths variables lows : List ℕ) (ready : Prepared table widths
   no-pairs left right h =
       let row = rowAt rows r in
       record {
-        pairs = sym (of-term row (paired (sourceOf rows (row .a)) (sourceOf rows (row .b))) [] h);
+        pairs = sym (of-term row _ [] h);
         few = omega arith;
         left-small = λ i l. absurd (omega arith);
         right-small = λ i l. absurd (omega arith);
@@ -81,40 +83,50 @@ module _ (table widths variables lows : List ℕ) (ready : Prepared table widths
     pub right-there : absent rows b ≡ false
     right-there = term-present rows b right-in (sides .1 .no-equation)
 
-    left-wide : length (sourceOf rows a) ≡ widthOf rows a
-    left-wide = source-length rows (whole .sound) a left-in
+    -- the filled sides
+    abbrev left-side : List ℕ
+    left-side = evened (sourceOf rows a) (sourceOf rows b)
 
-    right-wide : length (sourceOf rows b) ≡ widthOf rows a
-    right-wide = source-length rows (whole .sound) b right-in ∙ sym (kept-sides rows r row-kept (omega arith))
+    abbrev right-side : List ℕ
+    right-side = evened (sourceOf rows b) (sourceOf rows a)
 
-    small : widthOf rows a ≤ 1024
-    small = widths-small rows (length rows) (omega arith) (whole .sound) a left-in
+    left-wide : length left-side ≡ max (widthOf rows a) (widthOf rows b)
+    left-wide = evened-word (sourceOf rows a) (sourceOf rows b) .wide ∙ ap₂ max (source-length rows (whole .sound) a left-in) (source-length rows (whole .sound) b right-in)
+
+    same-wide : length left-side ≡ length right-side
+    same-wide = evened-length (sourceOf rows a) (sourceOf rows b)
+
+    small : (x : ℕ) → x < length rows → widthOf rows x ≤ 1024
+    small x h = widths-small rows (length rows) (omega arith) (whole .sound) x h
+
+    left-few : length left-side ≤ 1024
+    left-few = omega (arith, left-wide, small a left-in, small b right-in)
 
     -- one side, read
-    read : (x : ℕ) → x < length rows → length (sourceOf rows x) ≡ widthOf rows a → (out out′ : List ℕ) → 1024 ≤ length out → out′ ≡ overwrite (sourceOf rows x) out
-        → (i : ℕ) → i < widthOf rows a → getD out′ i 0 ≡ getD (sourceOf rows x) i 0
-    read x h w out out′ room eo i l = ap (λ (o : List ℕ). getD o i 0) eo ∙ overwrite-read (sourceOf rows x) out i (omega arith) (omega (arith, small))
+    read : (xs out out′ : List ℕ) → length xs ≤ 1024 → 1024 ≤ length out → out′ ≡ overwrite xs out → (i : ℕ) → i < length xs → getD out′ i 0 ≡ getD xs i 0
+    read xs out out′ few room eo i l = ap (λ (o : List ℕ). getD o i 0) eo ∙ overwrite-read xs out i l (omega arith)
 
-    read-small : (x : ℕ) → x < length rows → length (sourceOf rows x) ≡ widthOf rows a → (out out′ : List ℕ) → 1024 ≤ length out → out′ ≡ overwrite (sourceOf rows x) out
-        → (i : ℕ) → i < widthOf rows a → getD out′ i 0 < bitsOf rows + 2
-    read-small x h w out out′ room eo i l =
-        omega (arith, read x h w out out′ room eo i l, below-read (bitsOf rows + 2) (sourceOf rows x) (sources-below rows (whole .sound) x h) i (omega arith))
+    read-small : (xs out out′ : List ℕ) → AllBelow (bitsOf rows + 2) xs → length xs ≤ 1024 → 1024 ≤ length out → out′ ≡ overwrite xs out
+        → (i : ℕ) → i < length xs → getD out′ i 0 < bitsOf rows + 2
+    read-small xs out out′ below few room eo i l =
+        omega (arith, read xs out out′ few room eo i l, below-read (bitsOf rows + 2) xs below i l)
 
     pub all-pairs : (left₀ left right₀ right : List ℕ) (w : ℕ) → 1024 ≤ length left₀ → 1024 ≤ length right₀
-        → left ≡ overwrite (sourceOf rows a) left₀ → right ≡ overwrite (sourceOf rows b) right₀ → w ≡ getD widths a 0
-        → SidesRead rows r left right w
+        → left ≡ overwrite (evened (sourceOf rows a) (sourceOf rows b)) left₀ → right ≡ overwrite (evened (sourceOf rows b) (sourceOf rows a)) right₀
+        → w ≡ max (getD widths a 0) (getD widths b 0) → SidesRead rows r left right w
     unfolding pairsOf
     all-pairs left₀ left right₀ right w roomₗ roomᵣ eₗ eᵣ ew =
-        let wide : w ≡ widthOf rows a = ew ∙ ready .numbered .widths-are a left-in in
+        let wide : w ≡ length left-side = ew ∙ ap₂ max (ready .numbered .widths-are a left-in) (ready .numbered .widths-are b right-in) ∙ sym left-wide in
         let z : (i : ℕ) → 0 + i ≡ i = λ i. omega arith in
+        let right-few : length right-side ≤ 1024 = omega (arith, same-wide, left-few) in
         record {
           pairs =
-              ap (pairsFrom left right 0) (wide ∙ sym left-wide)
-              ∙ pairs-from left right (sourceOf rows a) (sourceOf rows b) 0 (left-wide ∙ sym right-wide)
-              (λ i h. ap (λ (j : ℕ). getD left j 0) (z i) ∙ read a left-in left-wide left₀ left roomₗ eₗ i (omega (arith, left-wide)))
-              (λ i h. ap (λ (j : ℕ). getD right j 0) (z i) ∙ read b right-in right-wide right₀ right roomᵣ eᵣ i (omega (arith, right-wide)))
-              ∙ sym (of-equation (rowAt rows r) (paired (sourceOf rows a) (sourceOf rows b)) [] (omega arith));
-          few = omega (arith, small);
-          left-small = λ i h. read-small a left-in left-wide left₀ left roomₗ eₗ i (omega arith);
-          right-small = λ i h. read-small b right-in right-wide right₀ right roomᵣ eᵣ i (omega arith);
+              ap (pairsFrom left right 0) wide
+              ∙ pairs-from left right left-side right-side 0 same-wide
+              (λ i h. ap (λ (j : ℕ). getD left j 0) (z i) ∙ read left-side left₀ left left-few roomₗ eₗ i h)
+              (λ i h. ap (λ (j : ℕ). getD right j 0) (z i) ∙ read right-side right₀ right right-few roomᵣ eᵣ i h)
+              ∙ sym (of-equation (rowAt rows r) (paired left-side right-side) [] (omega arith));
+          few = omega (arith, wide, left-few);
+          left-small = λ i h. read-small left-side left₀ left (filled-below rows (whole .sound) a b left-in) left-few roomₗ eₗ i (omega (arith, wide));
+          right-small = λ i h. read-small right-side right₀ right (filled-below rows (whole .sound) b a right-in) right-few roomᵣ eᵣ i (omega (arith, wide, same-wide));
         }

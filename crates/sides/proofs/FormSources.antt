@@ -1,4 +1,4 @@
--- The sources of a row, spelled out from its normal form in a buffer.
+-- The sources of a filled side, spelled out from its normal form in a buffer.
 use mathlib.Core.Path.{_≡_, refl, sym, _∙_, ap, ap₂}
 use mathlib.Core.Bool.{Bool, true, false}
 use mathlib.Core.List.{List, [], _∷_, _++_, map, append-assoc, append-nil}
@@ -9,22 +9,23 @@ use lib.ListN.{length, getD, take, replicate}
 use lib.Seq.{take-suc, take-length}
 use borrow.Author.Tests.{ltb-true}
 use Rattle.terms.specs.declared.Row.{Row}
-use Rattle.terms.specs.Table.{rowsOf, bitsOf, bitOf, sourcesOf, sourceOf}
+use Rattle.terms.specs.Table.{rowsOf, bitsOf, bitOf, sourcesOf, sourceOf, evened}
 use Rattle.laws.specs.Lists.{countUp}
 use Rattle.laws.specs.Buffers.{overwrite}
 use Rattle.terms.specs.Faults.{absent}
 use Rattle.terms.proofs.AcceptedTable.{Table, accepted-table, term-there}
 use Rattle.terms.proofs.Faults.{totals-small}
+use Rattle.terms.proofs.Filled.{evened-word}
 use Rattle.terms.proofs.Sources.{value-sources}
 use Rattle.laws.proofs.CountUp.{count-up}
 use Rattle.terms.specs.Sound.{Sound}
 use Rattle.forms.specs.declared.Piece.{Piece}
-use Rattle.forms.specs.Form.{fill, formOf, numbersOf}
+use Rattle.forms.specs.Form.{fill, formFrom, numbersOf}
 use Rattle.pieces.proofs.Buffer.{form-piece}
 use Rattle.appender.specs.inner.Append.{Appended}
-use Rattle.forms.proofs.RowForms.{sources-wide, width-small}
-use Rattle.appender.proofs.Appending.{appended-form}
-use Rattle.forms.proofs.FormCall.{form-few}
+use Rattle.forms.proofs.RowForms.{sources-wide, width-small, width-read}
+use Rattle.appender.proofs.Appending.{appended-both, appended-same, appended-first}
+use Rattle.forms.proofs.Units.{form-count}
 use Rattle.sides.specs.inner.Sides.{Prepared}
 use Rattle.sides.specs.inner.Spread.{stepped, sourcesIn, spelled, Spells}
 use Rattle.sides.proofs.Spelling.{named, namedAll, Lies, AllLie, form-lies, form-named, AllBelow, none, some}
@@ -111,10 +112,24 @@ below-read n xs none i h = absurd (omega arith)
 below-read n xs (some l k) zero h = l
 below-read n xs (some {xs = ys} l k) (suc i) h = below-read n ys k i (omega arith)
 
+-- and so are those of a filled side
+zeros-below : (n k : ℕ) (xs : List ℕ) → 0 < n → AllBelow n xs → AllBelow n (replicate k 0 ++ xs)
+zeros-below n zero xs h b = b
+zeros-below n (suc k) xs h b = some h (zeros-below n k xs h b)
+
+pub filled-below : (t : List Row) → Sound t → (r s : ℕ) → r < length t → AllBelow (bitsOf t + 2) (evened (sourceOf t r) (sourceOf t s))
+unfolding evened
+filled-below t sound r s h = zeros-below (bitsOf t + 2) (length (sourceOf t s) - length (sourceOf t r)) (sourceOf t r) (omega arith) (sources-below t sound r h)
+
 -- what `side_bits` writes
-module _ (table widths variables lows : List ℕ) (ready : Prepared table widths variables lows) (row : ℕ) (there : absent (rowsOf table) row ≡ false) where
+module _ (table widths variables lows : List ℕ) (ready : Prepared table widths variables lows)
+    (row : ℕ) (there : absent (rowsOf table) row ≡ false) (other : ℕ) (there′ : absent (rowsOf table) other ≡ false) where
   abbrev rows : List Row
   rows = rowsOf table
+
+  -- the filled side
+  abbrev side : List ℕ
+  side = evened (sourceOf rows row) (sourceOf rows other)
 
   whole : Table table
   whole = accepted-table table (ready .numbered .accepted)
@@ -122,20 +137,39 @@ module _ (table widths variables lows : List ℕ) (ready : Prepared table widths
   few-bits : bitsOf rows ≤ 4096
   few-bits = rw (take-length rows) at (totals-small rows (length rows) (whole .sound) .1)
 
-  below : AllBelow (bitsOf rows + 2) (sourceOf rows row)
-  below = sources-below rows (whole .sound) row (term-there rows row there .earlier)
+  below : AllBelow (bitsOf rows + 2) side
+  below = filled-below rows (whole .sound) row other (term-there rows row there .earlier)
 
-  small : length (sourceOf rows row) ≤ 1024
-  small = omega (arith, sources-wide table widths variables (ready .numbered) row there, width-small table widths variables (ready .numbered) row there)
+  small : length side ≤ 1024
+  small =
+      omega (
+        arith,
+        evened-word (sourceOf rows row) (sourceOf rows other) .wide,
+        sources-wide table widths variables (ready .numbered) row there,
+        width-small table widths variables (ready .numbered) row there,
+        sources-wide table widths variables (ready .numbered) other there′,
+        width-small table widths variables (ready .numbered) other there′,
+      )
 
-  pub side-written : (form form′ out out′ : List ℕ) (n : ℕ) → Appended rows (sourceOf rows row) 0 form n form′ → Spells lows form′ n out out′
-      → 4096 ≤ length form → 1024 ≤ length out → out′ ≡ overwrite (sourceOf rows row) out
-  unfolding formOf
-  side-written form form′ out out′ n put spells room room′ =
-      let done = appended-form rows row form n form′ small room put in
-      let all : spelled lows form′ n ≡ sourceOf rows row =
-      ap₂ (spelled lows) (done .1) (done .0)
-      ∙ form-read (bitsOf rows + 1) lows (omega (arith, few-bits)) (formOf rows row) form (form-lies rows lows (ready .lows-are) (sourceOf rows row) below)
-      (omega (arith, form-few rows row, small))
-      ∙ form-named rows lows (ready .lows-are) (sourceOf rows row) below in
+  -- as many zeros as the side lacks
+  lacks : getD widths other 0 - getD widths row 0 ≡ length (sourceOf rows other) - length (sourceOf rows row)
+  lacks =
+      let n = ready .numbered in
+      ap₂ _-_ (width-read table widths variables n other there′ other there′ ∙ sym (sources-wide table widths variables n other there′))
+      (width-read table widths variables n row there row there ∙ sym (sources-wide table widths variables n row there))
+
+  pub side-written : (form form₁ form′ out out′ : List ℕ) (lacking m n : ℕ) → lacking ≡ getD widths other 0 - getD widths row 0
+      → Appended rows (replicate lacking 0) 0 form m form₁ → Appended rows (sourceOf rows row) m form₁ n form′ → Spells lows form′ n out out′
+      → 4096 ≤ length form → 1024 ≤ length out → out′ ≡ overwrite side out
+  unfolding evened
+  side-written form form₁ form′ out out′ lacking m n el fill put spells room room′ =
+      let both = appended-both rows (replicate lacking 0) (sourceOf rows row) 0 m n form form₁ form′ fill put in
+      let filled = appended-same rows (replicate lacking 0 ++ sourceOf rows row) side 0 n form form′
+      (ap (λ (k : ℕ). replicate k 0 ++ sourceOf rows row) (el ∙ lacks)) both in
+      let done = appended-first rows side form n form′ small room filled in
+      let all : spelled lows form′ n ≡ side =
+      ap₂ (spelled lows) (done .numbers) (done .pieces)
+      ∙ form-read (bitsOf rows + 1) lows (omega (arith, few-bits)) (formFrom rows side) form (form-lies rows lows (ready .lows-are) side below)
+      (omega (arith, form-count rows side, small))
+      ∙ form-named rows lows (ready .lows-are) side below in
       spells (rw all (omega (arith, small))) ∙ ap (λ (l : List ℕ). overwrite l out) all

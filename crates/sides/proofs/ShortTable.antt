@@ -12,10 +12,10 @@ use Rattle.terms.specs.declared.Row.{Row}
 use Rattle.terms.specs.declared.Fault.the-variants.{Accepted}
 use Rattle.terms.specs.Table.{rowsOf, rowAt, widthIn, widthsOf, widthOf, bitsOf, extract, valuesOf, valueOf, sourcesOf}
 use Rattle.laws.specs.Lists.{countUp}
-use Rattle.terms.specs.Faults.{breaks11, breaks12, breaks13, breaks14, breaks15, breaks40, breaks16, breaks17, breaks18, notTerm, misnamed, faultAt, isAccepted, lowestFault, firstFault}
+use Rattle.terms.specs.Faults.{breaks11, breaks12, breaks13, breaks14, breaks15, breaks40, breaks16, breaks17, notTerm, misnamed, faultAt, isAccepted, lowestFault, firstFault}
 use Rattle.laws.proofs.Numbers.{by-strong}
 use Rattle.terms.proofs.Widths.{width-row, width-early, width-same, widths-count}
-use Rattle.terms.proofs.Faults.{Kept, kept, unbroken, kept-names, concat-names, cut-keeps-13, cut-keeps-14, cut-keeps-15, cut-keeps-40, cut-keeps-16, cut-keeps-18}
+use Rattle.terms.proofs.Faults.{Kept, kept, unbroken, kept-names, concat-names, cut-keeps-13, cut-keeps-14, cut-keeps-15, cut-keeps-40, cut-keeps-16}
 use Rattle.terms.proofs.Values.{values-count, value-extract, value-same, width-extract}
 use Rattle.terms.specs.Sound.{Sound}
 use Rattle.laws.proofs.CountUp.{count-up}
@@ -103,7 +103,7 @@ module _ (t : List Row) (sound : Sound t) where
 
   -- a row that stays breaks no rule
   kept-same : (r : ℕ) → rowAt s r ≡ rowAt t r → Kept t r → Kept s r
-  unfolding breaks13 breaks14 breaks15 breaks40 breaks16 breaks18
+  unfolding breaks13 breaks14 breaks15 breaks40 breaks16
   kept-same r e k =
       record {
         kept12 = kinds-same r ∙ k .kept12;
@@ -113,7 +113,6 @@ module _ (t : List Row) (sound : Sound t) where
         kept40 = rw e (k .kept40);
         kept16 = rw (e, short-widths) (k .kept16);
         kept17 = totals-same r ∙ k .kept17;
-        kept18 = rw (e, short-widths) (k .kept18);
       }
 
   -- nor does a cut
@@ -129,7 +128,6 @@ module _ (t : List Row) (sound : Sound t) where
         kept40 = cut-keeps-40 s r e;
         kept16 = cut-keeps-16 s r e (rw short-widths (cut .below)) (cut .order);
         kept17 = totals-same r ∙ k .kept17;
-        kept18 = cut-keeps-18 s r e;
       }
 
   short-kept : (r : ℕ) → r < length t → Kept s r

@@ -1,4 +1,4 @@
-// The equations of a table: which row is the next one; and its bit pairs, from the normal forms of its sides: the sources of each side,
+// The equations of a table: which row is the next one; and its bit pairs, from the normal forms of its filled sides: the sources of each side,
 // high end first. And a copy of a table in which each cut of a cut is made one cut, so that the forms take few calls.
 ghost use mathlib.Core.Path.{_≡_};
 ghost use Prim.Native.Nat.{_≤_, min};
@@ -53,20 +53,24 @@ fn spread(lows: &[u16], form: &[u16], n: usize, out: &mut [u16])
     }
 }
 
-// Writes the sources of a row, high end first, by its normal form.
+// Writes the sources of a row that is brought to the width of another, high end first, by its normal form behind a fill of zeros.
 fn side_bits(
     table: &[u16],
     widths: &[u16],
     variables: &[u16],
     lows: &[u16],
     row: usize,
+    other: usize,
     form: &mut [u16],
     out: &mut [u16],
 )
-    ensures { λ _. ⌜ ReadsSide (now (table .entry)) (now (widths .entry)) (now (variables .entry)) (now (lows .entry)) row
+    ensures { λ _. ⌜ ReadsSide (now (table .entry)) (now (widths .entry)) (now (variables .entry)) (now (lows .entry)) row other
         (length (now (form .entry))) (now (out .entry)) (now (out .exit)) ⌝ }
 {
-    let pieces = appender::put_form(table, widths, variables, row, form, 0);
+    let own = numbers::load(widths, row);
+    let lacking = numbers::difference(numbers::load(widths, other), own);
+    let zeros = appender::put_fill(form, 0, 0, lacking);
+    let pieces = appender::put_form(table, widths, variables, row, form, zeros);
     spread(lows, form, pieces, out);
 }
 
@@ -91,17 +95,11 @@ pub fn equation_pairs(
         return 0;
     }
     let a = numbers::wide(row.a);
-    side_bits(table, widths, variables, lows, a, form, left);
-    side_bits(
-        table,
-        widths,
-        variables,
-        lows,
-        numbers::wide(row.b),
-        form,
-        right,
-    );
-    numbers::wide(numbers::load(widths, a))
+    let b = numbers::wide(row.b);
+    side_bits(table, widths, variables, lows, a, b, form, left);
+    side_bits(table, widths, variables, lows, b, a, form, right);
+    let width = numbers::load(widths, a);
+    numbers::wide(numbers::higher(width, numbers::load(widths, b)))
 }
 
 // The first equation from row `from` on and below row `rows`; where there is none, the greater of the two.

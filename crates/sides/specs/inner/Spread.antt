@@ -5,7 +5,7 @@ use mathlib.Core.List.{List, [], _∷_, _++_}
 use Prim.Native.Nat.{ℕ, zero, suc, _+_, _-_, _%_, _≤_}
 use lib.Dec.{ltb}
 use lib.ListN.{length, getD}
-use Rattle.terms.specs.Table.{rowsOf, sourceOf}
+use Rattle.terms.specs.Table.{rowsOf, sourceOf, evened}
 use Rattle.terms.specs.Faults.{absent}
 use Rattle.laws.specs.Buffers.{overwrite}
 use Rattle.forms.specs.declared.Piece.{Piece}
@@ -34,8 +34,8 @@ abbrev pub Spells : List ℕ → List ℕ → ℕ → List ℕ → List ℕ → 
 Spells lows form n out out′ =
     length (spelled lows form n) ≤ length out → out′ ≡ overwrite (spelled lows form n) out
 
--- The sources of a row were written, where the buffers have room.
-abbrev pub ReadsSide : List ℕ → List ℕ → List ℕ → List ℕ → ℕ → ℕ → List ℕ → List ℕ → Type 0
-ReadsSide table widths variables lows row formRoom out out′ =
-    Prepared table widths variables lows → absent (rowsOf table) row ≡ false → 4096 ≤ formRoom → 1024 ≤ length out
-    → out′ ≡ overwrite (sourceOf (rowsOf table) row) out
+-- The sources of a row, brought to the width of another, were written, where the buffers have room.
+abbrev pub ReadsSide : List ℕ → List ℕ → List ℕ → List ℕ → ℕ → ℕ → ℕ → List ℕ → List ℕ → Type 0
+ReadsSide table widths variables lows row other formRoom out out′ =
+    Prepared table widths variables lows → absent (rowsOf table) row ≡ false → absent (rowsOf table) other ≡ false → 4096 ≤ formRoom → 1024 ≤ length out
+    → out′ ≡ overwrite (evened (sourceOf (rowsOf table) row) (sourceOf (rowsOf table) other)) out
