@@ -9,7 +9,7 @@ use lib.ListN.{length, replicate}
 use borrow.Author.Tests.{lt-ltb, le-ltb}
 use Rattle.terms.specs.declared.Record.{Record}
 use Rattle.terms.specs.declared.Fault.{Fault}
-use Rattle.terms.specs.declared.Fault.the-variants.{Accepted, Shape, Kind, Unused, Named, Width, Value, Bounds, Count, Sides}
+use Rattle.terms.specs.declared.Fault.the-variants.{Accepted, Shape, Kind, Unused, Named, Width, Value, Bounds, Count}
 use Rattle.terms.specs.Table.{rowsOf}
 use Rattle.terms.specs.Calls.{refusal, faultNumber, faultRecord, stopAt}
 use Rattle.terms.specs.Faults.{isAccepted, firstFault}
@@ -42,7 +42,6 @@ fault-high (Width r) h = (refl, refl)
 fault-high (Value r) h = (refl, refl)
 fault-high (Bounds r) h = (refl, refl)
 fault-high (Count r) h = (refl, refl)
-fault-high (Sides r) h = (refl, refl)
 
 pub stop-fault : (table answer work : List ℕ) → 16384 ≤ length answer → 16384 ≤ length work → isAccepted (firstFault table) ≡ false
     → (r : Record) → r ≡ faultRecord (firstFault table) → Ends table answer work r answer work
