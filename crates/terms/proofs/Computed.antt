@@ -5,7 +5,7 @@ use mathlib.Core.List.{List}
 use Prim.Native.Nat.{ℕ}
 use Rattle.terms.specs.declared.Fault.{Fault}
 use Rattle.terms.specs.declared.Row.{Row}
-use Rattle.terms.specs.Table.{rowsOf, byKind, byRows, widthIn, widthsOf, bitsIn, bitsOf, countKind, fixedWord, valueIn, valuesOf, evened, sidesAgree, allRows, satisfies}
+use Rattle.terms.specs.Table.{rowsOf, byKind, byRows, widthIn, widthsOf, bitsIn, bitsOf, countKind, fixedWord, valueIn, valuesOf, sidesAgree, allRows, satisfies}
 use Rattle.laws.specs.Binary.{binary}
 use Rattle.terms.specs.Faults.{breaks11, breaks12, breaks13, breaks14, breaks15, breaks40, breaks16, breaks17, unusedColumn, notTerm, misnamed, outside, wrongWidth, wrongValue, wrongBounds, tooMany, firstRule, rulesAt, faultAt, lowestFault, firstFault, absent}
 
@@ -16,5 +16,5 @@ faultComputed numbers = firstFault numbers
 
 -- Whether an assignment satisfies a table: the rows, their values and the equations, up to the bits of the values.
 unfoldable pub satisfiesComputed : List Row → List ℕ → Bool
-unfolding rowsOf byKind byRows bitsIn bitsOf binary fixedWord valueIn valuesOf evened sidesAgree allRows satisfies
+unfolding rowsOf byKind byRows bitsIn bitsOf binary fixedWord valueIn valuesOf sidesAgree allRows satisfies
 satisfiesComputed t p = satisfies t p

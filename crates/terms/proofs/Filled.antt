@@ -12,7 +12,7 @@ use Rattle.laws.specs.Binary.{binary, bitsNumber}
 use Rattle.laws.proofs.AllBits.{bits-copies, bits-append}
 use Rattle.laws.proofs.Binary.{read}
 use Rattle.laws.proofs.Lists.{map-append, map-replicate}
-use Rattle.terms.specs.Table.{evened}
+use Rattle.terms.specs.Table.{sameWord, evened}
 use Rattle.terms.specs.Acceptance.{Exactly}
 use Rattle.terms.specs.Filled.{EqualNumbers, Evened, TopZero}
 
@@ -64,6 +64,10 @@ evened-word x y =
 -- the word is as it was if the other is as long
 pub evened-even : (x y : List ℕ) → length x ≡ length y → evened x y ≡ x
 evened-even x y e = evened-word x y .same (omega arith)
+
+-- so that words of one length are compared as they are
+pub same-even : (x y : List ℕ) → length x ≡ length y → sameWord (evened x y) (evened y x) ≡ sameWord x y
+same-even x y e = ap₂ sameWord (evened-even x y e) (evened-even y x (sym e))
 
 -- bits may be read before they are filled or after it, where 0 is read as 0
 pub evened-map : (f : ℕ → ℕ) → f 0 ≡ 0 → (x y : List ℕ) → evened (map f x) (map f y) ≡ map f (evened x y)

@@ -1,6 +1,6 @@
 -- What filled equations say of a table none of whose rows breaks a rule (document 02, (iii)): they compare numbers, the top bits of a wider side are
 -- 0, sides of one width are compared as they are, and zeros joined by hand are the same. Assumes nothing.
-use mathlib.Core.Path.{_≡_, refl, sym, _∙_, ap, ap₂}
+use mathlib.Core.Path.{_≡_, refl, sym, _∙_, ap}
 use mathlib.Core.Bool.{true}
 use mathlib.Core.List.{List, [], _∷_, _++_, map}
 use mathlib.Core.Logic.{_⊎_, inl, inr}
@@ -17,7 +17,7 @@ use Rattle.terms.specs.Sound.{Sound, IsEquation}
 use Rattle.terms.specs.Filled.{EqualNumbers, MeetsByNumbers, WiderBy, TopZero, ByHand, equationOf}
 use Rattle.terms.proofs.Assignments.{assignment-length, assignment-bit}
 use Rattle.terms.proofs.Faults.{kept, kept-names, equation-names, concat-names}
-use Rattle.terms.proofs.Filled.{equal-numbers, evened-word, evened-even, evened-by, top-zero}
+use Rattle.terms.proofs.Filled.{equal-numbers, evened-word, evened-even, same-even, evened-by, top-zero}
 use Rattle.terms.proofs.RowKinds.{kind-same}
 use Rattle.terms.proofs.Satisfies.{agree-at, agree-of, all-at, satisfies-at, satisfies-of}
 use Rattle.terms.proofs.Sources.{value-sources}
@@ -41,7 +41,7 @@ pub agree-even : (vs : List (List ℕ)) (r : Row) → (r .kind ≡ 4 → length 
 unfolding sidesAgree
 agree-even vs r h =
     kind-same (r .kind) (λ e. refl) (λ e. refl) (λ e. refl) (λ e. refl)
-    (λ e. ap₂ sameWord (evened-even (getD vs (r .a) []) (getD vs (r .b) []) (h e)) (evened-even (getD vs (r .b) []) (getD vs (r .a) []) (sym (h e))))
+    (λ e. same-even (getD vs (r .a) []) (getD vs (r .b) []) (h e))
 
 -- an equation agrees exactly if its filled sides are equal
 row-agrees : (vs : List (List ℕ)) (r : Row) → r .kind ≡ 4
