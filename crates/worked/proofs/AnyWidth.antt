@@ -1,24 +1,25 @@
 -- Cases 3, 4, 7, 8 and 9 at every width of 1 to 1,024, and two tables that are solved at every such width. Assumes nothing.
 use mathlib.Core.Path.{_≡_, refl, sym, _∙_, ap}
-use mathlib.Core.Bool.{true, and-true}
+use mathlib.Core.Bool.{true, false, and-true}
 use mathlib.Core.List.{List, [], _∷_, _++_}
 use mathlib.Core.Logic.{_⊎_}
 use Prim.Native.Nat.{ℕ, zero, suc, _+_, _-_, _^_, _≤_, _<_}
 use native.Mathlib.Omega.{arith}
 use lib.ListN.{length, getD, take, replicate, length-replicate}
 use lib.Seq.{take-all}
-use borrow.Author.Tests.{le-ltb, lt-ltb, eq-eqb, ne-eqb}
+use borrow.Author.Tests.{le-ltb, lt-ltb, ne-eqb}
 use Rattle.terms.specs.declared.Fault.the-variants.{Accepted}
 use Rattle.terms.specs.Calls.{faultRecord}
 use Rattle.terms.specs.Faults.{isAccepted, firstFault}
-use Rattle.terms.specs.Table.{rowsOf, extract, sameWord, satisfies}
+use Rattle.terms.specs.Table.{rowsOf, extract, evened, sameWord, satisfies}
 use Rattle.terms.specs.Assignments.{every}
 use Rattle.laws.specs.Lists.{least}
 use Rattle.terms.proofs.Assignments.{assignment-length}
 use Rattle.terms.proofs.Computed.{faultComputed, satisfiesComputed}
 use Rattle.terms.proofs.Bounds.{variable-accepted, variable-refused, cut-accepted, cut-refused}
+use Rattle.terms.proofs.Filled.{same-even}
 use Rattle.terms.proofs.Satisfies.{same-word, word-same}
-use Rattle.terms.proofs.Words.{extract-bit, extract-replicate}
+use Rattle.terms.proofs.Words.{extract-length, extract-bit, extract-replicate}
 use Rattle.forms.specs.Form.{part, formOf, numbersOf}
 use Rattle.forms.proofs.Theorems.{cut-and-joined}
 use Rattle.answers.specs.Answer.{variableWidths}
@@ -50,26 +51,32 @@ pub itself-always : (w : ℕ) → answerRecord (rowsOf (itself w)) ≡ alwaysRec
 unfolding satisfiesComputed
 itself-always w =
     let bits : w + 0 ≡ w = omega arith in
-    met-by-all (itself w) (λ p. rw (word-same (take w p)) refl) ∙ ap alwaysRecord bits
+    met-by-all (itself w) (λ p. rw (word-same (evened (take w p) (take w p))) refl) ∙ ap alwaysRecord bits
+
+-- zeros and ones, where there is one of each at least
+differ : (w : ℕ) → sameWord (evened (replicate (suc w) 0) (replicate (suc w) 1)) (evened (replicate (suc w) 1) (replicate (suc w) 0)) ≡ false
+unfolding sameWord
+differ w =
+    same-even (replicate (suc w) 0) (replicate (suc w) 1) (length-replicate {A = ℕ} (suc w) 0 ∙ sym (length-replicate {A = ℕ} (suc w) 1))
 
 pub fills-never : (w : ℕ) → 1 ≤ w → answerRecord (rowsOf (fills w)) ≡ neverRecord 0 2
-unfolding answerRecord valid unsatisfiable unsatRow satisfiesTo tiesTo pairsTogether ties pairsIn pairsOf least every sameWord satisfiesComputed
+unfolding answerRecord valid unsatisfiable unsatRow satisfiesTo tiesTo pairsTogether ties pairsIn pairsOf least every satisfiesComputed
 fills-never zero l = absurd (omega arith)
-fills-never (suc w) l = refl
+fills-never (suc w) l = rw (differ w) refl
 
 module _ (w : ℕ) (one : 1 ≤ w) (most : w ≤ 1024) where
   -- these tables break no rule
   itself-accepted : firstFault (itself w) ≡ Accepted
   unfolding faultComputed
-  itself-accepted = rw (ne-eqb w 0 (λ e. omega arith), le-ltb 1024 w most, le-ltb 4096 (w + 0) (omega arith), eq-eqb w w refl)
+  itself-accepted = rw (ne-eqb w 0 (λ e. omega arith), le-ltb 1024 w most, le-ltb 4096 (w + 0) (omega arith))
 
   fills-accepted : firstFault (fills w) ≡ Accepted
   unfolding faultComputed
-  fills-accepted = rw (ne-eqb w 0 (λ e. omega arith), le-ltb 1024 w most, eq-eqb w w refl)
+  fills-accepted = rw (ne-eqb w 0 (λ e. omega arith), le-ltb 1024 w most)
 
   filled-accepted : firstFault (filled w) ≡ Accepted
   unfolding faultComputed
-  filled-accepted = rw (ne-eqb w 0 (λ e. omega arith), le-ltb 1024 w most, le-ltb 4096 (w + 0) (omega arith), eq-eqb w w refl)
+  filled-accepted = rw (ne-eqb w 0 (λ e. omega arith), le-ltb 1024 w most, le-ltb 4096 (w + 0) (omega arith))
 
   bits-are : w + 0 ≡ w
   bits-are = omega arith
@@ -93,8 +100,9 @@ module _ (w : ℕ) (one : 1 ≤ w) (most : w ≤ 1024) where
   filled-sides : (p : List ℕ) → length p ≡ w → satisfies (rowsOf (filled w)) p ≡ sameWord p (replicate w 0)
   unfolding satisfiesComputed
   filled-sides p e =
-      and-true (sameWord (take w p) (replicate w 0))
-      ∙ ap (λ (word : List ℕ). sameWord word (replicate w 0)) (take-all w p (omega (arith, e)))
+      and-true (sameWord (evened (take w p) (replicate w 0)) (evened (replicate w 0) (take w p)))
+      ∙ ap (λ (word : List ℕ). sameWord (evened word (replicate w 0)) (evened (replicate w 0) word)) (take-all w p (omega (arith, e)))
+      ∙ same-even p (replicate w 0) (e ∙ sym (length-replicate w 0))
 
   pub filled-any : Holds (Solved (filled w) (figures 2 1 0 0 w 0) (row 0 0 w 0) 1)
   unfolding satisfiesComputed variableWidths
@@ -110,7 +118,6 @@ module _ (w : ℕ) (one : 1 ≤ w) (most : w ≤ 1024) where
     chained-accepted : firstFault (chained w) ≡ Accepted
     unfolding faultComputed
     chained-accepted =
-        let sides : w - 1 + 1 - 1 ≡ w - 2 + 1 - 0 = omega arith in
         rw (
           ne-eqb w 0 (λ e. omega arith),
           le-ltb 1024 w most,
@@ -119,15 +126,18 @@ module _ (w : ℕ) (one : 1 ≤ w) (most : w ≤ 1024) where
           le-ltb (w - 1) 1 (omega arith),
           lt-ltb (w - 2) w (omega arith),
           le-ltb (w - 2) 0 (omega arith),
-          eq-eqb (w - 1 + 1 - 1) (w - 2 + 1 - 0) sides,
         )
 
     chained-sides : (p : List ℕ) → length p ≡ w
         → satisfies (rowsOf (chained w)) p ≡ sameWord (extract p (w - 1) 1) (extract p (w - 2) 0)
     unfolding satisfiesComputed
     chained-sides p e =
-        and-true (sameWord (extract (take w p) (w - 1) 1) (extract (take w p) (w - 2) 0))
-        ∙ ap (λ (word : List ℕ). sameWord (extract word (w - 1) 1) (extract word (w - 2) 0)) (take-all w p (omega (arith, e)))
+        let left : List ℕ → List ℕ = λ word. extract word (w - 1) 1 in
+        let right : List ℕ → List ℕ = λ word. extract word (w - 2) 0 in
+        and-true (sameWord (evened (left (take w p)) (right (take w p))) (evened (right (take w p)) (left (take w p))))
+        ∙ ap (λ (word : List ℕ). sameWord (evened (left word) (right word)) (evened (right word) (left word))) (take-all w p (omega (arith, e)))
+        ∙ same-even (left p) (right p)
+        (extract-length p (w - 1) 1 (omega arith) (omega arith) ∙ omega (arith, extract-length p (w - 2) 0 (omega arith) (omega arith)))
 
     -- each bit is equal to the first
     first-bit : (p : List ℕ) → length p ≡ w → extract p (w - 1) 1 ≡ extract p (w - 2) 0 → (i : ℕ) → i < w → getD p i 0 ≡ getD p 0 0

@@ -15,3 +15,4 @@ pub mod Worked
 pub mod SheetsSolved
 pub mod FirstSheet
 pub mod Spellings
+pub mod ShortSides

@@ -6,16 +6,17 @@ use mathlib.Core.List.{List, [], _∷_, _++_, reverseAux}
 use mathlib.Core.Logic.{_⊎_, inl, inr}
 use Prim.Native.Nat.{ℕ, zero, suc, _+_, _-_, _*_, _≤_, _<_}
 use native.Mathlib.Omega.{arith}
-use lib.ListN.{length, getD, take, drop, replicate, length-replicate, replicate-append-replicate}
-use lib.Seq.{take-all, take-at, drop-at, getD-take, getD-drop}
-use borrow.Author.Tests.{le-ltb, eq-eqb, ne-eqb}
+use lib.ListN.{length, getD, take, drop, replicate, length-replicate, length-drop, replicate-append-replicate}
+use lib.Seq.{length-take-le, take-all, take-at, drop-at, getD-take, getD-drop}
+use borrow.Author.Tests.{le-ltb, ne-eqb}
 use Rattle.terms.specs.declared.Row.{Row}
 use Rattle.terms.specs.declared.Fault.the-variants.{Accepted}
 use Rattle.terms.specs.Assignments.{Assignment, every}
 use Rattle.terms.specs.Faults.{firstFault}
-use Rattle.terms.specs.Table.{rowsOf, bitsOf, bitOf, sourcesOf, sameWord, satisfies}
-use Rattle.terms.proofs.Assignments.{every-of}
+use Rattle.terms.specs.Table.{rowsOf, bitsOf, bitOf, sourcesOf, evened, sameWord, satisfies}
+use Rattle.terms.proofs.Assignments.{assignment-length, every-of}
 use Rattle.terms.proofs.Computed.{faultComputed, satisfiesComputed}
+use Rattle.terms.proofs.Filled.{same-even}
 use Rattle.terms.proofs.Satisfies.{same-word, word-same}
 use Rattle.laws.specs.Lists.{distinct}
 use Rattle.laws.proofs.Bools.{and-parts}
@@ -86,7 +87,6 @@ module _ (w : ℕ) (one : 1 ≤ w) (most : w ≤ 1024) where
         le-ltb 1024 w most,
         le-ltb 4096 (w + 0) (omega arith),
         le-ltb 4096 (w + (w + 0)) (omega arith),
-        eq-eqb w w refl,
       )
 
   three-accepted : firstFault (threeEquations w) ≡ Accepted
@@ -97,7 +97,6 @@ module _ (w : ℕ) (one : 1 ≤ w) (most : w ≤ 1024) where
         le-ltb 1024 w most,
         le-ltb 4096 (w + 0) (omega arith),
         le-ltb 4096 (w + (w + 0)) (omega arith),
-        eq-eqb w w refl,
       )
 
   -- the ties of the equations before the third, in both
@@ -141,36 +140,45 @@ module _ (w : ℕ) (one : 1 ≤ w) (most : w ≤ 1024) where
   met-to (suc zero) l = refl
   met-to (suc (suc zero)) l = refl
   met-to (suc (suc (suc zero))) l = refl
-  met-to (suc (suc (suc (suc zero)))) l = rw (u-zeros, v-zeros, word-same zero-word)
-  met-to (suc (suc (suc (suc (suc zero))))) l = rw (u-zeros, v-zeros, word-same zero-word)
+  met-to (suc (suc (suc (suc zero)))) l = rw (u-zeros, v-zeros, word-same (evened zero-word zero-word))
+  met-to (suc (suc (suc (suc (suc zero))))) l = rw (u-zeros, v-zeros, word-same (evened zero-word zero-word))
   met-to (suc (suc (suc (suc (suc (suc r)))))) l = absurd (omega arith)
 
   met-two : satisfies first-two zeros ≡ true
   unfolding satisfiesComputed
-  met-two = rw (u-zeros, v-zeros, word-same zero-word)
+  met-two = rw (u-zeros, v-zeros, word-same (evened zero-word zero-word))
 
   -- and no other meets the first two,
-  both-zero : (p : List ℕ) (more : Bool) → sameWord (u p) (v p) && (sameWord (v p) zero-word && more) ≡ true
-      → (u p ≡ zero-word) × (v p ≡ zero-word) × (more ≡ true)
-  both-zero p more e =
-      let h = and-parts (sameWord (u p) (v p)) (sameWord (v p) zero-word && more) e in
-      let k = and-parts (sameWord (v p) zero-word) more (h .1) in
-      let second = same-word (v p) zero-word (k .0) in
-      (same-word (u p) (v p) (h .0) ∙ second, second, k .1)
+  sized : (p : List ℕ) → length p ≡ w + (w + 0) → (length (u p) ≡ w) × (length (v p) ≡ w)
+  sized p n = (length-take-le w p (omega arith), length-take-le w (drop (w + 0) p) (omega (arith, length-drop (w + 0) p)))
 
-  only : (p : List ℕ) → satisfies first-two p ≡ true → (i : ℕ) → i < w + (w + 0) → getD p i 0 ≡ 0
+  -- words of one width are equal where they are found so
+  equal-words : (x y : List ℕ) → length x ≡ w → length y ≡ w → sameWord (evened x y) (evened y x) ≡ true → x ≡ y
+  equal-words x y m n e = same-word x y (sym (same-even x y (m ∙ sym n)) ∙ e)
+
+  both-zero : (p : List ℕ) → length p ≡ w + (w + 0) → (more : Bool)
+      → sameWord (evened (u p) (v p)) (evened (v p) (u p)) && (sameWord (evened (v p) zero-word) (evened zero-word (v p)) && more) ≡ true
+      → (u p ≡ zero-word) × (v p ≡ zero-word) × (more ≡ true)
+  both-zero p n more e =
+      let s = sized p n in
+      let h = and-parts (sameWord (evened (u p) (v p)) (evened (v p) (u p))) (sameWord (evened (v p) zero-word) (evened zero-word (v p)) && more) e in
+      let k = and-parts (sameWord (evened (v p) zero-word) (evened zero-word (v p))) more (h .1) in
+      let second = equal-words (v p) zero-word (s .1) size (k .0) in
+      (equal-words (u p) (v p) (s .0) (s .1) (h .0) ∙ second, second, k .1)
+
+  only : (p : List ℕ) → length p ≡ w + (w + 0) → satisfies first-two p ≡ true → (i : ℕ) → i < w + (w + 0) → getD p i 0 ≡ 0
   unfolding satisfiesComputed
-  only p e i l = go (lt-or-le i w)
+  only p n e i l = go (lt-or-le i w)
     where
       go : (i < w) ⊎ (w ≤ i) → getD p i 0 ≡ 0
       go (inl h) =
-          sym (getD-take w p i 0 h) ∙ ap (λ (word : List ℕ). getD word i 0) (both-zero p true e .0) ∙ all-alike w 0 i h
+          sym (getD-take w p i 0 h) ∙ ap (λ (word : List ℕ). getD word i 0) (both-zero p n true e .0) ∙ all-alike w 0 i h
       go (inr h) =
           let at : w + 0 + (i - w) ≡ i = omega arith in
           ap (λ (j : ℕ). getD p j 0) (sym at)
           ∙ sym (getD-drop (w + 0) p (i - w) 0)
           ∙ sym (getD-take w (drop (w + 0) p) (i - w) 0 (omega arith))
-          ∙ ap (λ (word : List ℕ). getD word (i - w) 0) (both-zero p true e .1)
+          ∙ ap (λ (word : List ℕ). getD word (i - w) 0) (both-zero p n true e .1)
           ∙ all-alike w 0 (i - w) (omega arith)
 
   -- so that these leave no bit free and every bit is a tie.
@@ -178,7 +186,7 @@ module _ (w : ℕ) (one : 1 ≤ w) (most : w ≤ 1024) where
   unfolding solvedRows satisfiesComputed bitOf
   none-left =
       none-free (w + (w + 0)) (variableWidths first-two) (equalUnder (w + (w + 0)) (satisfies first-two))
-      (λ i l. equal-in (w + (w + 0)) (satisfies first-two) (suc (suc i)) 0 (λ p a e. only p e i l))
+      (λ i l. equal-in (w + (w + 0)) (satisfies first-two) (suc (suc i)) 0 (λ p a e. only p (assignment-length a) e i l))
 
   some : unsatisfiable first-two ≡ false
   unfolding unsatisfiable satisfiesComputed
@@ -189,19 +197,21 @@ module _ (w : ℕ) (one : 1 ≤ w) (most : w ≤ 1024) where
   ties-two = omega (arith, none-left, solved-sum (twoEquations w) two-accepted some)
 
   -- No pattern meets all three.
-  none-meets : (p : List ℕ) → satisfies all-three p ≡ false
+  none-meets : (p : List ℕ) → length p ≡ w + (w + 0) → satisfies all-three p ≡ false
   unfolding satisfiesComputed
-  none-meets p =
+  none-meets p n =
       false-of (satisfies all-three p)
       (λ e.
-      let h = both-zero p (sameWord (u p) (replicate w 1) && true) e in
-      let ones = same-word (u p) (replicate w 1) (and-parts (sameWord (u p) (replicate w 1)) true (h .2) .0) in
+      let one-word = replicate w 1 in
+      let third = sameWord (evened (u p) one-word) (evened one-word (u p)) in
+      let h = both-zero p n (third && true) e in
+      let ones = equal-words (u p) one-word (sized p n .0) (length-replicate w 1) (and-parts third true (h .2) .0) in
       omega (arith, ap (λ (word : List ℕ). getD word 0 0) (sym (h .0) ∙ ones), all-alike w 0 0 one, all-alike w 1 0 one))
 
   never : unsatisfiable all-three ≡ true
-  unfolding unsatisfiable
+  unfolding unsatisfiable satisfiesComputed
   never =
-      every-of (bitsOf all-three) (λ p. not (satisfies all-three p)) (λ p a. ap not (none-meets p))
+      every-of (bitsOf all-three) (λ p. not (satisfies all-three p)) (λ p a. ap not (none-meets p (assignment-length a)))
 
   row-6 : unsatRow all-three ≡ 6
   unfolding unsatRow satisfiesComputed

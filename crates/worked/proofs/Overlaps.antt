@@ -13,8 +13,9 @@ use lib.Seq.{take-all, ext-getD}
 use borrow.Author.Tests.{le-ltb, lt-ltb, eq-eqb, ne-eqb}
 use Rattle.terms.specs.declared.Fault.the-variants.{Accepted}
 use Rattle.terms.specs.Faults.{firstFault}
-use Rattle.terms.specs.Table.{rowsOf, extract, sameWord, satisfies}
+use Rattle.terms.specs.Table.{rowsOf, extract, evened, sameWord, satisfies}
 use Rattle.terms.proofs.Computed.{faultComputed, satisfiesComputed}
+use Rattle.terms.proofs.Filled.{same-even}
 use Rattle.terms.proofs.Satisfies.{same-word, word-same}
 use Rattle.terms.proofs.Words.{extract-length, extract-bit}
 use Rattle.laws.proofs.Lists.{tab-at, tab-length}
@@ -92,7 +93,6 @@ module _ (w : ℕ) (five : 5 ≤ w) where
   pub overlapped-accepted : w ≤ 1024 → firstFault (overlapped w) ≡ Accepted
   unfolding faultComputed
   overlapped-accepted most =
-      let sides : w - 2 + 1 - 3 ≡ w - 4 + 1 - 1 = omega arith in
       rw (
         ne-eqb w 0 (λ e. omega arith),
         le-ltb 1024 w most,
@@ -101,7 +101,6 @@ module _ (w : ℕ) (five : 5 ≤ w) where
         le-ltb (w - 2) 3 (omega arith),
         lt-ltb (w - 4) w (omega arith),
         le-ltb (w - 4) 1 (omega arith),
-        eq-eqb (w - 2 + 1 - 3) (w - 4 + 1 - 1) sides,
       )
 
   -- A pattern meets the table if each of its places from 1 on, up to the last but three, has the bit of the next place but one,
@@ -109,8 +108,12 @@ module _ (w : ℕ) (five : 5 ≤ w) where
     overlapped-sides : satisfies (rowsOf (overlapped w)) p ≡ sameWord (extract p (w - 2) 3) (extract p (w - 4) 1)
     unfolding satisfiesComputed
     overlapped-sides =
-        and-true (sameWord (extract (take w p) (w - 2) 3) (extract (take w p) (w - 4) 1))
-        ∙ ap (λ (word : List ℕ). sameWord (extract word (w - 2) 3) (extract word (w - 4) 1)) (take-all w p (omega arith))
+        let left : List ℕ → List ℕ = λ word. extract word (w - 2) 3 in
+        let right : List ℕ → List ℕ = λ word. extract word (w - 4) 1 in
+        and-true (sameWord (evened (left (take w p)) (right (take w p))) (evened (right (take w p)) (left (take w p))))
+        ∙ ap (λ (word : List ℕ). sameWord (evened (left word) (right word)) (evened (right word) (left word))) (take-all w p (omega arith))
+        ∙ same-even (left p) (right p)
+        (extract-length p (w - 2) 3 (omega arith) (omega arith) ∙ omega (arith, extract-length p (w - 4) 1 (omega arith) (omega arith)))
 
     left-bit : (i : ℕ) → i + 4 < w → getD (extract p (w - 2) 3) i 0 ≡ getD p (suc i) 0
     left-bit i l =

@@ -9,7 +9,7 @@ use lib.ListN.{length}
 use borrow.Author.Tests.{le-ltb}
 use Rattle.terms.specs.Calls.{faultRecord, stopAt}
 use Rattle.terms.specs.Faults.{firstFault, isAccepted}
-use Rattle.terms.specs.Table.{rowsOf, rowNumbers, sourcesOf, extract}
+use Rattle.terms.specs.Table.{rowsOf, rowNumbers, sourcesOf, extract, evened}
 use Rattle.terms.proofs.AcceptedTable.{fault-none}
 use Rattle.terms.proofs.Computed.{faultComputed, satisfiesComputed}
 use Rattle.laws.specs.Lists.{countUp, least, below, tally, member, distinct}
@@ -102,7 +102,7 @@ _tested_ {c} test hold = subst Holds test (out-holds c) and hold
 
 -- Whoever unfolds one of these unfolds all that its value is computed from: a table's record and answer, with its rules;
 unfoldable pub tableComputed : List ℕ → Case
-unfolding faultComputed satisfiesComputed extract sourcesOf countUp paired pairsOf pairsIn pairsTogether relabel merge run classesOf links conflictAt linksBefore inClass least below tally member distinct variableWidths begins variableAt contiguous fixedAlike goesOn lowest appears placeRow answer.placed rowsTo answerRows answerNumbers freshNumbers freshPieces freshWidth freshStart freeBits conflictRow linksTo classRows classRecord classAnswer tableOut
+unfolding faultComputed satisfiesComputed extract evened sourcesOf countUp paired pairsOf pairsIn pairsTogether relabel merge run classesOf links conflictAt linksBefore inClass least below tally member distinct variableWidths begins variableAt contiguous fixedAlike goesOn lowest appears placeRow answer.placed rowsTo answerRows answerNumbers freshNumbers freshPieces freshWidth freshStart freeBits conflictRow linksTo classRows classRecord classAnswer tableOut
 tableComputed table = tableOut table
 
 -- a row's normal form;

@@ -2,3 +2,4 @@ pub mod Cases
 pub mod EveryWidth
 pub mod FromSheet
 pub mod Spellings
+pub mod ShortSides
