@@ -19,7 +19,8 @@ use Rattle.sheets.specs.Sheet.{sheetFound}
 use Rattle.sheets.specs.Call.{sheetNumber, sheetRecord}
 use Rattle.answers.specs.Solve.{valid, unsatisfiable, answerRecord, solveRecord}
 use Rattle.assignments.specs.Call.{patternRecord}
-use Rattle.linkwords.specs.Calls.{Call, lw-value, lw-normal-form, lw-read-sheet, lw-solve, lw-make-pattern, lw-value-rows, lw-normal-form-rows, lw-solve-rows, recordOf}
+use Rattle.positions.specs.Call.{positionsRecord}
+use Rattle.linkwords.specs.Calls.{Call, lw-value, lw-normal-form, lw-read-sheet, lw-solve, lw-make-pattern, lw-marker-positions, lw-value-rows, lw-normal-form-rows, lw-solve-rows, recordOf}
 
 -- a record with another outcome
 abbrev Other : Record → Type 0
@@ -63,6 +64,11 @@ unfolding patternRecord
 pattern-other answer fresh room =
     stops-other _ _ (more (λ e. omega arith) (more (λ e. omega arith) (more (λ e. omega arith) none))) (λ e. omega arith)
 
+positions-other : (table words : List ℕ) → Other (positionsRecord table words)
+unfolding positionsRecord
+positions-other table words =
+    stops-other _ _ (more (fault-never-18 (firstFault table)) (more (λ e. omega arith) (more (λ e. omega arith) none))) (λ e. omega arith)
+
 found-other : (found : Sheet) → sheetNumber found ≡ 18 → ⊥
 found-other TooLong e = omega arith
 found-other WrongNames e = omega arith
@@ -82,6 +88,7 @@ never-18 (lw-normal-form table row room) = form-other table row room
 never-18 (lw-read-sheet sheet room) = sheet-other sheet room
 never-18 (lw-solve table answerRoom workRoom) = solve-other table answerRoom workRoom
 never-18 (lw-make-pattern answer fresh room) = pattern-other answer fresh room
+never-18 (lw-marker-positions table words) = positions-other table words
 never-18 (lw-value-rows rows row pattern room) = value-other (rowNumbers rows) row pattern room
 never-18 (lw-normal-form-rows rows row room) = form-other (rowNumbers rows) row room
 never-18 (lw-solve-rows rows answerRoom workRoom) = solve-other (rowNumbers rows) answerRoom workRoom

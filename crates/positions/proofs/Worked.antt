@@ -4,7 +4,7 @@ use mathlib.Core.Path.{_≡_, refl}
 use mathlib.Core.List.{List, [], _∷_, _++_}
 use Prim.Native.Nat.{ℕ}
 use Rattle.terms.specs.Calls.{completed, stopAt}
-use Rattle.terms.specs.Table.{rowsOf, countKind, extract, sameWord}
+use Rattle.terms.specs.Table.{rowsOf, countKind, evened, extract, sameWord}
 use Rattle.terms.proofs.Computed.{faultComputed, satisfiesComputed}
 use Rattle.laws.specs.Binary.{binary}
 use Rattle.laws.specs.Buffers.{overwrite}
@@ -25,7 +25,7 @@ syncWords = 44257 ∷ 1 ∷ 44257 ∷ 44257 ∷ 4657 ∷ []
 
 -- Its starts are 0, 2 and 3; the windows at 2 and 3 overlap.
 pub sync-positions : positionsOf (rowsOf syncTable) syncWords ≡ 0 ∷ 2 ∷ 3 ∷ []
-unfolding positionsOf startsFrom meetsFront wordsBits satisfiesComputed sameWord extract countKind binary
+unfolding positionsOf startsFrom meetsFront wordsBits satisfiesComputed evened sameWord extract countKind binary
 sync-positions = refl
 
 pub sync-record : positionsRecord syncTable syncWords ≡ completed 3 0
