@@ -58,12 +58,8 @@ static void lay_out(subject *in)
     plain_sources(in->d.t.numbers, &in->facts, sources);
     for (size_t r = 0; r < in->d.rows; r++) {
         const uint16_t *n = in->d.t.numbers + 4 * r;
-        if (n[0] != LW_EQUATION)
-            continue;
-        for (size_t i = 0; i < in->facts.width[n[1]]; i++) {
-            in->left[in->pairs] = sources[n[1]][i];
-            in->right[in->pairs++] = sources[n[2]][i];
-        }
+        if (n[0] == LW_EQUATION)
+            in->pairs += plain_pairs(&in->facts, sources, n[1], n[2], in->left + in->pairs, in->right + in->pairs);
     }
 }
 

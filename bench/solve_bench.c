@@ -43,7 +43,7 @@ static subject subjects[] = {
              "  word is a marker of three fixed bits and the low 13 bits of a pixel.",
      .make = make_link, .size = 32, .calls = SHORT, .most = MOST},
     {.name = "turned",
-     .says = "of the largest size, as are the next two. 64 variables of 64 bits, joined by doubling to words of\n"
+     .says = "of the largest size, as are the next three. 64 variables of 64 bits, joined by doubling to words of\n"
              "  1,024 bits, and these turned at odd places, one out of another.",
      .make = make_turned, .size = 1024, .calls = LONG, .most = MOST, .for_goal = true},
     {.name = "chained",
@@ -53,6 +53,10 @@ static subject subjects[] = {
     {.name = "copied",
      .says = "each side is 16 copies of a variable under a chain of 300 cuts, turned at an odd place.",
      .make = make_copied, .size = 300, .calls = LONG, .most = MOST},
+    {.name = "short",
+     .says = "sides of unequal width: in each equation one side has 1,024 bits, the other up to 512 less. The top bits\n"
+             "  are parts of 16 of the 64 variables, the others parts of words turned at odd places.",
+     .make = make_short, .size = 512, .calls = LONG, .most = MOST, .for_goal = true},
 };
 
 enum { SUBJECTS = sizeof subjects / sizeof subjects[0], TURNED = 4, CHAINED = 5 };

@@ -162,6 +162,35 @@ static inline void make_copied(draft *d, size_t cuts)
 }
 
 /*
+  Words of 1024 bits, of which the top bits, so many at most, are of 16 variables
+  that have to be 0, against words narrower by these bits. All others are cut from
+  words turned at odd places. In half of the equations the left side is the wider.
+*/
+static inline void make_short(draft *d, size_t most)
+{
+    size_t words[25], count = 0, zeros;
+
+    seed = 20240229;
+    variables(d, 64, 64);
+    zeros = doubled(d, 0, 16);
+    for (size_t v = 16; v < 64; v += 16)
+        words[count++] = doubled(d, v, 16);
+    while (count < 25) {
+        words[count] = turned(d, words[below(count)]);
+        count++;
+    }
+    size_t sides[EQUATIONS][2];
+    for (size_t e = 0; e < EQUATIONS; e++) {
+        size_t more = e == 0 ? most : 1 + below(most), left = below(count), right = (left + 1 + below(count - 1)) % count;
+        size_t low = below(WIDTH - more + 1), top = cut(d, zeros, low + more - 1, low);
+        sides[e][e % 2] = join(d, top, cut(d, words[left], WIDTH - more - 1, 0));
+        sides[e][1 - e % 2] = cut(d, words[right], WIDTH - 1, more);
+    }
+    for (size_t e = 0; e < EQUATIONS; e++)
+        add_row(d, 0, EQUATION(sides[e][0], sides[e][1]));
+}
+
+/*
   The middle 512 bits of a doubled word, left by up to 400 cuts, each of which
   takes some from one end or from both; these joined with 512 bits of a doubled
   word, cut at odd places. The bits of the sides do not depend on the cuts.

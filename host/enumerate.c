@@ -22,7 +22,7 @@ typedef struct {
     size_t equations;
     size_t row[EQUATIONS];            /* of each equation: its row; */
     bool left[EQUATIONS];             /* whether a pattern is left after it, reading equations in row order; */
-    bool tie[EQUATIONS][REF_WIDTH];   /* which of its pairs are ties, high end first */
+    bool tie[EQUATIONS][REF_WIDTH];   /* which of its pairs are ties, by the number of their bit */
     size_t variable[ENUM_BITS];       /* of each place: its variable */
 } findings;
 
@@ -42,6 +42,12 @@ static uint64_t place_bits(size_t place, size_t block)
 static uint64_t all_patterns(size_t bits)
 {
     return bits < 6 ? ((uint64_t)1 << ((size_t)1 << bits)) - 1 : UINT64_MAX;
+}
+
+/* Bit number bit of a word, the low one being bit 0; past its high end it has zeros, as the comparator sees it. */
+static uint64_t bit_values(const uint64_t *word, size_t width, size_t bit)
+{
+    return bit < width ? word[width - 1 - bit] : 0;
 }
 
 /* Reads the table's rows under the patterns of one block; after each equation those are left that meet it. */
@@ -78,10 +84,10 @@ static void read_block(const uint16_t *table, const ref_table *facts, size_t blo
                 values[r][i] = values[a][width[a] - 1 - b + i];
             break;
         case EQUATION: /* a pair is new if a pattern that meets the pairs before it breaks it */
-            for (size_t i = 0; i < width[a]; i++) {
-                uint64_t broken = left & (values[a][i] ^ values[b][i]);
+            for (size_t bit = width[a] > width[b] ? width[a] : width[b]; bit-- != 0;) {
+                uint64_t broken = left & (bit_values(values[a], width[a], bit) ^ bit_values(values[b], width[b], bit));
                 if (broken != 0)
-                    f->tie[equation][i] = true;
+                    f->tie[equation][bit] = true;
                 left &= ~broken;
             }
             if (left != 0)

@@ -9,8 +9,10 @@
   it together that occur together in no table kept before. Those kept are
   written to the directory as the sheets found-001, found-002, .. Then the same
   is done with as many tables that may have markers, and with the outcomes and
-  what occurs of markers alone. What is kept of these is found-marker-001,
-  found-marker-002, .., in which numbers above 9 are hexadecimal.
+  what occurs of markers alone; and then with as many that may have sides of
+  unequal width, and with what occurs of these alone. What is kept is
+  found-marker-001, .. and found-short-001, .., in which numbers above 9 are
+  hexadecimal.
 */
 
 #include <stdio.h>
@@ -23,7 +25,7 @@ enum { TABLES = 100000, MOST_ROWS = 40, THINGS = FEATURES + 3 }; /* the outcomes
 typedef struct {
     size_t rows;
     unsigned long number;
-    uint32_t things; /* bit i stands for thing i */
+    uint64_t things; /* bit i stands for thing i */
     uint16_t numbers[4 * MOST_ROWS];
 } kept;
 
@@ -35,65 +37,69 @@ static int by_rows(const void *a, const void *b)
     return x->number < y->number ? -1 : 1;
 }
 
-/* Makes a table, with markers or without; whether it is small enough. */
-static bool make(kept *k, bool markers)
+/* Makes a table; whether it is small enough. */
+static bool make(kept *k, extent with)
 {
     static sketch s;
     static ref_table facts;
     static enumeration found;
     bool has[FEATURES] = {false};
 
-    make_small(&s, markers);
+    make_small(&s, with);
     k->rows = s.d.rows;
     if (k->rows > MOST_ROWS || ref_check(ALL(s.d.t), &facts).outcome != 0 || facts.bits > ENUM_BITS)
         return false;
     enumerate(s.d.t.numbers, &facts, &found);
     note_features(&s.d, &facts, &found, has);
-    k->things = (uint32_t)1 << (FEATURES + found.record.outcome);
+    k->things = (uint64_t)1 << (FEATURES + found.record.outcome);
     for (int i = 0; i < FEATURES; i++)
-        k->things |= (uint32_t)has[i] << i;
+        k->things |= (uint64_t)has[i] << i;
     memcpy(k->numbers, s.d.t.numbers, 4 * k->rows * sizeof k->numbers[0]);
     return true;
 }
 
-static bool write_sheet(const char *directory, unsigned number, const kept *k, bool markers)
+/* By extent: what the names of the sheets have, and the first of the things that are looked at. The outcomes always are. */
+static const struct { const char *name; int first; } passes[] = {
+    [EQUAL_SIDES] = {"", 0}, [WITH_MARKERS] = {"marker-", MARKER_SIDE}, [WITH_SHORT_SIDES] = {"short-", SHORT_LEFT},
+};
+
+static bool write_sheet(const char *directory, unsigned number, const kept *k, extent with)
 {
     char path[1024];
-    snprintf(path, sizeof path, "%s/found-%s%03u", directory, markers ? "marker-" : "", number);
+    snprintf(path, sizeof path, "%s/found-%s%03u", directory, passes[with].name, number);
     FILE *file = fopen(path, "wb");
     if (file == NULL)
         return false;
     fprintf(file, "kind a b c\n");
     for (size_t i = 0; i < 4 * k->rows; i++)
-        fprintf(file, markers && k->numbers[i] > 9 ? "h%x%c" : "%u%c", k->numbers[i], i % 4 == 3 ? '\n' : ' ');
+        fprintf(file, with != EQUAL_SIDES && k->numbers[i] > 9 ? "h%x%c" : "%u%c", k->numbers[i], i % 4 == 3 ? '\n' : ' ');
     return fclose(file) == 0;
 }
 
 /* Makes the tables and writes those that are kept; whether it could be done. */
-static bool find(const char *directory, kept *all, unsigned long tables, bool markers)
+static bool find(const char *directory, kept *all, unsigned long tables, extent with)
 {
     static bool together[THINGS][THINGS];
     size_t count = 0;
     unsigned written = 0;
-    int first = markers ? MARKER_SIDE : 0; /* behind it are what occurs of markers, and the outcomes */
 
     for (unsigned long i = 0; i < tables; i++) {
         all[count].number = i;
-        count += make(&all[count], markers);
+        count += make(&all[count], with);
     }
     qsort(all, count, sizeof *all, by_rows);
     for (size_t i = 0; i < count; i++) {
         bool new = false;
-        for (int a = first; a < THINGS; a++)
-            for (int b = first; b < THINGS; b++)
+        for (int a = passes[with].first; a < THINGS; a++)
+            for (int b = passes[with].first; b < THINGS; b++)
                 if ((all[i].things >> a & all[i].things >> b & 1) != 0 && !together[a][b])
                     new = together[a][b] = true;
-        if (new && !write_sheet(directory, ++written, &all[i], markers)) {
+        if (new && !write_sheet(directory, ++written, &all[i], with)) {
             perror(directory);
             return false;
         }
     }
-    printf("%u sheets of %zu tables %s markers\n", written, count, markers ? "with" : "without");
+    printf("%u sheets found-%s.. of %zu tables\n", written, passes[with].name, count);
     return true;
 }
 
@@ -104,7 +110,8 @@ int main(int argc, char **argv)
 
     if (all == NULL)
         return 1;
-    bool done = find(argv[1], all, tables, false) && find(argv[1], all, tables, true);
+    bool done = find(argv[1], all, tables, EQUAL_SIDES) && find(argv[1], all, tables, WITH_MARKERS) &&
+                find(argv[1], all, tables, WITH_SHORT_SIDES);
     free(all);
     return done ? 0 : 1;
 }

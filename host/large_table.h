@@ -1,8 +1,8 @@
 /*
   large_table.h -- random tables of up to 4,096 variable bits
 
-  Each outcome is frequent, wide words, turned words and long chains of cuts
-  are among them.
+  Each outcome is frequent, wide words, turned words, long chains of cuts and
+  sides of unequal width are among them.
 */
 
 #ifndef LARGE_TABLE_H
@@ -13,6 +13,7 @@
 #include <string.h>
 
 #include "random_table.h"
+
 /*
   A table in the making, with the value of each row under one pattern, the
   hidden one: the first width bytes of value[r] are the bits of row r, high bit
@@ -165,6 +166,79 @@ static inline void plan_marked(plan *p, bool holds)
     add_row(&p->d, 0, EQUATION(left, plan_marker(p, value, w)));
 }
 
+/* An equation of a wider side and a narrower one, in either order. */
+static inline void plan_unequal(plan *p, size_t wider, size_t narrower)
+{
+    if (one_in(2))
+        add_row(&p->d, 0, EQUATION(wider, narrower));
+    else
+        add_row(&p->d, 0, EQUATION(narrower, wider));
+}
+
+/* Where so many bits stand in a row's value; SIZE_MAX if they do not. */
+static inline size_t place_of(const plan *p, size_t r, const uint8_t *bits, size_t width)
+{
+    for (size_t at = 0; at + width <= p->d.width[r]; at++)
+        if (memcmp(p->value[r] + at, bits, width) == 0)
+            return at;
+    return SIZE_MAX;
+}
+
+/*
+  A part of a row with a narrower part: of another row, where that has the same
+  bits under the hidden pattern, or of the same. If the equation is to hold, the
+  bits that the wider one has alone are 0 there.
+*/
+static inline void plan_top(plan *p, bool holds)
+{
+    size_t r = wide_term(p), other = one_in(4) ? r : wide_term(p), w = p->d.width[r], from = below(w), more = 1;
+    for (size_t i = 0; holds && i < w && p->value[r][from] != 0; i++)
+        from = (from + 1) % w;
+    while (from + more < w && (!holds || p->value[r][from + more] == 0) && !one_in(20))
+        more++;
+    if (one_in(3))
+        more = 1;
+    if (from + more >= w || (holds && p->value[r][from] != 0))
+        return;
+    size_t rest = w - from - more, at;
+    while ((at = place_of(p, other, p->value[r] + from + more, rest)) == SIZE_MAX && rest > 1)
+        rest /= 2;
+    size_t wider = plan_cut(p, r, from, more + rest);
+    plan_unequal(p, wider, at == SIZE_MAX ? plan_cut(p, r, from + more, rest) : plan_cut(p, other, at, rest));
+}
+
+/* A word behind a fill, often up to 1024 bits, with the word; if it is not to hold, the fill is of ones. */
+static inline void plan_behind_fill(plan *p, bool holds)
+{
+    size_t r = wide_term(p), w = one_in(3) ? 1 : p->d.width[r] == 1024 ? 1 + below(1023) : p->d.width[r];
+    size_t narrower = plan_cut(p, r, below(p->d.width[r] - w + 1), w), most = 1024 - w;
+    size_t fill = plan_fill(p, holds ? 0 : 1, one_in(3) ? 1 : one_in(2) ? most : 1 + below(most));
+    plan_unequal(p, plan_join(p, fill, one_in(2) ? narrower : plan_cut(p, narrower, 0, w)), narrower);
+}
+
+/* A part of a row with a marker that has zeros above it. If it is not to hold, there is a one among them. */
+static inline void plan_wide_marker(plan *p, bool holds)
+{
+    size_t r = wide_term(p), w = 1 + below(p->d.width[r] < 15 ? p->d.width[r] : 15), value = 0, more = 1 + below(16 - w);
+    size_t part = plan_cut(p, r, below(p->d.width[r] - w + 1), w);
+    for (size_t i = 0; i < w; i++)
+        value = 2 * value + p->value[part][i];
+    if (!holds)
+        value |= (size_t)1 << (w + below(more));
+    plan_unequal(p, plan_marker(p, value, w + more), part);
+}
+
+/* Sides of unequal width. */
+static inline void plan_short(plan *p, bool holds, bool fixes)
+{
+    if (fixes && one_in(6))
+        plan_wide_marker(p, holds);
+    else if (one_in(2))
+        plan_behind_fill(p, holds);
+    else
+        plan_top(p, holds);
+}
+
 /* A few bits of a row made 0, and some of them 1. */
 static inline void plan_conflict(plan *p)
 {
@@ -193,6 +267,7 @@ static inline void make_large(plan *p)
     size_t shape = below(6), variables = 1 + below(64), equations = one_in(3) ? 64 : 1 + below(24);
     size_t wrong = below(equations), period = one_in(3) ? 1 : 1 + below(one_in(2) ? 9 : 300);
     bool fixes = meant == MEANT_NEVER || one_in(2); /* else no bit need be fixed, and more are left to be tied */
+    bool uneven = one_in(2);                        /* whether there may be sides of unequal width */
 
     clear(&p->d);
     p->one_for_all = period == 1 || !one_in(4);
@@ -224,10 +299,14 @@ static inline void make_large(plan *p)
             plan_chain(p, below(40));
         if (p->d.bits < 4000 && p->d.variables < 64 && one_in(20))
             plan_variable(p, 1 + below(90));
-        if (meant == MEANT_ALWAYS || one_in(10))
+        if (uneven && (meant == MEANT_ALWAYS ? one_in(3) : one_in(20)))
+            plan_behind_fill(p, true);
+        else if (meant == MEANT_ALWAYS || one_in(10))
             plan_same(p);
         else if (meant == MEANT_NEVER && p->d.equations >= wrong && p->d.equations + 1 < equations && one_in(3))
             plan_conflict(p);
+        else if (uneven && one_in(4))
+            plan_short(p, holds, fixes);
         else if (fixes && one_in(6))
             plan_fixed(p, holds);
         else if (fixes && one_in(6))

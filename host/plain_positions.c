@@ -2,9 +2,7 @@
 
 #include "plain_positions.h"
 
-#include <string.h>
-
-enum { VARIABLE = 0, EQUATION = 4, WORD_BITS = 16, MOST_VARIABLES = 64, MOST_WORDS = 1048576 };
+enum { VARIABLE = 0, WORD_BITS = 16, MOST_VARIABLES = 64, MOST_WORDS = 1048576 };
 
 size_t plain_variables(const uint16_t *table, const ref_table *facts)
 {
@@ -24,17 +22,11 @@ static void put_bits(uint16_t word, uint8_t *bits)
 
 bool plain_meets(const uint16_t *table, const ref_table *facts, const uint16_t *words, size_t count)
 {
-    static uint8_t pattern[WORD_BITS * MOST_VARIABLES], values[REF_ROWS][REF_WIDTH];
+    static uint8_t pattern[WORD_BITS * MOST_VARIABLES];
 
     for (size_t j = 0; j < count; j++)
         put_bits(words[j], pattern + WORD_BITS * j);
-    ref_values(table, facts, facts->rows, pattern, values);
-    for (size_t r = 0; r < facts->rows; r++) {
-        const uint16_t *n = table + 4 * r;
-        if (n[0] == EQUATION && memcmp(values[n[1]], values[n[2]], facts->width[n[1]]) != 0)
-            return false;
-    }
-    return true;
+    return ref_meets(table, facts, pattern);
 }
 
 /* Whether there is a variable, and each has 16 bits. */

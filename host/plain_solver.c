@@ -135,6 +135,24 @@ static void make_answer(const uint16_t *class_of, const uint8_t *variable, size_
     }
 }
 
+/* By how many bits a side is wider than the other; 0 if it is not. */
+static size_t bits_over(size_t width, size_t other)
+{
+    return width > other ? width - other : 0;
+}
+
+/* Takes the first bits of a wider side, each paired with a fixed 0, and adds the ties. Whether that can be. */
+static bool take_top(uint16_t *parent, const uint16_t *side, size_t count, uint32_t *ties)
+{
+    for (size_t i = 0; i < count; i++) {
+        effect found = take(parent, side[i], 0);
+        if (found == CONFLICT)
+            return false;
+        *ties += found == TIE;
+    }
+    return true;
+}
+
 lw_record plain_solve(const uint16_t *table, const ref_table *facts, uint16_t *answer)
 {
     static uint16_t sources[REF_ROWS][REF_WIDTH];
@@ -148,10 +166,18 @@ lw_record plain_solve(const uint16_t *table, const ref_table *facts, uint16_t *a
     for (size_t r = 0; r < facts->rows; r++) {
         const uint16_t *n = table + 4 * r;
         uint32_t before = ties;
+        size_t left_over = 0, right_over = 0; /* the bits by which a side is wider */
         if (n[0] == VARIABLE)
             memset(variable + facts->place[r], variables++, facts->width[r]);
-        for (size_t i = 0; n[0] == EQUATION && i < facts->width[n[1]]; i++)
-            switch (take(parent, sources[n[1]][i], sources[n[2]][i])) {
+        if (n[0] == EQUATION) {
+            left_over = bits_over(facts->width[n[1]], facts->width[n[2]]);
+            right_over = bits_over(facts->width[n[2]], facts->width[n[1]]);
+            if (!take_top(parent, sources[n[1]], left_over, &ties) ||
+                !take_top(parent, sources[n[2]], right_over, &ties))
+                return (lw_record){.outcome = 1, .ties = before, .row = (uint32_t)r};
+        }
+        for (size_t i = left_over; n[0] == EQUATION && i < facts->width[n[1]]; i++)
+            switch (take(parent, sources[n[1]][i], sources[n[2]][i - left_over + right_over])) {
             case IMPLIED:  break;
             case TIE:      ties++; break;
             case CONFLICT: return (lw_record){.outcome = 1, .ties = before, .row = (uint32_t)r};
@@ -165,4 +191,22 @@ lw_record plain_solve(const uint16_t *table, const ref_table *facts, uint16_t *a
         class_of[i] = lowest(parent, (uint16_t)(i + PLAIN_FIXED));
     make_answer(class_of, variable, facts->bits, answer, &record);
     return record;
+}
+
+/* The pairs, laid out. */
+
+/* A side as it is compared: so many fixed bits 0, and then its own bits. */
+static void fill_side(const uint16_t *sources, size_t width, size_t zeros, uint16_t *side)
+{
+    memset(side, 0, zeros * sizeof *side);
+    memcpy(side + zeros, sources, width * sizeof *side);
+}
+
+size_t plain_pairs(const ref_table *facts, uint16_t sources[][REF_WIDTH], size_t a, size_t b,
+                   uint16_t left[REF_WIDTH], uint16_t right[REF_WIDTH])
+{
+    size_t width_a = facts->width[a], width_b = facts->width[b], wider = width_a > width_b ? width_a : width_b;
+    fill_side(sources[a], width_a, wider - width_a, left);
+    fill_side(sources[b], width_b, wider - width_b, right);
+    return wider;
 }

@@ -26,6 +26,14 @@ enum { PLAIN_FIXED = 2, PLAIN_BITS = 4096, PLAIN_SOURCES = PLAIN_FIXED + PLAIN_B
 void plain_sources(const uint16_t *table, const ref_table *facts, uint16_t sources[][REF_WIDTH]);
 
 /*
+  The pairs (left[i], right[i]) of an equation of rows a and b, high end first.
+  The narrower side is filled with fixed bits 0 at its high end. Gives how many
+  pairs there are, which is the greater width.
+*/
+size_t plain_pairs(const ref_table *facts, uint16_t sources[][REF_WIDTH], size_t a, size_t b,
+                   uint16_t left[REF_WIDTH], uint16_t right[REF_WIDTH]);
+
+/*
   Ties the pairs (left[i], right[i]) in their order, count of them, over a
   table of so many variable bits. parent is for bits + PLAIN_FIXED numbers and
   may hold anything before. Gives the number of ties; SIZE_MAX if the pairs

@@ -108,6 +108,29 @@ static inline size_t partner(const draft *d, size_t a, bool equal)
     return NONE;
 }
 
+/* By how many bits two rows differ in width. */
+static inline size_t apart(const draft *d, size_t a, size_t b)
+{
+    return d->width[a] > d->width[b] ? d->width[a] - d->width[b] : d->width[b] - d->width[a];
+}
+
+/* A row that is wider or narrower than row a by as few bits as there is one; NONE if there is none. */
+static inline size_t near_partner(const draft *d, size_t a)
+{
+    size_t near = partner(d, a, false);
+    for (size_t r = 0; near != NONE && r < d->rows; r++)
+        if (d->width[r] != 0 && apart(d, a, r) != 0 && apart(d, a, r) < apart(d, a, near))
+            near = r;
+    return near;
+}
+
+/* The other side for an equation of row a: mostly as wide, else wider or narrower, by few bits or by many. */
+static inline size_t other_side(const draft *d, size_t a)
+{
+    size_t other = !one_in(3) ? NONE : one_in(2) ? near_partner(d, a) : partner(d, a, false);
+    return other != NONE ? other : partner(d, a, true);
+}
+
 /* A number of so many bits, at most 16; often with a run of equal bits at one end, or of equal bits only. */
 static inline size_t some_bits(size_t width)
 {
@@ -146,7 +169,11 @@ static inline void grow(draft *d, size_t kind, size_t widest)
         return;
     case LW_EQUATION:
         if (!d->limited || d->equations < 64) {
-            add_row(d, 0, EQUATION(a, partner(d, a, true)));
+            b = other_side(d, a);
+            if (one_in(2))
+                add_row(d, 0, EQUATION(a, b));
+            else
+                add_row(d, 0, EQUATION(b, a));
             return;
         }
         break;
@@ -188,7 +215,7 @@ static inline size_t some_row(const draft *d, size_t kind, size_t other)
 /* One of the refusals of a table from this one on, 11 or 12; or 0, which stands for none of them. */
 static inline unsigned some_refusal(size_t lowest)
 {
-    static const unsigned refusals[] = {11, 12, 13, 14, 15, 40, 16, 17, 18, 0};
+    static const unsigned refusals[] = {11, 12, 13, 14, 15, 40, 16, 17, 0};
     size_t from = lowest - 11;
     return refusals[from + below(sizeof refusals / sizeof refusals[0] - from)];
 }
@@ -207,7 +234,6 @@ static inline void damage(draft *d, unsigned refusal)
     case 15: r = some_row(d, one_in(2) ? LW_VARIABLE : LW_JOIN, LW_FILL); break;
     case 40: r = some_row(d, LW_VALUE, LW_VALUE); break;
     case 16: r = some_row(d, LW_CUT, LW_CUT); break;
-    case 18: r = some_row(d, LW_EQUATION, LW_EQUATION); break;
     default: r = d->rows == 0 ? NONE : below(d->rows); break;
     }
     if (refusal == 15 && one_in(4))
@@ -245,11 +271,6 @@ static inline void damage(draft *d, unsigned refusal)
             n[2] = (uint16_t)(d->width[n[1]] + below(2));
         else
             n[3] = (uint16_t)(n[2] + 1U);
-        break;
-    case 18:
-        a = n[1] < r ? partner(d, n[1], false) : NONE;
-        if (a < r)
-            n[2] = (uint16_t)a;
         break;
     default:
         n[below(4)] = (uint16_t)below(one_in(2) ? 7 : 65536);

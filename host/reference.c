@@ -2,7 +2,6 @@
 
 #include "reference.h"
 
-#include <stdbool.h>
 #include <stdlib.h>
 #include <string.h>
 
@@ -109,8 +108,6 @@ static bool breaks(const uint16_t *table, size_t r, unsigned rule, const size_t 
         case EQUATION: return count_to(table, r, EQUATION) > 64;
         default:       return false;
         }
-    case 18: /* sides of unequal width */
-        return w.kind == EQUATION && width[w.a] != width[w.b];
     default:
         return false;
     }
@@ -118,7 +115,7 @@ static bool breaks(const uint16_t *table, size_t r, unsigned rule, const size_t 
 
 lw_record ref_check(const uint16_t *table, size_t table_len, ref_table *facts)
 {
-    static const unsigned rules[] = {12, 13, 14, 15, 40, 16, 17, 18}; /* in this order; 40 is after 15 */
+    static const unsigned rules[] = {12, 13, 14, 15, 40, 16, 17}; /* in this order; 40 is after 15 */
 
     if (table_len % 4 != 0 || table_len / 4 > 512)
         return refusal(11, 512);
@@ -171,6 +168,32 @@ void ref_values(const uint16_t *table, const ref_table *facts, size_t count,
             break;
         }
     }
+}
+
+/* A value brought to a width that is not below its own: zeros at the high end, and then its bits. */
+static void fill_up(const uint8_t *value, size_t width, uint8_t *filled, size_t filled_width)
+{
+    memset(filled, 0, filled_width - width);
+    memcpy(filled + (filled_width - width), value, width);
+}
+
+bool ref_meets(const uint16_t *table, const ref_table *facts, const uint8_t *pattern)
+{
+    static uint8_t values[REF_ROWS][REF_WIDTH], left[REF_WIDTH], right[REF_WIDTH];
+    const size_t *width = facts->width;
+
+    ref_values(table, facts, facts->rows, pattern, values);
+    for (size_t r = 0; r < facts->rows; r++) {
+        row_numbers w = row_of(table, r);
+        if (w.kind != EQUATION)
+            continue;
+        size_t wider = width[w.a] > width[w.b] ? width[w.a] : width[w.b];
+        fill_up(values[w.a], width[w.a], left, wider);
+        fill_up(values[w.b], width[w.b], right, wider);
+        if (memcmp(left, right, wider) != 0)
+            return false;
+    }
+    return true;
 }
 
 lw_record ref_value(const uint16_t *table, size_t table_len, size_t row,

@@ -11,6 +11,8 @@
 #ifndef REFERENCE_H
 #define REFERENCE_H
 
+#include <stdbool.h>
+
 #include "linkwords.h"
 
 enum { REF_ROWS = 512, REF_WIDTH = 1024 };
@@ -24,7 +26,7 @@ typedef struct {
 } ref_table;
 
 /*
-  Tests a table: outcome 0, or the first of the refusals 11 to 18 and 40 with its row.
+  Tests a table: outcome 0, or the first of the refusals 11 to 17 and 40 with its row.
   If it is accepted, *facts holds what is known of it; else *facts is undefined.
 */
 lw_record ref_check(const uint16_t *table, size_t table_len, ref_table *facts);
@@ -36,6 +38,13 @@ lw_record ref_check(const uint16_t *table, size_t table_len, ref_table *facts);
 */
 void ref_values(const uint16_t *table, const ref_table *facts, size_t count,
                 const uint8_t *pattern, uint8_t values[][REF_WIDTH]);
+
+/*
+  Whether a pattern of as many bits as an accepted table has meets it: in each
+  equation both sides have equal values, once the narrower one has zeros at its
+  high end. Not reentrant.
+*/
+bool ref_meets(const uint16_t *table, const ref_table *facts, const uint8_t *pattern);
 
 /* What lw_value yields and writes. Not reentrant. */
 lw_record ref_value(const uint16_t *table, size_t table_len, size_t row,

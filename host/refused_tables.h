@@ -1,5 +1,5 @@
 /*
-  refused_tables.h -- tables that every call on a table refuses, 11 to 18 and 40
+  refused_tables.h -- tables that every call on a table refuses, 11 to 17 and 40
 
   Each function hands its tables one by one to a function of the test, with the
   number and the row that the call has to tell.
@@ -14,7 +14,7 @@ typedef void refuse_table_function(where at, const uint16_t *numbers, size_t len
 
 #define REFUSE_ONE(refuse, ...) (refuse)(HERE, __VA_ARGS__)
 
-/* Every cause of the refusals 11 to 16, 18 and 40 by itself. (17 is among the limits.) */
+/* Every cause of the refusals 11 to 16 and 40 by itself. (17 is among the limits.) */
 static inline void refuse_one_by_one(refuse_table_function refuse)
 {
     /* 11: lengths that are no whole rows. */
@@ -108,14 +108,6 @@ static inline void refuse_one_by_one(refuse_table_function refuse)
     REFUSE_ONE(refuse, TABLE(MARKER(5, 3), CUT(0, 3, 0)), 16, 1);
     REFUSE_ONE(refuse, TABLE(MARKER(5, 3), CUT(0, 1, 2)), 16, 1);
     REFUSE_ONE(refuse, TABLE(MARKER(65535, 16), CUT(0, 16, 16)), 16, 1);
-
-    /* 18 */
-    REFUSE_ONE(refuse, TABLE(VARIABLE(2), VARIABLE(3), EQUATION(0, 1)), 18, 2);
-    REFUSE_ONE(refuse, TABLE(VARIABLE(3), VARIABLE(2), EQUATION(0, 1)), 18, 2);
-    REFUSE_ONE(refuse, TABLE(VARIABLE(3), CUT(0, 1, 0), EQUATION(0, 1)), 18, 2);
-    REFUSE_ONE(refuse, TABLE(VARIABLE(2), JOIN(0, 0), EQUATION(1, 0)), 18, 2);
-    REFUSE_ONE(refuse, TABLE(VARIABLE(2), MARKER(2, 3), EQUATION(0, 1)), 18, 2);
-    REFUSE_ONE(refuse, TABLE(MARKER(1, 2), MARKER(1, 1), EQUATION(0, 1)), 18, 2);
 }
 
 /* Two faults: which of them is told. */
@@ -170,7 +162,7 @@ static inline void refuse_two_at_once(refuse_table_function refuse)
         REFUSE_ONE(refuse, ALL(t), told[i], 64);
     }
 
-    /* A 65th equation: 13 and 14 come before 17, and 17 before 18. */
+    /* A 65th equation: 13 and 14 come before 17. Sides of unequal width are no fault. */
     static const uint16_t equations[][4] = {
         {LW_EQUATION, 0, 0, 1}, {EQUATION(66, 0)}, {EQUATION(0, 65)}, {EQUATION(0, 1)},
     };
@@ -188,7 +180,7 @@ static inline void refuse_two_at_once(refuse_table_function refuse)
     /* In two rows, the lower row, whatever the two numbers are. Rows 0 to 63 are variables, row 64 has width 2. */
     static const struct { uint16_t row[4]; uint32_t number; } faults[] = {
         {{6, 0, 0, 0}, 12},   {{LW_FILL, 0, 1, 7}, 13}, {{CUT(600, 0, 0)}, 14}, {{FILL(2, 1)}, 15},
-        {{MARKER(4, 2)}, 40}, {{CUT(0, 1, 0)}, 16},     {{VARIABLE(1)}, 17},    {{EQUATION(0, 64)}, 18},
+        {{MARKER(4, 2)}, 40}, {{CUT(0, 1, 0)}, 16},     {{VARIABLE(1)}, 17},
     };
     for (size_t i = 0; i < COUNT(faults); i++)
         for (size_t j = 0; j < COUNT(faults); j++) {
@@ -201,7 +193,18 @@ static inline void refuse_two_at_once(refuse_table_function refuse)
             add(&t, faults[j].row[0], faults[j].row[1], faults[j].row[2], faults[j].row[3]);
             REFUSE_ONE(refuse, ALL(t), faults[i].number, 65);
         }
-    REFUSE_ONE(refuse, TABLE(VARIABLE(1), VARIABLE(2), FILL(0, 1), EQUATION(0, 1), FILL(0, 1), 9, 9, 9, 9), 18, 3);
+
+    /* Sides of unequal width hide no fault of a later row, whichever of them is the wider. */
+    for (size_t i = 0; i < COUNT(faults); i++)
+        for (size_t left = 0; left < 2; left++) {
+            t.len = 0;
+            while (t.len < 4 * 64)
+                add(&t, VARIABLE(1));
+            add(&t, JOIN(0, 1));
+            add(&t, EQUATION(left == 0 ? 64 : 3, left == 0 ? 3 : 64));
+            add(&t, faults[i].row[0], faults[i].row[1], faults[i].row[2], faults[i].row[3]);
+            REFUSE_ONE(refuse, ALL(t), faults[i].number, 66);
+        }
 }
 
 /* 17: one variable, one equation or one bit too many. Markers are none of these. */

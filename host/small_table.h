@@ -19,6 +19,9 @@
 
 enum { SMALL_WIDTH = 24 };
 
+/* What a table may have; each of these may have too what those before it may. */
+typedef enum { EQUAL_SIDES, WITH_MARKERS, WITH_SHORT_SIDES } extent;
+
 /*
   A table in the making, with the value of each row of up to 64 bits under one
   pattern, the hidden one. Equations that hold under it keep the table from
@@ -30,7 +33,7 @@ typedef struct {
     uint64_t hidden;     /* a variable's value; */
     bool one_for_all;    /* that of each variable, or else each gets one of its own */
     size_t room;         /* variable bits that can still be added */
-    bool markers;        /* whether there may be markers */
+    extent with;
 } sketch;
 
 static inline uint64_t ones(size_t width)
@@ -297,10 +300,11 @@ static inline void equate_conflict(sketch *s)
         a = s->d.t.numbers[4 * e + 1];
         b = s->d.t.numbers[4 * e + 2];
     }
-    if (s->d.width[a] > 64)
+    if (s->d.width[a] > 64 || s->d.width[b] > 64)
         return;
-    size_t at = below(s->d.width[a]), left = add_part(s, a, at, 1);
-    size_t low = at - below(at + 1), high = at + below(s->d.width[b] - at), right = add_part(s, b, low, high - low + 1);
+    size_t width = s->d.width[b], at = below(s->d.width[a] < width ? s->d.width[a] : width); /* a bit that both have */
+    size_t left = add_part(s, a, at, 1);
+    size_t low = at - below(at + 1), high = at + below(width - at), right = add_part(s, b, low, high - low + 1);
     uint64_t bit = s->value[left];
     if (s->d.bits == 0)
         bit = bit == 0; /* a fixed bit with the other one */
@@ -327,10 +331,122 @@ static inline void equate_doubled(sketch *s, bool holds)
     }
 }
 
+/*
+  Sides of unequal width. An equation of them holds if both have the same value
+  as numbers.
+*/
+
+/* The least width that a number needs. */
+static inline size_t least_width(uint64_t number)
+{
+    size_t width = 1;
+    while (number >> width != 0)
+        width++;
+    return width;
+}
+
+/* How many bits wider a side is: often one, and at most so many. */
+static inline size_t some_more(size_t most)
+{
+    return one_in(3) ? 1 : 1 + below(most);
+}
+
+/* A word with so many fixed bits before it: a fill, or a marker of some bits that ends in the bit. */
+static inline size_t add_before(sketch *s, size_t a, uint64_t bit, size_t more)
+{
+    if (more > 16 || one_in(2))
+        return add_join(s, add_fill(s, bit, more), a);
+    return add_join(s, add_marker(s, bit == 0 ? 0 : some_bits(more) | 1, more), a);
+}
+
+/* Parts of two rows, or two parts of one. */
+static inline void equate_short_parts(sketch *s, bool holds)
+{
+    for (int i = 0; i < 60; i++) {
+        size_t a = small_word(s), b = one_in(3) ? a : small_word(s), w = 1 + below(s->d.width[b]);
+        size_t wider = w + some_more(6);
+        if (wider > s->d.width[a])
+            continue;
+        size_t low_a = below(s->d.width[a] - wider + 1), low_b = below(s->d.width[b] - w + 1);
+        if (a == b && one_in(2))
+            low_b = low_a; /* the low bits of a word with all of it */
+        if (holds && part_value(s, a, low_a, wider) != part_value(s, b, low_b, w))
+            continue;
+        size_t left = add_part(s, a, low_a, wider);
+        add_equation(s, left, add_part(s, b, low_b, w));
+        return;
+    }
+}
+
+/* A part of a row, behind fixed bits, with a part as wide of a row. */
+static inline void equate_behind_fixed(sketch *s, bool holds)
+{
+    for (int i = 0; i < 30; i++) {
+        size_t a = small_word(s), b = small_word(s);
+        size_t most = s->d.width[a] < s->d.width[b] ? s->d.width[a] : s->d.width[b], w = 1 + below(most);
+        size_t low_a = below(s->d.width[a] - w + 1), low_b = below(s->d.width[b] - w + 1);
+        if (holds && part_value(s, a, low_a, w) != part_value(s, b, low_b, w))
+            continue;
+        size_t part = add_part(s, a, low_a, w), left = add_before(s, part, !holds && one_in(2), some_more(20));
+        add_equation(s, left, add_part(s, b, low_b, w));
+        return;
+    }
+}
+
+/* A part of a row with a wider or narrower marker or fill. If it is not to hold, they differ in one bit, often a high one. */
+static inline void equate_short_fixed(sketch *s, bool holds)
+{
+    for (int i = 0; i < 30; i++) {
+        size_t a = small_word(s), w = 1 + below(s->d.width[a]), low = below(s->d.width[a] - w + 1);
+        uint64_t value = part_value(s, a, low, w);
+        size_t other = least_width(value) + below(8); /* the width of the marker or fill */
+        if (other == w || other > 16)
+            continue;
+        if (!holds)
+            value ^= (uint64_t)1 << (one_in(2) ? other - 1 : below(other));
+        size_t left = add_part(s, a, low, w);
+        if ((value == 0 || value == ones(other)) && one_in(2))
+            add_equation(s, left, add_fill(s, value & 1, other));
+        else
+            add_equation(s, left, add_marker(s, value, other));
+        return;
+    }
+}
+
+/* One of these. */
+static inline void equate_short(sketch *s, bool holds)
+{
+    switch (below(4)) {
+    case 0:  equate_behind_fixed(s, holds); break;
+    case 1:  equate_short_fixed(s, holds); break;
+    default: equate_short_parts(s, holds); break;
+    }
+}
+
+/* A bit that is 1 under the hidden pattern fixed to it, and then among the top bits of a side: no pattern is left. */
+static inline void equate_fixed_above(sketch *s)
+{
+    for (int i = 0; i < 30; i++) {
+        size_t a = small_word(s), b = small_word(s), at = below(s->d.width[a]);
+        if (at == 0 || part_value(s, a, at, 1) == 0)
+            continue;
+        size_t w = 1 + below(at < s->d.width[b] ? at : s->d.width[b]), low = below(at - w + 1);
+        size_t high = at + below(s->d.width[a] - at), bit = add_part(s, a, at, 1);
+        add_equation(s, bit, add_fill(s, 1, 1));
+        if (one_in(3))
+            equate_parts(s, true);
+        size_t left = add_part(s, a, low, high - low + 1);
+        add_equation(s, left, add_part(s, b, below(s->d.width[b] - w + 1), w));
+        return;
+    }
+}
+
 /* An equation that holds under every pattern. */
 static inline void equate_same(sketch *s)
 {
     size_t a = small_term(s), left = one_in(2) ? a : same_word(s, a);
+    if (s->with == WITH_SHORT_SIDES && one_in(2))
+        left = add_before(s, left, 0, some_more(one_in(8) ? 900 : 20));
     add_equation(s, left, same_word(s, a));
 }
 
@@ -347,7 +463,7 @@ static inline void add_term(sketch *s)
 {
     size_t w, a, b;
 
-    switch (below(s->markers ? 8 : 6)) {
+    switch (below(s->with >= WITH_MARKERS ? 8 : 6)) {
     case 0:
         w = 1 + below(4);
         add_fill(s, below(2), w);
@@ -377,8 +493,8 @@ static inline void add_term(sketch *s)
     add_join(s, a, b); /* of at most 2 * SMALL_WIDTH bits */
 }
 
-/* With markers or without; the same tables without them as when there were none. */
-static inline void make_small(sketch *s, bool markers)
+/* The tables of each extent are the same as before there was more. */
+static inline void make_small(sketch *s, extent with)
 {
     size_t chance = below(10);
     intent meant = chance < 2 ? MEANT_ALWAYS : chance < 6 ? MEANT_NEVER : MEANT_SOLVED;
@@ -388,7 +504,7 @@ static inline void make_small(sketch *s, bool markers)
     bool words = one_in(3); /* few equations, and of parts only, so that long pieces are left */
 
     clear(&s->d);
-    s->markers = markers;
+    s->with = with;
     s->room = one_in(25) ? 0 : one_in(3) ? 9 + below(6) : 1 + below(14);
     s->one_for_all = words || !one_in(3);
     if (words) {
@@ -404,7 +520,7 @@ static inline void make_small(sketch *s, bool markers)
         size_t w = 1 + below(3);
         add_fill(s, below(2), w);
     }
-    if (markers && one_in(2)) {
+    if (with >= WITH_MARKERS && one_in(2)) {
         size_t w = 1 + below(16);
         add_marker(s, some_bits(w), w);
     }
@@ -420,7 +536,10 @@ static inline void make_small(sketch *s, bool markers)
     while ((s->d.equations < equations || conflict) && s->d.rows < 120) {
         bool holds = meant == MEANT_SOLVED || s->d.equations < wrong || !one_in(3);
         if (conflict && s->d.equations >= wrong) {
-            equate_conflict(s);
+            if (with == WITH_SHORT_SIDES && one_in(2))
+                equate_fixed_above(s);
+            else
+                equate_conflict(s);
             conflict = false;
         }
         if (one_in(3))
@@ -432,7 +551,11 @@ static inline void make_small(sketch *s, bool markers)
                 equate_same(s);
             continue;
         }
-        switch (!words ? below(markers ? 15 : 11) : one_in(4) ? 0 : 10) {
+        if (with == WITH_SHORT_SIDES && one_in(words ? 6 : 3)) {
+            equate_short(s, holds);
+            continue;
+        }
+        switch (!words ? below(with >= WITH_MARKERS ? 15 : 11) : one_in(4) ? 0 : 10) {
         case 0:
         case 1:  equate_overlapping(s, holds); break;
         case 2:  equate_join(s, holds); break;
@@ -458,7 +581,9 @@ enum {
     NEVER_EARLY, NEVER_TIES, NEVER_OWN_TIES, NO_VARIABLES_ALWAYS, NO_VARIABLES_NEVER, NO_EQUATIONS, LATE_VARIABLE,
     WIDE_TWICE, WIDE_TWICE_IN_ONE, OVERLAPPING, FIXED_BY_CHAIN, ALL_FIXED, FILLS_DIFFER, FILLS_AT_END,
     JOIN_OF_JOIN, WIDE_SIDES, REPEATED_PAIR, HIGHER_ONLY, LOWER_ONLY, END_ONLY, TIED_NEIGHBOURS,
-    MARKER_SIDE, MARKER_ALIKE, MARKER_CUT, MARKER_JOINED, MARKER_BESIDE_FILL, MARKERS_EQUATED, FEATURES
+    MARKER_SIDE, MARKER_ALIKE, MARKER_CUT, MARKER_JOINED, MARKER_BESIDE_FILL, MARKERS_EQUATED,
+    SHORT_LEFT, SHORT_RIGHT, SHORT_BY_ONE, SHORT_BY_MANY, SHORT_OF_ITSELF, SHORT_MARKER,
+    TOP_TIE, TOP_ALREADY_0, TOP_FIXED_0, TOP_FIXED_1, TOP_ALREADY_1, TOP_NEVER_TIES, FEATURES
 };
 
 static const char *const feature_names[FEATURES] = {
@@ -473,6 +598,11 @@ static const char *const feature_names[FEATURES] = {
     "a border by a variable's end only", "neighbours tied to each other",
     "a marker as a side", "a marker of over one bit, all alike", "a cut of a marker", "a marker in a join",
     "a marker joined with a fill of its end's bit", "fixed bits on both sides, from a marker on one",
+    "a narrower left side", "a narrower right side", "a side narrower by one bit", "a side narrower by over 64 bits",
+    "sides of unequal width of one variable", "sides of unequal width, one a marker",
+    "a top bit that is tied to 0", "a top bit of a variable that is 0 already", "a fixed bit 0 among the top bits",
+    "never by a fixed bit 1 among the top bits", "never by a variable's top bit that is 1 already",
+    "never by a top bit, with ties before it",
 };
 
 /* What an answer says of places: for each its class, 0 and 1 for the fixed bits, and its variable. */
@@ -583,21 +713,91 @@ static inline void note_markers(const uint16_t *t, size_t r, const ref_table *fa
     }
 }
 
+/* The pairs of a table's equations, those of the equations before one first. */
+typedef struct {
+    uint16_t left[64 * REF_WIDTH], right[64 * REF_WIDTH];
+    size_t count;
+} pair_list;
+
+/* The ties among the first pairs, so many; SIZE_MAX if they leave no pattern. */
+static inline size_t ties_to(const pair_list *pairs, size_t count, size_t bits)
+{
+    static uint16_t parent[PLAIN_SOURCES];
+    return plain_ties(pairs->left, pairs->right, count, parent, bits);
+}
+
+/* Whether all variable bits of two rows, and there are some, are of one variable. */
+static inline bool one_variable(const uint16_t *a, size_t width_a, const uint16_t *b, size_t width_b,
+                                const size_t variable[ENUM_BITS])
+{
+    size_t seen = ENUM_BITS;
+    for (size_t i = 0; i < width_a + width_b; i++) {
+        uint16_t source = i < width_a ? a[i] : b[i - width_a];
+        if (source < PLAIN_FIXED)
+            continue;
+        if (seen != ENUM_BITS && seen != variable[source - PLAIN_FIXED])
+            return false;
+        seen = variable[source - PLAIN_FIXED];
+    }
+    return seen != ENUM_BITS;
+}
+
+/* What an equation of unequal sides has, where these are its top pairs: those from the first on, before the last. */
+static inline void note_top(const pair_list *pairs, size_t first, size_t last, size_t bits, bool has[FEATURES])
+{
+    size_t before = ties_to(pairs, first, bits);
+    for (size_t i = first; before != SIZE_MAX && i < last; i++) {
+        size_t after = ties_to(pairs, i + 1, bits);
+        bool fixed = pairs->left[i] < PLAIN_FIXED && pairs->right[i] < PLAIN_FIXED;
+        if (after == SIZE_MAX) {
+            has[fixed ? TOP_FIXED_1 : TOP_ALREADY_1] = true;
+            has[TOP_NEVER_TIES] |= before != 0;
+        } else if (after == before) {
+            has[fixed ? TOP_FIXED_0 : TOP_ALREADY_0] = true;
+        } else {
+            has[TOP_TIE] = true;
+        }
+        before = after;
+    }
+}
+
+/* What an equation of rows a and b has if its sides are of unequal width; its pairs are those from the first on. */
+static inline void note_short(const uint16_t *t, size_t a, size_t b, const ref_table *facts,
+                              uint16_t sources[][REF_WIDTH], const size_t variable[ENUM_BITS],
+                              const pair_list *pairs, size_t first, bool has[FEATURES])
+{
+    size_t left = facts->width[a], right = facts->width[b], by = left < right ? right - left : left - right;
+    if (by == 0)
+        return;
+    has[left < right ? SHORT_LEFT : SHORT_RIGHT] = true;
+    has[SHORT_BY_ONE] |= by == 1;
+    has[SHORT_BY_MANY] |= by > 64;
+    has[SHORT_OF_ITSELF] |= one_variable(sources[a], left, sources[b], right, variable);
+    has[SHORT_MARKER] |= t[4 * a] == LW_VALUE || t[4 * b] == LW_VALUE;
+    note_top(pairs, first, first + by, facts->bits, has);
+}
+
 /* What stands in a small table and in its answer. */
 static inline void note_features(const draft *d, const ref_table *facts, const enumeration *found, bool has[FEATURES])
 {
     static uint16_t sources[REF_ROWS][REF_WIDTH];
     static bool paired[PLAIN_FIXED + ENUM_BITS][PLAIN_FIXED + ENUM_BITS];
-    size_t last = 0;
+    static pair_list pairs;
+    size_t last = 0, variables = 0, variable[ENUM_BITS] = {0};
     const uint16_t *t = d->t.numbers;
 
     plain_sources(t, facts, sources);
     memset(paired, 0, sizeof paired);
+    pairs.count = 0;
     for (size_t r = 0; r < d->rows; r++) {
         const uint16_t *n = t + 4 * r;
         note_markers(t, r, facts, sources, has);
-        if (n[0] == LW_VARIABLE && last != 0)
-            has[LATE_VARIABLE] = true;
+        if (n[0] == LW_VARIABLE) {
+            has[LATE_VARIABLE] |= last != 0;
+            for (size_t i = 0; i < facts->width[r]; i++)
+                variable[facts->place[r] + i] = variables;
+            variables++;
+        }
         if (n[0] == LW_JOIN)
             has[JOIN_OF_JOIN] |= t[4 * n[1]] == LW_JOIN || t[4 * n[2]] == LW_JOIN;
         if (n[0] != LW_EQUATION)
@@ -607,11 +807,14 @@ static inline void note_features(const draft *d, const ref_table *facts, const e
         if (a[0] == LW_CUT && b[0] == LW_CUT && a[1] == b[1] && t[4 * a[1]] == LW_VARIABLE && a[2] != b[2])
             has[OVERLAPPING] |= a[3] <= b[2] && b[3] <= a[2];
         has[WIDE_SIDES] |= facts->width[n[1]] > 64;
-        for (size_t i = 0; i < facts->width[n[1]]; i++) {
-            size_t p = sources[n[1]][i], q = sources[n[2]][i];
+        size_t first = pairs.count;
+        pairs.count += plain_pairs(facts, sources, n[1], n[2], pairs.left + first, pairs.right + first);
+        for (size_t i = first; i < pairs.count; i++) {
+            size_t p = pairs.left[i], q = pairs.right[i];
             has[REPEATED_PAIR] |= p != q && paired[p][q];
             paired[p][q] = paired[q][p] = true;
         }
+        note_short(t, n[1], n[2], facts, sources, variable, &pairs, first, has);
     }
 
     uint32_t outcome = found->record.outcome;

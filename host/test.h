@@ -53,7 +53,7 @@ bool check(bool holds, where at, const char *format, ...);
 /* Whether two records are the same, field by field. */
 bool same_record(lw_record a, lw_record b);
 
-/* A record is as expected. */
+/* A record is as expected. None has the outcome 18: sides of unequal width are refused no more, nor is anything else so. */
 bool check_record(where at, const char *name, lw_record got, lw_record want);
 
 /* Constants of the header are the specification's numbers. */

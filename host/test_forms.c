@@ -137,6 +137,11 @@ static void test_leaves(void)
     ACCEPT(TABLE(VARIABLE(8), CUT(0, 6, 3), CUT(0, 4, 1), EQUATION(1, 2)), 1, 4, FORM(PART(0, 6, 3)));
     ACCEPT(TABLE(VARIABLE(8), CUT(0, 6, 3), CUT(0, 4, 1), EQUATION(1, 2)), 2, 4, FORM(PART(0, 4, 1)));
     ACCEPT(TABLE(VARIABLE(2), FILL(1, 2), EQUATION(0, 1), JOIN(0, 1)), 3, 4, FORM(PART(0, 1, 0), ONES(2)));
+
+    /* Nor are sides of unequal width filled in their forms, whichever is the narrower. */
+    ACCEPT(TABLE(VARIABLE(5), VARIABLE(2), EQUATION(0, 1)), 0, 5, FORM(PART(0, 4, 0)));
+    ACCEPT(TABLE(VARIABLE(5), VARIABLE(2), EQUATION(0, 1)), 1, 2, FORM(PART(1, 1, 0)));
+    ACCEPT(TABLE(VARIABLE(5), VARIABLE(2), EQUATION(1, 0), JOIN(1, 0)), 3, 7, FORM(PART(1, 1, 0), PART(0, 4, 0)));
 }
 
 /* Fills side by side. */
@@ -613,7 +618,7 @@ static void test_limits(void)
     ACCEPT(ALL(t), 511, 511, form, 4 * 256);
 }
 
-/* Refusals 11 to 18 and 40. */
+/* Refusals 11 to 17 and 40. */
 static void test_table_refusals(void)
 {
     table t;
@@ -739,7 +744,7 @@ const test_list tests = {
         {.name = "cuts", .run = test_cuts},
         {.name = "widths 1 to 1024", .run = test_widths},
         {.name = "long forms and deep tables", .run = test_limits},
-        {.name = "refusals 11 to 18, 40", .run = test_table_refusals},
+        {.name = "refusals 11 to 17, 40", .run = test_table_refusals},
         {.name = "refusals 30 and 32", .run = test_call_refusals},
         {.name = "NULL with length 0", .run = test_null},
         {.name = "random tables against the reference", .run_random = test_random_forms},

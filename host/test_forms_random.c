@@ -185,7 +185,7 @@ static lw_record test_random_call(unsigned long number, size_t seams[SEAMS])
 
 void test_random_forms(unsigned long tables)
 {
-    static const uint32_t outcomes[] = {0, 11, 12, 13, 14, 15, 40, 16, 17, 18, 30, 32};
+    static const uint32_t outcomes[] = {0, 11, 12, 13, 14, 15, 40, 16, 17, 30, 32};
     static const uint32_t limits[] = {1, 2, 3, 10, 100, 1024};
     unsigned long seen[41] = {0}, forms[6] = {0};
     size_t seams[SEAMS] = {0};

@@ -36,7 +36,7 @@ bool same_record(lw_record a, lw_record b)
 
 bool check_record(where at, const char *name, lw_record got, lw_record want)
 {
-    return check(same_record(got, want), at,
+    return check(same_record(got, want) && got.outcome != 18, at, /* 18 was a refusal once; no call yields it */
                  "%s: record %u %u %u %u %u %u, expected %u %u %u %u %u %u", name,
                  got.outcome, got.pieces, got.fresh, got.free, got.ties, got.row,
                  want.outcome, want.pieces, want.fresh, want.free, want.ties, want.row);

@@ -18,20 +18,6 @@ enum {
     ALL_FILLINGS = 10 /* fresh bits of which all fillings are tried */
 };
 
-/* Whether the pattern meets the table, by the reference's values of both sides of each equation. */
-static bool meets(const uint16_t *numbers, const ref_table *facts, const uint8_t *pattern)
-{
-    static uint8_t values[REF_ROWS][REF_WIDTH];
-
-    ref_values(numbers, facts, facts->rows, pattern, values);
-    for (size_t r = 0; r < facts->rows; r++) {
-        const uint16_t *n = numbers + 4 * r;
-        if (n[0] == LW_EQUATION && memcmp(values[n[1]], values[n[2]], facts->width[n[1]]) != 0)
-            return false;
-    }
-    return true;
-}
-
 /* A table that lw_solve has solved. */
 typedef struct {
     ref_table facts;
@@ -48,7 +34,7 @@ static bool solve(const char *name, const draft *d, solved_table *s)
     if (!check(accepted.outcome == 0, HERE, "%s: refused %u, row %u", name, accepted.outcome, accepted.row))
         return false;
     s->record = lw_solve(d->t.numbers, d->t.len, s->answer, LW_SOLVER_NUMBERS, work, LW_SOLVER_NUMBERS);
-    if (s->record.outcome != 2)
+    if (!check(s->record.outcome <= 2, HERE, "%s: refused %u", name, s->record.outcome) || s->record.outcome != 2)
         return false;
     size_t len = 4 * (size_t)s->record.pieces;
     return check(plain_faults(s->answer, len) == 0 && plain_fresh_bits(s->answer, len) == s->record.free &&
@@ -68,7 +54,7 @@ static void test_filling(const char *name, const draft *d, const solved_table *s
     memset(pattern, 9, bits); /* from here on it is the library's */
     check_record(HERE, name, lw_make_pattern(s->answer, len, fresh, s->record.free, pattern, bits),
                  (lw_record){.free = (uint32_t)bits});
-    if (!check(meets(d->t.numbers, &s->facts, pattern), HERE, "%s: a pattern does not meet the table",
+    if (!check(ref_meets(d->t.numbers, &s->facts, pattern), HERE, "%s: a pattern does not meet the table",
                name) && checks_failed == 1) {
         print_table(d->t.numbers, d->t.len);
         print_answer(s->answer, len);

@@ -185,10 +185,25 @@ static void test_marker(void)
     check(memcmp(answer, fills, sizeof fills) == 0, HERE, "answer");
 }
 
+/* Sides of unequal width as records, in either order: the narrower word has zeros at its high end. */
+static void test_short(void)
+{
+    static const uint16_t rows_of_answer[] = {0, 0, 2, 0, 0, 2, 3, 0, 1, 2, 3, 0};
+    static uint16_t answer[16384], work[16384];
+
+    for (uint16_t left = 0; left < 2; left++) {
+        const lw_row rows[] = {{LW_VARIABLE, 5, 0, 0}, {LW_VARIABLE, 3, 0, 0}, {LW_EQUATION, left, left ^ 1, 0}};
+        memset(answer, 9, sizeof answer);
+        check_record(HERE, "solve", lw_solve_rows(rows, 3, answer, 16384, work, 16384),
+                     (lw_record){.outcome = 2, .pieces = 3, .fresh = 1, .free = 3, .ties = 5});
+        check(memcmp(answer, rows_of_answer, sizeof rows_of_answer) == 0, HERE, "answer");
+    }
+}
+
 /* Each outcome was had. */
 static void test_outcomes(void)
 {
-    static const unsigned seen[] = {0, 1, 2, 10, 11, 12, 13, 14, 15, 40, 16, 17, 18, 30, 31, 32};
+    static const unsigned seen[] = {0, 1, 2, 10, 11, 12, 13, 14, 15, 40, 16, 17, 30, 31, 32};
 
     printf("outcomes:");
     for (unsigned i = 0; i < COUNT(outcomes); i++)
@@ -197,6 +212,7 @@ static void test_outcomes(void)
     printf("\n");
     for (size_t i = 0; i < COUNT(seen); i++)
         check(outcomes[seen[i]] != 0, HERE, "outcome %u did not occur", seen[i]);
+    check(outcomes[18] == 0, HERE, "outcome 18 occurred");
 }
 
 const test_list tests = {
@@ -204,7 +220,8 @@ const test_list tests = {
     .groups = {
         {.name = "no records", .run = test_null},
         {.name = "a marker", .run = test_marker},
-        {.name = "refusals 11 to 18, 40", .run = test_refusals},
+        {.name = "sides of unequal width", .run = test_short},
+        {.name = "refusals 11 to 17, 40", .run = test_refusals},
         {.name = "long runs", .run = test_long},
         {.name = "random tables", .run_random = test_random},
         {.name = "outcomes", .run = test_outcomes},

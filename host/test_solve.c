@@ -126,7 +126,7 @@ static void call(where at, const char *name, const uint16_t *numbers, size_t len
     }
 }
 
-/* What a solve yields and writes, 10 to 18 and 40 by the reference and the rest by the plain solver. */
+/* What a solve yields and writes, 10 to 17 and 40 by the reference and the rest by the plain solver. */
 static lw_record expected(const uint16_t *numbers, size_t len, size_t answer_len, size_t work_len,
                           uint16_t answer[LEAST])
 {
@@ -405,6 +405,201 @@ static void test_markers(void)
            SOLVED(6, 1, 2, 6), ANSWER(ONES(0, 1), ZEROS(0, 2), ONES(0, 1), ZEROS(1, 1), ONES(1, 1), FRESH(1, 2, 0)));
 }
 
+/* The table with an equation of rows a and b behind it, and with its sides exchanged, has this record and this answer. */
+static void accept_short(where at, const uint16_t *numbers, size_t len, size_t a, size_t b, lw_record want,
+                         const uint16_t *answer, size_t answer_len)
+{
+    table t = {.len = len};
+    memcpy(t.numbers, numbers, len * sizeof *numbers);
+    add(&t, EQUATION(a, b));
+    accept(at, ALL(t), want, answer, answer_len);
+    t.len = len;
+    add(&t, EQUATION(b, a));
+    accept(at, ALL(t), want, answer, answer_len);
+}
+
+#define ACCEPT_SHORT(...) accept_short(HERE, __VA_ARGS__)
+
+/* Sides of unequal width: the narrower one has zeros at its high end. */
+static void test_short(void)
+{
+    /* Top bits that are free: each of their pairs is a tie. */
+    ACCEPT_SHORT(TABLE(VARIABLE(4), VARIABLE(2)), 0, 1, SOLVED(3, 1, 2, 4),
+                 ANSWER(ZEROS(0, 2), FRESH(0, 2, 0), FRESH(1, 2, 0)));
+    ACCEPT_SHORT(TABLE(VARIABLE(1), VARIABLE(2)), 0, 1, SOLVED(3, 1, 1, 2),
+                 ANSWER(FRESH(0, 1, 0), ZEROS(1, 1), FRESH(1, 1, 0)));
+    ACCEPT_SHORT(TABLE(VARIABLE(8), CUT(0, 7, 4), VARIABLE(3)), 1, 2, SOLVED(4, 2, 7, 4),
+                 ANSWER(ZEROS(0, 1), FRESH(0, 3, 0), FRESH(0, 4, 1), FRESH(1, 3, 0)));
+    ACCEPT_SHORT(TABLE(VARIABLE(2), VARIABLE(2), JOIN(0, 1), VARIABLE(3)), 2, 3, SOLVED(5, 2, 3, 4),
+                 ANSWER(ZEROS(0, 1), FRESH(0, 1, 0), FRESH(1, 2, 1), FRESH(2, 1, 0), FRESH(2, 2, 1)));
+    ACCEPT_SHORT(TABLE(VARIABLE(2), JOIN(0, 0)), 0, 1, SOLVED(1, 0, 0, 2), ANSWER(ZEROS(0, 2)));
+
+    /* Top bits fixed to 0 by an equation before it, all of them or one, and by one behind it. */
+    ACCEPT_SHORT(TABLE(VARIABLE(4), VARIABLE(2), CUT(0, 3, 2), FILL(0, 2), EQUATION(2, 3)), 0, 1, SOLVED(3, 1, 2, 4),
+                 ANSWER(ZEROS(0, 2), FRESH(0, 2, 0), FRESH(1, 2, 0)));
+    ACCEPT_SHORT(TABLE(VARIABLE(4), VARIABLE(2), CUT(0, 2, 2), FILL(0, 1), EQUATION(2, 3)), 0, 1, SOLVED(3, 1, 2, 4),
+                 ANSWER(ZEROS(0, 2), FRESH(0, 2, 0), FRESH(1, 2, 0)));
+    ACCEPT_SHORT(TABLE(VARIABLE(4), VARIABLE(2), FILL(0, 2), CUT(0, 3, 2), EQUATION(0, 1)), 3, 2, SOLVED(3, 1, 2, 4),
+                 ANSWER(ZEROS(0, 2), FRESH(0, 2, 0), FRESH(1, 2, 0)));
+
+    /* A top bit fixed to 1: never, the equation's own ties not counted. */
+    ACCEPT_SHORT(TABLE(VARIABLE(4), VARIABLE(2), CUT(0, 3, 3), FILL(1, 1), EQUATION(2, 3)), 0, 1, NEVER(1, 5), NO_ANSWER);
+    ACCEPT_SHORT(TABLE(VARIABLE(4), VARIABLE(2), CUT(0, 2, 2), FILL(1, 1), EQUATION(2, 3)), 0, 1, NEVER(1, 5), NO_ANSWER);
+    ACCEPT_SHORT(TABLE(VARIABLE(4), VARIABLE(2), CUT(0, 1, 1), FILL(1, 1), EQUATION(2, 3)), 0, 1, SOLVED(5, 1, 1, 5),
+                 ANSWER(ZEROS(0, 2), ONES(0, 1), FRESH(0, 1, 0), ONES(1, 1), FRESH(1, 1, 0)));
+
+    /* Fills of either bit, wider and narrower than a word, and against each other. */
+    ACCEPT_SHORT(TABLE(VARIABLE(2), FILL(1, 3)), 0, 1, NEVER(0, 2), NO_ANSWER);
+    ACCEPT_SHORT(TABLE(VARIABLE(2), FILL(0, 3)), 0, 1, SOLVED(1, 0, 0, 2), ANSWER(ZEROS(0, 2)));
+    ACCEPT_SHORT(TABLE(VARIABLE(3), FILL(1, 2)), 0, 1, SOLVED(2, 0, 0, 3), ANSWER(ZEROS(0, 1), ONES(0, 2)));
+    ACCEPT_SHORT(TABLE(VARIABLE(3), FILL(0, 2)), 0, 1, SOLVED(1, 0, 0, 3), ANSWER(ZEROS(0, 3)));
+    ACCEPT_SHORT(TABLE(FILL(0, 4), FILL(0, 1)), 0, 1, ALWAYS(0), NO_ANSWER);
+    ACCEPT_SHORT(TABLE(FILL(1, 4), FILL(1, 1)), 0, 1, NEVER(0, 2), NO_ANSWER);
+    ACCEPT_SHORT(TABLE(FILL(0, 4), FILL(1, 1)), 0, 1, NEVER(0, 2), NO_ANSWER);
+    ACCEPT_SHORT(TABLE(FILL(1, 4), FILL(0, 1)), 0, 1, NEVER(0, 2), NO_ANSWER);
+    ACCEPT_SHORT(TABLE(VARIABLE(3), FILL(0, 4), FILL(0, 1)), 1, 2, ALWAYS(3), NO_ANSWER);
+
+    /* Fixed bits and free ones side by side at the top. */
+    ACCEPT_SHORT(TABLE(VARIABLE(2), FILL(0, 2), JOIN(1, 0), VARIABLE(3)), 2, 3, SOLVED(3, 1, 2, 3),
+                 ANSWER(FRESH(0, 2, 0), ZEROS(1, 1), FRESH(1, 2, 0)));
+    ACCEPT_SHORT(TABLE(VARIABLE(2), FILL(0, 1), JOIN(0, 1), VARIABLE(1)), 2, 3, SOLVED(2, 0, 0, 3),
+                 ANSWER(ZEROS(0, 2), ZEROS(1, 1)));
+    ACCEPT_SHORT(TABLE(VARIABLE(2), FILL(1, 1), JOIN(0, 1), VARIABLE(1)), 2, 3, SOLVED(2, 0, 0, 3),
+                 ANSWER(ZEROS(0, 2), ONES(1, 1)));
+    ACCEPT_SHORT(TABLE(VARIABLE(2), FILL(1, 1), JOIN(1, 0), VARIABLE(2)), 2, 3, NEVER(0, 4), NO_ANSWER);
+
+    /* Both sides of one variable: its low bits, its high bits, one bit of it. */
+    ACCEPT_SHORT(TABLE(VARIABLE(3), CUT(0, 1, 0)), 1, 0, SOLVED(2, 1, 2, 1), ANSWER(ZEROS(0, 1), FRESH(0, 2, 0)));
+    ACCEPT_SHORT(TABLE(VARIABLE(3), CUT(0, 2, 1)), 1, 0, SOLVED(1, 0, 0, 3), ANSWER(ZEROS(0, 3)));
+    ACCEPT_SHORT(TABLE(VARIABLE(4), CUT(0, 0, 0)), 1, 0, SOLVED(2, 1, 1, 3), ANSWER(ZEROS(0, 3), FRESH(0, 1, 0)));
+    ACCEPT_SHORT(TABLE(VARIABLE(4), CUT(0, 3, 3)), 1, 0, SOLVED(1, 0, 0, 4), ANSWER(ZEROS(0, 4)));
+    ACCEPT_SHORT(TABLE(VARIABLE(4), CUT(0, 2, 1)), 1, 0, SOLVED(1, 0, 0, 4), ANSWER(ZEROS(0, 4)));
+    ACCEPT_SHORT(TABLE(VARIABLE(6), CUT(0, 5, 3), CUT(0, 1, 0)), 1, 2, SOLVED(4, 2, 3, 3),
+                 ANSWER(ZEROS(0, 1), FRESH(0, 2, 0), FRESH(0, 1, 1), FRESH(0, 2, 0)));
+
+    /* Never by the top bits, behind ties of earlier equations; a top bit tied to one that is 1. */
+    ACCEPT_SHORT(TABLE(VARIABLE(3), VARIABLE(3), VARIABLE(1), FILL(1, 1), CUT(1, 2, 2), EQUATION(0, 1), EQUATION(4, 3)),
+                 0, 2, NEVER(4, 7), NO_ANSWER);
+    ACCEPT_SHORT(TABLE(VARIABLE(3), VARIABLE(2), VARIABLE(1), FILL(1, 1), EQUATION(0, 1), CUT(1, 1, 1), EQUATION(5, 3)),
+                 1, 2, NEVER(4, 7), NO_ANSWER);
+    ACCEPT_SHORT(TABLE(VARIABLE(4), VARIABLE(1), FILL(1, 1), CUT(0, 0, 0), EQUATION(3, 2), CUT(0, 1, 0)), 0, 1,
+                 SOLVED(3, 0, 0, 5), ANSWER(ZEROS(0, 3), ONES(0, 1), ONES(1, 1)));
+
+    /* The same words once more, the sides exchanged: no ties are added. And behind a never. */
+    ACCEPT(TABLE(VARIABLE(4), VARIABLE(2), EQUATION(0, 1), EQUATION(1, 0), EQUATION(0, 1)), SOLVED(3, 1, 2, 4),
+           ANSWER(ZEROS(0, 2), FRESH(0, 2, 0), FRESH(1, 2, 0)));
+    ACCEPT(TABLE(FILL(0, 1), FILL(1, 1), EQUATION(0, 1), FILL(0, 2), EQUATION(0, 3)), NEVER(0, 2), NO_ANSWER);
+
+    /* Passed along: words of 8, 4 and 2 bits, each the next; and a word of 4 that is both of one bit and of three. */
+    ACCEPT(TABLE(VARIABLE(8), VARIABLE(4), VARIABLE(2), EQUATION(0, 1), EQUATION(1, 2)), SOLVED(5, 1, 2, 12),
+           ANSWER(ZEROS(0, 6), FRESH(0, 2, 0), ZEROS(1, 2), FRESH(1, 2, 0), FRESH(2, 2, 0)));
+    ACCEPT(TABLE(VARIABLE(8), VARIABLE(4), VARIABLE(2), EQUATION(1, 2), EQUATION(1, 0)), SOLVED(5, 1, 2, 12),
+           ANSWER(ZEROS(0, 6), FRESH(0, 2, 0), ZEROS(1, 2), FRESH(1, 2, 0), FRESH(2, 2, 0)));
+    ACCEPT(TABLE(VARIABLE(1), VARIABLE(4), VARIABLE(3), EQUATION(0, 1), EQUATION(1, 2)), SOLVED(5, 1, 1, 7),
+           ANSWER(FRESH(0, 1, 0), ZEROS(1, 3), FRESH(1, 1, 0), ZEROS(2, 2), FRESH(2, 1, 0)));
+
+    /* Zeros joined by hand give the same. */
+    ACCEPT(TABLE(VARIABLE(4), VARIABLE(2), FILL(0, 2), JOIN(2, 1), EQUATION(0, 3)), SOLVED(3, 1, 2, 4),
+           ANSWER(ZEROS(0, 2), FRESH(0, 2, 0), FRESH(1, 2, 0)));
+    ACCEPT_SHORT(TABLE(VARIABLE(4), VARIABLE(2), FILL(0, 2), JOIN(2, 1), EQUATION(0, 3)), 0, 1, SOLVED(3, 1, 2, 4),
+                 ANSWER(ZEROS(0, 2), FRESH(0, 2, 0), FRESH(1, 2, 0)));
+    ACCEPT_SHORT(TABLE(VARIABLE(2), FILL(0, 3), JOIN(1, 0)), 2, 0, ALWAYS(2), NO_ANSWER);
+    ACCEPT_SHORT(TABLE(VARIABLE(2), FILL(0, 3), JOIN(0, 1)), 2, 0, SOLVED(1, 0, 0, 2), ANSWER(ZEROS(0, 2)));
+}
+
+/* Markers narrower and wider than the other side: equal as numbers. */
+static void test_short_markers(void)
+{
+    ACCEPT_SHORT(TABLE(VARIABLE(4), MARKER(6, 3)), 0, 1, SOLVED(3, 0, 0, 4),
+                 ANSWER(ZEROS(0, 1), ONES(0, 2), ZEROS(0, 1)));
+    ACCEPT_SHORT(TABLE(VARIABLE(2), MARKER(1, 4)), 0, 1, SOLVED(2, 0, 0, 2), ANSWER(ZEROS(0, 1), ONES(0, 1)));
+    ACCEPT_SHORT(TABLE(VARIABLE(2), MARKER(4, 3)), 0, 1, NEVER(0, 2), NO_ANSWER);
+    ACCEPT_SHORT(TABLE(VARIABLE(2), MARKER(0x8001, 16)), 0, 1, NEVER(0, 2), NO_ANSWER);
+    ACCEPT_SHORT(TABLE(MARKER(6, 3), MARKER(6, 16)), 0, 1, ALWAYS(0), NO_ANSWER);
+    ACCEPT_SHORT(TABLE(MARKER(6, 3), MARKER(7, 16)), 0, 1, NEVER(0, 2), NO_ANSWER);
+    ACCEPT_SHORT(TABLE(MARKER(6, 3), MARKER(14, 4)), 0, 1, NEVER(0, 2), NO_ANSWER);
+    ACCEPT_SHORT(TABLE(MARKER(7, 4), FILL(1, 3)), 0, 1, ALWAYS(0), NO_ANSWER);
+    ACCEPT_SHORT(TABLE(VARIABLE(8), MARKER(5, 3)), 0, 1, SOLVED(4, 0, 0, 8),
+                 ANSWER(ZEROS(0, 5), ONES(0, 1), ZEROS(0, 1), ONES(0, 1)));
+
+    /* Each width of a marker of 1 against words of 1 to 16 bits, and of the greatest value of a width. */
+    for (size_t width = 1; width <= 16; width++)
+        for (size_t marker = 1; marker <= 16; marker++) {
+            table t = {.len = 0};
+            uint16_t w = (uint16_t)width, m = (uint16_t)marker;
+            add(&t, VARIABLE(width));
+            add(&t, MARKER(1, marker));
+            add(&t, EQUATION(0, 1));
+            if (width == 1)
+                ACCEPT(ALL(t), SOLVED(1, 0, 0, 1), ANSWER(ONES(0, 1)));
+            else
+                ACCEPT(ALL(t), SOLVED(2, 0, 0, w), ANSWER(ZEROS(0, w - 1), ONES(0, 1)));
+            t.numbers[4 + 1] = (uint16_t)((1U << marker) - 1);
+            if (width < marker)
+                ACCEPT(ALL(t), NEVER(0, 2), NO_ANSWER);
+            else if (width == marker)
+                ACCEPT(ALL(t), SOLVED(1, 0, 0, w), ANSWER(ONES(0, w)));
+            else
+                ACCEPT(ALL(t), SOLVED(2, 0, 0, w), ANSWER(ZEROS(0, w - m), ONES(0, m)));
+        }
+}
+
+/* Sides of unequal width up to 1024 bits, and as many as there may be. */
+static void test_short_limits(void)
+{
+    static uint16_t answer[LEAST];
+    table t;
+
+    ACCEPT_SHORT(TABLE(VARIABLE(1024), VARIABLE(1)), 0, 1, SOLVED(3, 1, 1, 1024),
+                 ANSWER(ZEROS(0, 1023), FRESH(0, 1, 0), FRESH(1, 1, 0)));
+    ACCEPT_SHORT(TABLE(VARIABLE(1024), VARIABLE(1023)), 0, 1, SOLVED(3, 1, 1023, 1024),
+                 ANSWER(ZEROS(0, 1), FRESH(0, 1023, 0), FRESH(1, 1023, 0)));
+    ACCEPT_SHORT(TABLE(FILL(0, 1024), VARIABLE(1)), 0, 1, SOLVED(1, 0, 0, 1), ANSWER(ZEROS(0, 1)));
+    ACCEPT_SHORT(TABLE(FILL(1, 1024), VARIABLE(1)), 0, 1, NEVER(0, 2), NO_ANSWER);
+    ACCEPT_SHORT(TABLE(FILL(1, 1), VARIABLE(1024)), 0, 1, SOLVED(2, 0, 0, 1024), ANSWER(ZEROS(0, 1023), ONES(0, 1)));
+    ACCEPT_SHORT(TABLE(VARIABLE(1024), CUT(0, 1022, 0)), 0, 1, SOLVED(2, 1, 1023, 1),
+                 ANSWER(ZEROS(0, 1), FRESH(0, 1023, 0)));
+    ACCEPT_SHORT(TABLE(VARIABLE(1024), CUT(0, 1023, 1)), 0, 1, SOLVED(1, 0, 0, 1024), ANSWER(ZEROS(0, 1024)));
+
+    /* Each width against 1024, a variable's low bits with all of it: the bits above them are 0. */
+    for (uint16_t w = 1; w < 1024; w++) {
+        const uint16_t left = w % 2, numbers[] = {VARIABLE(1024), CUT(0, w - 1, 0), EQUATION(left, 1 - left)};
+        const uint16_t rows[] = {ZEROS(0, 1024 - w), FRESH(0, w, 0)};
+        check_others(HERE, "low bits", numbers, COUNT(numbers), SOLVED(2, 1, w, 1024U - w), rows);
+        call(HERE, "low bits", numbers, COUNT(numbers), NULL, LEAST, LEAST, SOLVED(2, 1, w, 1024U - w), rows);
+    }
+
+    /* 4 words of 1024 bits, each of them 1 as a number: 8 fills. */
+    t.len = 0;
+    for (size_t v = 0; v < 4; v++)
+        add(&t, VARIABLE(1024));
+    add(&t, FILL(1, 1));
+    for (size_t v = 0; v < 4; v++)
+        add(&t, EQUATION(v % 2 == 0 ? v : 4, v % 2 == 0 ? 4 : v));
+    ACCEPT(ALL(t), SOLVED(8, 0, 0, 4096), ANSWER(ZEROS(0, 1023), ONES(0, 1), ZEROS(1, 1023), ONES(1, 1),
+                                                 ZEROS(2, 1023), ONES(2, 1), ZEROS(3, 1023), ONES(3, 1)));
+
+    /* The same with the high bit of the last word 1 before it: never at the last equation, behind 3 * 1024 + 1 ties. */
+    t.len -= 4;
+    add(&t, CUT(3, 1023, 1023));
+    add(&t, EQUATION(8, 4));
+    add(&t, EQUATION(3, 4));
+    ACCEPT(ALL(t), NEVER(3 * 1024 + 1, 10), NO_ANSWER);
+
+    /* 64 words of 1 to 64 bits and 64 equations: each with the next, and the last with the first. All have one bit. */
+    t.len = 0;
+    for (size_t v = 0; v < 64; v++)
+        add(&t, VARIABLE(v + 1));
+    for (size_t v = 0; v < 64; v++)
+        add(&t, EQUATION(v, (v + 1) % 64));
+    for (uint16_t v = 0, rows = 0; v < 64; v++) {
+        if (v != 0)
+            memcpy(answer + 4 * rows++, (const uint16_t[]){ZEROS(v, v)}, 8);
+        memcpy(answer + 4 * rows++, (const uint16_t[]){FRESH(v, 1, 0)}, 8);
+    }
+    ACCEPT(ALL(t), SOLVED(127, 1, 1, 64 * 65 / 2 - 1), answer, 4 * 127);
+}
+
 /* Ties, and the row at which no pattern is left. */
 static void test_ties(void)
 {
@@ -554,7 +749,7 @@ static void test_memory(void)
         }
 }
 
-/* Refusals 11 to 18 and 40. */
+/* Refusals 11 to 17 and 40. */
 static void test_table_refusals(void)
 {
     table t;
@@ -703,6 +898,12 @@ static size_t some_length(void)
     return LEAST + (one_in(2) ? 0 : one_in(8) ? below(LONGEST - LEAST) : below(70));
 }
 
+/* Sides of unequal width in half of the tables. */
+static extent some_extent(void)
+{
+    return one_in(2) ? WITH_SHORT_SIDES : one_in(2) ? WITH_MARKERS : EQUAL_SIDES;
+}
+
 /* The library and the plain solver against the enumeration, on one small table. */
 static void test_small_table(unsigned long number, unsigned long outcomes[3], unsigned long features[FEATURES],
                              unsigned long met[ENUM_BITS + 1])
@@ -714,7 +915,7 @@ static void test_small_table(unsigned long number, unsigned long outcomes[3], un
     bool has[FEATURES] = {false};
     char name[64];
 
-    make_small(&s, !one_in(3));
+    make_small(&s, some_extent());
     snprintf(name, sizeof name, "small table %lu", number);
     lw_record record = ref_check(s.d.t.numbers, s.d.t.len, &facts);
     if (!check(record.outcome == 0 && facts.bits <= ENUM_BITS, HERE, "%s: refused %u, row %u", name,
@@ -790,7 +991,7 @@ static uint32_t test_damaged_table(unsigned long number)
     char name[64];
 
     if (one_in(2)) {
-        make_small(&s, !one_in(3));
+        make_small(&s, some_extent());
         d = &s.d;
     } else if (one_in(20)) {
         make_limit(d);
@@ -817,7 +1018,7 @@ static uint32_t test_damaged_table(unsigned long number)
 
 static void test_damaged(unsigned long small_tables)
 {
-    static const uint32_t outcomes[] = {0, 1, 2, 10, 11, 12, 13, 14, 15, 40, 16, 17, 18};
+    static const uint32_t outcomes[] = {0, 1, 2, 10, 11, 12, 13, 14, 15, 40, 16, 17};
     unsigned long seen[41] = {0}, tables = small_tables / 5;
 
     for (unsigned long i = 0; i < tables; i++)
@@ -832,16 +1033,38 @@ static void test_damaged(unsigned long small_tables)
 
 /* Large random tables. */
 
+/* Sides of unequal width that occur in them. */
+enum { LEFT_SHORT, RIGHT_SHORT, BY_ONE, BY_HUNDREDS, TO_1024, TO_1024_BY_ONE, ONE_TO_1024, SHORTS };
+
+static const char *const short_names[SHORTS] = {
+    "a narrower left side", "a narrower right side", "a side narrower by one bit", "a side narrower by over 500 bits",
+    "a narrower side and one of 1024 bits", "sides of 1023 and 1024 bits", "sides of one and 1024 bits",
+};
+
+static void note_widths(size_t left, size_t right, bool has[SHORTS])
+{
+    size_t wider = left < right ? right : left, narrower = left < right ? left : right;
+    if (wider == narrower)
+        return;
+    has[left < right ? LEFT_SHORT : RIGHT_SHORT] = true;
+    has[BY_ONE] |= wider == narrower + 1;
+    has[BY_HUNDREDS] |= wider > narrower + 500;
+    has[TO_1024] |= wider == 1024;
+    has[TO_1024_BY_ONE] |= wider == 1024 && narrower == 1023;
+    has[ONE_TO_1024] |= wider == 1024 && narrower == 1;
+}
+
 static void test_large(void)
 {
     static plan p;
     static uint16_t answer[LEAST];
     unsigned long outcomes[3] = {0}, full = 0, wide = 0, chained = 0, early = 0, many = 0, bits_full = 0, marked = 0;
+    unsigned long shorter[SHORTS] = {0};
     char name[64];
 
     for (unsigned long i = 0; i < LARGE_TABLES; i++) {
         size_t answer_len = some_length(), work_len = some_length(), widest = 0, last = 0, cuts = 0, longest = 0;
-        bool marker = false;
+        bool marker = false, has[SHORTS] = {false};
         make_large(&p);
         lw_record want = expected(ALL(p.d.t), answer_len, work_len, answer);
         snprintf(name, sizeof name, "large table %lu", i);
@@ -857,6 +1080,7 @@ static void test_large(void)
             if (n[0] == LW_EQUATION) {
                 widest = p.d.width[n[1]] > widest ? p.d.width[n[1]] : widest;
                 last = r;
+                note_widths(p.d.width[n[1]], p.d.width[n[2]], has);
             }
         }
         outcomes[want.outcome]++;
@@ -867,15 +1091,21 @@ static void test_large(void)
         many += want.pieces >= 1000;
         bits_full += p.d.bits == 4096;
         marked += marker;
+        for (int k = 0; k < SHORTS; k++)
+            shorter[k] += has[k];
     }
     printf("%d large tables: always %lu, never %lu, solved %lu\n", LARGE_TABLES, outcomes[0], outcomes[1], outcomes[2]);
     printf("    of 4096 variable bits %lu, of 64 equations %lu, with an equation of 1024 bits %lu,\n"
            "    with a chain of 100 cuts %lu, never before the last equation %lu, of 1000 pieces %lu, with a marker %lu\n",
            bits_full, full, wide, chained, early, many, marked);
+    for (int k = 0; k < SHORTS; k++)
+        printf("    with %-45s %lu\n", short_names[k], shorter[k]);
     for (size_t i = 0; i < 3; i++)
         check(10 * outcomes[i] >= LARGE_TABLES, HERE, "outcome %zu is rare", i);
     check(bits_full != 0 && full != 0 && wide != 0 && chained != 0 && early != 0 && many != 0 && marked != 0, HERE,
           "some kind of large table does not occur");
+    for (int k = 0; k < SHORTS; k++)
+        check(shorter[k] != 0, HERE, "no large table has %s", short_names[k]);
 }
 
 const test_list tests = {
@@ -887,10 +1117,13 @@ const test_list tests = {
         {.name = "fresh pieces", .run = test_pieces},
         {.name = "fixed bits", .run = test_fills},
         {.name = "markers", .run = test_markers},
+        {.name = "sides of unequal width", .run = test_short},
+        {.name = "markers of another width", .run = test_short_markers},
+        {.name = "unequal sides up to 1024 bits", .run = test_short_limits},
         {.name = "ties, and never", .run = test_ties},
         {.name = "largest answers and tables", .run = test_limits},
         {.name = "refusal 10", .run = test_memory},
-        {.name = "refusals 11 to 18, 40", .run = test_table_refusals},
+        {.name = "refusals 11 to 17, 40", .run = test_table_refusals},
         {.name = "NULL with length 0", .run = test_null},
         {.name = "right sides worked by hand", .run = test_right_side},
         {.name = "random right sides", .run = test_random_parts},

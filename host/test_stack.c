@@ -236,6 +236,16 @@ static void solve_cuts_and_joins_of_marker(call *c)
     shift(c, 255);
 }
 
+/* The same for joins of a marker, the second side without its two high bits. */
+static void solve_short(call *c)
+{
+    left_joins_of_marker(c);
+    c->table_len = 4 * 509;
+    add(c, LW_CUT, 508, 507, 1);
+    add(c, LW_CUT, 508, 505, 0);
+    add(c, LW_EQUATION, 509, 510, 0);
+}
+
 /* 64 variables of 64 bits, joined to four words of 1024 bits, and so many equations between these. */
 static void words(call *c, size_t equations)
 {
@@ -607,6 +617,7 @@ static const test solves[] = {
     {"joins of a word's bit, on the right", search_right_joins, LW_ALWAYS, 32},
     {"joins of a marker's bit, on the left", search_left_joins_of_marker, LW_ALWAYS, 16},
     {"joins of a marker's bit, on the right", search_right_joins_of_marker, LW_ALWAYS, 16},
+    {"sides of unequal width", solve_short, LW_NEVER, 0},
     {"64 equations of 1024 bits", solve_words, LW_SOLVED, 1024},
     {"never at the last of 64 equations", solve_never, LW_NEVER, 0},
     {"refused 10", short_work, LW_REFUSED_MEMORY, 0},

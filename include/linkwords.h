@@ -35,7 +35,10 @@
   Every row but an equation has a width of 1 to 1024 bits: a join has the sum
   of the widths of its two sides, and a cut has high - low + 1. A marker has a
   width of 1 to 16 bits, and its value is below 2 to the width. An equation has
-  no width, and its sides are equally wide.
+  no width. Its sides may differ in width: they are compared as the panel's
+  comparator compares words, the narrower one filled with zeros at its high end
+  up to the width of the other. Only the equation fills: rows keep their widths,
+  values and normal forms.
 
   A table has at most 512 rows, 64 variables, 4096 variable bits (the widths of
   its variables together) and 64 equations. The variables are numbered from 0
@@ -86,8 +89,9 @@
 
                               Solved systems
 
-  A pattern meets a table if in each equation both sides have the same value. A
-  table without equations is met by every pattern.
+  A pattern meets a table if in each equation both sides have the same value,
+  once the narrower one is filled with zeros at its high end: that is, if both
+  are the same binary number. A table without equations is met by every pattern.
 
   A variable bit is fixed if it is 0 in every pattern that meets the table, or 1
   in every such pattern. Two variable bits are tied if they are equal in every
@@ -211,7 +215,7 @@
 
   A call that works on a table tests all of it, also rows that it does not need.
   First the length is tested, then the rows, from the lowest up, and each by all
-  of 12 to 18 and 40, in the order below, before the next row. So the refusal is
+  of 12 to 17 and 40, in the order below, before the next row. So the refusal is
   about the lowest row at fault.
 
      outcome                 cause                               field row
@@ -237,8 +241,9 @@
      17 LW_REFUSED_MAXIMUM   the row is the 65th variable or the that row
                              65th equation, or a variable with
                              which the variable bits exceed 4096
-     18 LW_REFUSED_SIDES     the sides of an equation have       that row
-                             unequal widths
+
+  18 was the refusal of an equation whose sides differ in width. No call yields
+  it any more, whatever the input, and the number is not used again.
 
 
                                Every call
@@ -278,8 +283,8 @@ extern "C" {
   The version of the library, as text and as a number that grows from version to
   version: major * 1000000 + minor * 1000 + patch.
 */
-#define LW_VERSION_TEXT "0.13.0"
-#define LW_VERSION      13000
+#define LW_VERSION_TEXT "0.14.0"
+#define LW_VERSION      14000
 
 /* constants */
 
@@ -327,7 +332,7 @@ extern "C" {
 #define LW_REFUSED_WIDTH     15 /* width outside 1 to 1024, or a fill's bit above 1 */
 #define LW_REFUSED_CUT       16 /* high not below the width, or low above high */
 #define LW_REFUSED_MAXIMUM   17 /* a 65th variable or equation, or over 4096 variable bits */
-#define LW_REFUSED_SIDES     18 /* an equation's sides are of unequal width */
+#define LW_REFUSED_SIDES     18 /* yielded no more, and not used again: sides of unequal width are filled */
 #define LW_REFUSED_SHEET     20 /* sheet over 16384 bytes */
 #define LW_REFUSED_NAMES     21 /* the line of names is malformed, or there is none */
 #define LW_REFUSED_LINE      22 /* a line of values is malformed */
@@ -396,7 +401,7 @@ lw_record lw_value(const uint16_t *table, size_t table_len, size_t row,
      behind the row asked for; then the row, the pattern and the output.
 
      outcome                 cause                               field row
-     11 to 18, 40            the table is refused: see Refusals  512, or
+     11 to 17, 40            the table is refused: see Refusals  512, or
                              of a term table above               that row
      30 LW_REFUSED_ROW       the table has no such row, or it is 0
                              an equation
@@ -430,7 +435,7 @@ lw_record lw_normal_form(const uint16_t *table, size_t table_len, size_t row,
      behind the row asked for; then the row, and then the output.
 
      outcome                 cause                               field row
-     11 to 18, 40            the table is refused: see Refusals  512, or
+     11 to 17, 40            the table is refused: see Refusals  512, or
                              of a term table above               that row
      30 LW_REFUSED_ROW       the table has no such row, or it is 0
                              an equation
@@ -491,9 +496,12 @@ lw_record lw_solve(const uint16_t *table, size_t table_len,
      not, it writes the solved system as an answer table.
 
      An equation gives bit pairs: the high bits of its two sides, then the next
-     lower ones, and so on. A tie is a pair whose two bits are not yet equal in
-     every pattern that meets all pairs before it, those of earlier equations
-     and those before it in its own.
+     lower ones, and so on. Where one side is wider, the pairs of its top bits
+     with the zeros that fill the other come first, in their order, and count as
+     all others do. A tie is a pair whose two bits are not yet equal in every
+     pattern that meets all pairs before it, those of earlier equations and those
+     before it in its own. So a top bit is tied to 0, or is 0 already; if it is 1
+     already, no pattern is left at this row.
 
      There are three outcomes of an accepted call:
 
@@ -530,7 +538,7 @@ lw_record lw_solve(const uint16_t *table, size_t table_len,
      10 LW_REFUSED_MEMORY    answer_len or work_len is below     0
                              LW_SOLVER_NUMBERS (16384), however
                              small the table is
-     11 to 18, 40            the table is refused: see Refusals  512, or
+     11 to 17, 40            the table is refused: see Refusals  512, or
                              of a term table above               that row
 
      The table is only read. No two of table, answer and work may overlap.
@@ -637,7 +645,7 @@ lw_record lw_marker_positions(const uint16_t *table, size_t table_len,
      tested.
 
      outcome                 cause                               field row
-     11 to 18, 40            the table is refused: see Refusals  512, or
+     11 to 17, 40            the table is refused: see Refusals  512, or
                              of a term table above               that row
      41 LW_REFUSED_WINDOW    the table has no variable, or one   0
                              whose width is not 16, wherever it

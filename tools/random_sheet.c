@@ -31,7 +31,7 @@ int main(int argc, char **argv)
 
     seed = number;
     if (number % 2 == 0)
-        make_small(&small, true);
+        make_small(&small, WITH_SHORT_SIDES);
     else
         make_large(&large);
     printf("kind a b c\n");

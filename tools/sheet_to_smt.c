@@ -4,7 +4,8 @@
       sheet_to_smt [--check] <SHEET
 
   Each variable is declared as v0, v1, .., each row but an equation defined as
-  r0, r1, .., and each equation asserted; then follows (check-sat).
+  r0, r1, .., and each equation asserted, its narrower side with zero_extend;
+  then follows (check-sat).
 
   With --check the table is solved by lw_solve too, and what it answers is asked
   of the other solver, question by question: before each (check-sat) stands an
@@ -82,6 +83,23 @@ static void print_row(size_t r)
     printf(")\n");
 }
 
+/* A side of an equation, brought to the other side's width if it is narrower. */
+static void print_side(unsigned r, unsigned other)
+{
+    if (width[r] < width[other])
+        printf(" ((_ zero_extend %u) r%u)", width[other] - width[r], r);
+    else
+        printf(" r%u", r);
+}
+
+static void print_equation(unsigned a, unsigned b)
+{
+    printf(" (=");
+    print_side(a, b);
+    print_side(b, a);
+    putchar(')');
+}
+
 /* The declarations, the definitions, and the equations together as eqs. */
 static void print_table(size_t rows)
 {
@@ -91,7 +109,7 @@ static void print_table(size_t rows)
     printf("(define-fun eqs () Bool (and true");
     for (size_t r = 0; r < rows; r++)
         if (table[4 * r] == LW_EQUATION)
-            printf(" (= r%u r%u)", table[4 * r + 1], table[4 * r + 2]);
+            print_equation(table[4 * r + 1], table[4 * r + 2]);
     printf("))\n");
 }
 
