@@ -479,7 +479,8 @@ static void test_window_refusals(void)
 
     /* A fault of the table behind such a variable. */
     refuse(HERE, TABLE(VARIABLE(8), 6, 0, 0, 0), 12, 1);
-    refuse(HERE, TABLE(FILL(0, 8), FILL(0, 9), EQUATION(0, 1)), 18, 2);
+    /* Sides of unequal width are filled, and hide no fault of a later row. */
+    refuse(HERE, TABLE(FILL(0, 8), FILL(0, 9), EQUATION(0, 1), 6, 0, 0, 0), 12, 3);
     refuse(HERE, TABLE(VARIABLE(15), VARIABLE(16), MARKER(4, 2)), 40, 2);
     refuse(HERE, TABLE(VARIABLE(15), VARIABLE(16), 0), 11, 512);
     check_long_run(HERE);
@@ -534,7 +535,7 @@ const test_list tests = {
         {.name = "overlapping windows", .run = test_overlapping},
         {.name = "the longest runs", .run = test_long_runs},
         {.name = "always and never", .run = test_always_and_never},
-        {.name = "refusals 11 to 18, 40", .run = test_table_refusals},
+        {.name = "refusals 11 to 17, 40", .run = test_table_refusals},
         {.name = "refusal 41", .run = test_window_refusals},
         {.name = "refusal 42", .run = test_run_refusals},
         {.name = "NULL with length 0", .run = test_null},
