@@ -31,11 +31,11 @@ power zero = 1
 power (suc f) = 10 * power f
 
 -- one digit, and a last one
-digits-one : (f n : ℕ) → n < 10 → digits (suc f) n ≡ (48 + n) ∷ []
+pub digits-one : (f n : ℕ) → n < 10 → digits (suc f) n ≡ (48 + n) ∷ []
 unfolding digits
 digits-one f n h = rw (lt-ltb n 10 h)
 
-digits-last : (f n : ℕ) → 10 ≤ n → digits (suc f) n ≡ digits f (n / 10) ++ ((48 + n % 10) ∷ [])
+pub digits-last : (f n : ℕ) → 10 ≤ n → digits (suc f) n ≡ digits f (n / 10) ++ ((48 + n % 10) ∷ [])
 unfolding digits
 digits-last f n h = rw (le-ltb n 10 h)
 

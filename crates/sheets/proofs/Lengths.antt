@@ -12,7 +12,7 @@ use Rattle.answers.specs.declared.AnswerRow.{AnswerRow}
 use Rattle.answers.specs.Answer.{answerRowsOf}
 use Rattle.answers.proofs.AnswerNumbers.{answer-length}
 
-digits-few : (most n : ℕ) → length (digits most n) ≤ most
+pub digits-few : (most n : ℕ) → length (digits most n) ≤ most
 unfolding digits
 digits-few zero n = omega arith
 digits-few (suc most) n = go (ltb n 10) (digits-few most (n / 10))

@@ -1,0 +1,16 @@
+-- `blank_line` meets its contract. Assumes nothing.
+use borrow.Author.Needs.{needs}
+use Rattle.pages.specs.Page.{cell, lineOf, blankLine}
+use Rattle.pages.specs.inner.Lines.{fourCells}
+use Rattle.pages.proofs.blank_line.Statement.{statement}
+use Rattle.pages.proofs.blank_line.Tie as tie
+
+four-cells-requires : tie.Need-four-cells-requires
+four-cells-requires c κs = search needs
+
+returns : tie.Need-returns
+unfolding blankLine lineOf cell fourCells
+returns c = c .four-cells .ensures
+
+pub blank-line-spec : {M : Type 1} → statement M
+blank-line-spec = tie.close (tie.spec four-cells-requires returns)
