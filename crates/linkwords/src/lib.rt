@@ -10,7 +10,9 @@ ghost use Rattle.answers.specs.Solve.{solveRecord, answerAfter, workAfter};
 ghost use Rattle.answers.specs.RightSide.{rightSideStart, rightSideLength};
 ghost use Rattle.assignments.specs.Call.{patternRecord, patternAfter};
 ghost use Rattle.positions.specs.Call.{positionsRecord, positionsAfter};
+ghost use Rattle.pages.specs.Page.{pageText};
 use answers::Part;
+use pages::Page;
 use terms::Record;
 use terms::Row;
 
@@ -76,6 +78,14 @@ pub extern "C" fn lw_marker_positions(table: &[u16], words: &[u16], list: &mut [
     ensures list { λ _. ⌜ now (list .exit) ≡ positionsAfter (now (table .entry)) (now (words .entry)) (now (list .entry)) ⌝ }
 {
     positions::marker_positions(table, words, list)
+}
+
+// A page of the result sheet of a record and an answer table, by its number.
+#[no_mangle]
+pub extern "C" fn lw_page(found: Record, answer: &[u16], number: usize) -> Page
+    ensures bytes { λ r. ⌜ r .bytes ≡ pageText found (now (answer .entry)) number ⌝ }
+{
+    pages::make_page(found, answer, number)
 }
 
 // The same calls on a table that is lent as row records. The records are copied as numbers into an area of 513 rows, one more than
