@@ -1,5 +1,8 @@
+pub mod Listing
+pub mod Worked
+pub mod Theorems
+pub mod Characters
+pub mod Bytes
 pub mod Cells
 pub mod Lines
-pub mod Characters
-pub mod Pages
 pub mod Making

@@ -1,6 +1,6 @@
 -- A page as it is made: a line found by its place, and one line put behind another. Assumes nothing.
 use mathlib.Core.Path.{_≡_, refl, sym, _∙_, ap, subst}
-use mathlib.Core.List.{List, [], _∷_, _++_, append-nil}
+use mathlib.Core.List.{List, [], _∷_, _++_, append-nil, map}
 use mathlib.Core.Logic.{_≢_}
 use Prim.Native.Nat.{ℕ, suc, _+_, _*_, _-_, _/_, _<_, _≤_, min}
 use native.Mathlib.Omega.{arith}
@@ -14,11 +14,26 @@ use Rattle.terms.specs.declared.Record.{Record}
 use Rattle.answers.specs.Answer.{answerRowsOf, answerRowAt}
 use Rattle.sheets.specs.inner.Printed.{written, printedIn}
 use Rattle.sheets.proofs.Printed.{Put, PutIn, put-kept, put-none, put-in, put-there, both-put, written-none}
-use Rattle.pages.specs.Page.{namesLine, pieceLine, outcomeLine, blankLine, pagePieces, listed, pageCount, pageLine, pageLines, joined, pageText}
+use Rattle.pages.specs.Page.{namesLine, pieceLine, outcomeLine, blankLine, pagePieces, listed, onPage, pageCount, pageLine, pageLines, joined, pageText}
 use Rattle.pages.specs.inner.Lines.{listedCount, pagesOf}
-use Rattle.pages.proofs.Pages.{pages-counted, listed-solved, listed-length, line-there, line-past, listed-past, listed-outcome, listed-piece, piece-row, sixty, lines-long, joined-append, page-length}
+use Rattle.pages.proofs.Listing.{pieces-length, listed-solved, line-there, line-past, listed-past, listed-outcome, listed-piece, piece-row, sixty}
+use Rattle.pages.proofs.Bytes.{joined-append, lines-long, page-length}
 
-pub listed-small : (found : Record) (rows : ℕ) → found .pieces ≤ 4294967295 → listedCount found rows ≤ 4294967295
+-- how many lines there are below the names, and how many pages
+module _ (found : Record) (answer : List ℕ) where
+  listed-length : length (listed found answer) ≡ listedCount found (length answer / 4)
+  unfolding listed listedCount
+  listed-length = go (eqb (found .outcome) 2)
+    where
+      go : (b : Bool) → length (cond b (map pieceLine (pagePieces found answer)) (outcomeLine (found .outcome) ∷ [])) ≡ cond b (min (found .pieces) (length answer / 4)) 1
+      go true = length-map (pagePieces found answer) pieceLine ∙ pieces-length found answer
+      go false = refl
+
+  pages-counted : pageCount found answer ≡ pagesOf (listedCount found (length answer / 4))
+  unfolding pageCount pagesOf
+  pages-counted = ap (λ (n : ℕ). 1 + (n - 1) / onPage) listed-length
+
+listed-small : (found : Record) (rows : ℕ) → found .pieces ≤ 4294967295 → listedCount found rows ≤ 4294967295
 unfolding listedCount
 listed-small found rows h = go (eqb (found .outcome) 2)
   where

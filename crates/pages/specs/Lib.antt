@@ -1,3 +1,3 @@
 pub mod Page
-pub mod Character
+pub mod AllPages
 pub mod inner
