@@ -1,6 +1,6 @@
 pub mod Listing
-pub mod Worked
-pub mod Theorems
+pub mod AllPages
+pub mod ByHand
 pub mod Characters
 pub mod Bytes
 pub mod Cells

@@ -21,7 +21,7 @@ returns : tie.Need-returns
 returns c =
     let p = c .before .before in
     let n = p .before in
-    c .blank-line .ensures ∙ at-past _ _ _ _ _ _ (n .before .before .pre) (n .listed-count .ensures) (p .page-count .ensures) (c .before .if1 .taken)
+    c .blank-line .ensures ∙ at-past _ _ _ _ _ _ (n .before .before .pre) (n .listed-count .ensures) (p .page-count .ensures) (omega (arith, c .before .if1 .taken))
 
 names-line-requires : tie.Need-names-line-requires
 names-line-requires c κs = search needs
@@ -32,7 +32,7 @@ returns-2 c =
     let p = e .before in
     let n = p .before in
     c .names-line .ensures
-    ∙ at-names _ _ _ _ _ _ (n .before .before .pre) (n .listed-count .ensures) (p .page-count .ensures) (e .if1 .left) (c .before .if2 .taken)
+    ∙ at-names _ _ _ _ _ _ (n .before .before .pre) (n .listed-count .ensures) (p .page-count .ensures) (omega (arith, e .if1 .left)) (c .before .if2 .taken)
 
 mul-i : tie.Need-mul-i
 mul-i c =
@@ -40,7 +40,7 @@ mul-i c =
     let p = e .before in
     let n = p .before in
     let s = n .before .before in
-    omega (arith, place-fits (s .args .found) (now (s .args .answer)) (s .args .number) (s .args .line) _ _ (s .pre) (n .listed-count .ensures) (p .page-count .ensures) (omega arith) (e .if1 .left))
+    omega (arith, place-fits (s .args .found) (now (s .args .answer)) (s .args .number) (s .args .line) _ _ (s .pre) (n .listed-count .ensures) (p .page-count .ensures) (omega arith) (omega (arith, e .if1 .left)))
 
 sub-i : tie.Need-sub-i
 sub-i c = search needs
@@ -51,7 +51,7 @@ add-i c =
     let p = e .before in
     let n = p .before in
     let s = n .before .before in
-    omega (arith, place-fits (s .args .found) (now (s .args .answer)) (s .args .number) (s .args .line) _ _ (s .pre) (n .listed-count .ensures) (p .page-count .ensures) (omega arith) (e .if1 .left))
+    omega (arith, place-fits (s .args .found) (now (s .args .answer)) (s .args .number) (s .args .line) _ _ (s .pre) (n .listed-count .ensures) (p .page-count .ensures) (omega arith) (omega (arith, e .if1 .left)))
 
 blank-line-requires-2 : tie.Need-blank-line-requires-2
 blank-line-requires-2 c κs = search needs
@@ -63,7 +63,7 @@ returns-3 c =
     let p = e .before in
     let n = p .before in
     c .blank-line2 .ensures
-    ∙ at-blank _ _ _ _ _ _ (n .before .before .pre) (n .listed-count .ensures) (p .page-count .ensures) (e .if1 .left) (f .if2 .left) (c .before .if3 .taken)
+    ∙ at-blank _ _ _ _ _ _ (n .before .before .pre) (n .listed-count .ensures) (p .page-count .ensures) (omega (arith, e .if1 .left)) (f .if2 .left) (omega (arith, c .before .if3 .taken))
 
 outcome-line-requires : tie.Need-outcome-line-requires
 outcome-line-requires c κs = search needs
@@ -75,7 +75,7 @@ returns-4 c =
     let p = e .before in
     let n = p .before in
     c .outcome-line .ensures
-    ∙ at-outcome _ _ _ _ _ _ (n .before .before .pre) (n .listed-count .ensures) (p .page-count .ensures) (e .if1 .left) (f .if2 .left) (c .before .before .if3 .left) (c .before .if4 .taken)
+    ∙ at-outcome _ _ _ _ _ _ (n .before .before .pre) (n .listed-count .ensures) (p .page-count .ensures) (omega (arith, e .if1 .left)) (f .if2 .left) (c .before .before .if3 .left) (c .before .if4 .taken)
 
 row-at-requires : tie.Need-row-at-requires
 row-at-requires c κs = search needs
@@ -91,7 +91,7 @@ returns-5 c =
     let n = p .before in
     c .piece-line .ensures
     ∙ ap pieceLine (c .before .row-at .ensures)
-    ∙ at-piece _ _ _ _ _ _ (n .before .before .pre) (n .listed-count .ensures) (p .page-count .ensures) (e .if1 .left) (f .if2 .left) (c .before .before .before .if3 .left) (c .before .before .if4 .left)
+    ∙ at-piece _ _ _ _ _ _ (n .before .before .pre) (n .listed-count .ensures) (p .page-count .ensures) (omega (arith, e .if1 .left)) (f .if2 .left) (c .before .before .before .if3 .left) (c .before .before .if4 .left)
 
 pub line-at-spec : {M : Type 1} → statement M
 line-at-spec =

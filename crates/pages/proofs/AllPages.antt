@@ -25,40 +25,19 @@ module _ (found : Record) (answer : List ℕ) where
   pub listed-one : found .outcome ≢ 2 → length (listed found answer) ≡ 1
   listed-one e = ap length (listed-other found answer e)
 
-  -- page 0 is always there; any other page is there exactly if some listed line is left for it
-  pub first-there : 0 < pageCount found answer
-  unfolding pageCount
-  first-there = omega arith
-
-  pub there-of : (k : ℕ) → 59 * k < length (listed found answer) → k < pageCount found answer
-  unfolding pageCount
-  there-of k h = omega arith
-
-  pub past-of : (k : ℕ) → 1 ≤ k → length (listed found answer) ≤ 59 * k → pageCount found answer ≤ k
-  unfolding pageCount
-  past-of k l h = omega arith
-
-  -- the lines below the names, of a page that is there
-  below-line : (k l : ℕ) → k < pageCount found answer → l < 59
-      → getD (pageLines found answer k) (1 + l) [] ≡ getD (listed found answer) (k * 59 + l) blankLine
-  unfolding pageLine
-  below-line k l p h =
-      let n : 1 + l ≡ suc l = omega arith in
-      rw n (line-there found answer k (suc l) (omega arith) p)
-
-  listed-place : (i : ℕ) → i < length (listed found answer)
-      → getD (pageLines found answer (i / 59)) (1 + i % 59) [] ≡ getD (listed found answer) i blankLine
-  listed-place i h =
-      let n : i / 59 * 59 + i % 59 ≡ i = omega arith in
-      below-line (i / 59) (i % 59) (there-of (i / 59) (omega arith)) (omega arith)
-      ∙ ap (λ (j : ℕ). getD (listed found answer) j blankLine) n
-
   -- (c) piece i stands on page i / 59, line 1 + i % 59
   pub piece-place : (i : ℕ) → found .outcome ≡ 2 → i < length (pagePieces found answer)
       → getD (pageLines found answer (i / 59)) (1 + i % 59) [] ≡ pieceLine (answerRowAt (answerRowsOf answer) i)
+  unfolding pageCount pageLine
   piece-place i e h =
       let l : i < length (listed found answer) = omega (arith, listed-pieces e) in
-      listed-place i l ∙ listed-piece found answer i e l ∙ ap pieceLine (piece-row found answer i h)
+      let there : i / 59 < pageCount found answer = omega arith in
+      let place : i / 59 * 59 + i % 59 ≡ i = omega arith in
+      let n : 1 + i % 59 ≡ suc (i % 59) = omega arith in
+      rw n (line-there found answer (i / 59) (suc (i % 59)) (omega arith) there)
+      ∙ ap (λ (j : ℕ). getD (listed found answer) j blankLine) place
+      ∙ listed-piece found answer i e l
+      ∙ ap pieceLine (piece-row found answer i h)
 
   below-length : (n : ℕ) → length (belowNames found answer n) ≡ 59 * n
   unfolding belowNames
@@ -104,63 +83,70 @@ module _ (found : Record) (answer : List ℕ) where
       → take (length (pagePieces found answer)) (belowNames found answer (pageCount found answer)) ≡ map pieceLine (pagePieces found answer)
   unfolding pageCount
   all-pieces e =
-      let n : ℕ = length (pagePieces found answer) in
+      let pieces : List AnswerRow = pagePieces found answer in
       let all : List (List ℕ) = belowNames found answer (pageCount found answer) in
-      let w = listed-solved found answer e in
-      let m : length (listed found answer) ≡ n = listed-pieces e in
-      let long : length (take n all) ≡ n = length-take n all ∙ omega (arith, below-length (pageCount found answer)) in
-      ext-getD [] (take n all) (listed found answer) (long ∙ sym m)
+      let n : length (map pieceLine pieces) ≡ length pieces = length-map pieces pieceLine in
+      let m = listed-pieces e in
+      let long : length (take (length pieces) all) ≡ length pieces =
+      length-take (length pieces) all ∙ omega (arith, below-length (pageCount found answer)) in
+      ext-getD [] (take (length pieces) all) (map pieceLine pieces) (long ∙ sym n)
       (λ i h.
-      let l : i < n = omega arith in
-      getD-take n all i [] l
+      let l : i < length pieces = omega arith in
+      getD-take (length pieces) all i [] l
       ∙ below-at (pageCount found answer) i (omega arith)
-      ∙ listed-place i (omega arith)
-      ∙ default (listed found answer) i (omega arith))
-      ∙ w
+      ∙ piece-place i e l
+      ∙ ap pieceLine (sym (piece-row found answer i l))
+      ∙ sym (mapped pieces i l))
     where
-      default : (lines : List (List ℕ)) (i : ℕ) → i < length lines → getD lines i blankLine ≡ getD lines i []
-      default [] i h = absurd (omega arith)
-      default (x ∷ lines) zero h = refl
-      default (x ∷ lines) (suc i) h = default lines i (omega arith)
+      mapped : (rows : List AnswerRow) (i : ℕ) → i < length rows → getD (map pieceLine rows) i [] ≡ pieceLine (answerRowAt rows i)
+      mapped [] i h = absurd (omega arith)
+      mapped (r ∷ rows) zero h = refl
+      mapped (r ∷ rows) (suc i) h = mapped rows i (omega arith)
 
-  -- the lines behind the last piece are blank
-  pub rest-blank : (k l : ℕ) → l < 59 → length (listed found answer) ≤ 59 * k + l → getD (pageLines found answer k) (1 + l) [] ≡ blankLine
-  rest-blank k l h p = go (ltb k (pageCount found answer)) refl
-    where
-      go : (b : Bool) → ltb k (pageCount found answer) ≡ b → getD (pageLines found answer k) (1 + l) [] ≡ blankLine
-      go true e =
-          below-line k l (ltb-true k (pageCount found answer) e) h
-          ∙ listed-past found answer (k * 59 + l) (omega arith)
-      go false e = line-past found answer k (1 + l) (omega arith) (ltb-false k (pageCount found answer) e)
-
-  -- (d) every page that is there begins with the names
+  -- (d) every page that is there begins with the names, page 0 for every input
   pub begins-with-names : (k : ℕ) → k < pageCount found answer → take 41 (pageText found answer k) ≡ namesLine
   unfolding pageText pageLines pageLine countUp joined namesLine lineOf cell
   begins-with-names k h = rw (lt-ltb k (pageCount found answer) h) refl
 
-  pub first-page-begins : take 41 (pageText found answer 0) ≡ namesLine
-  first-page-begins = begins-with-names 0 first-there
+  pub first-begins-with-names : take 41 (pageText found answer 0) ≡ namesLine
+  unfolding pageCount
+  first-begins-with-names = begins-with-names 0 (omega arith)
 
   -- (e) a number above 0 gives the blank page exactly if 59 times it is at least the number of listed lines
   pub past-blank : (k : ℕ) → 1 ≤ k → length (listed found answer) ≤ 59 * k → pageText found answer k ≡ blankPage
-  unfolding pageText pageLines blankPage
-  past-blank k l h = rw (le-ltb k (pageCount found answer) (past-of k l h))
+  unfolding pageText pageLines pageCount blankPage
+  past-blank k l h =
+      let past : pageCount found answer ≤ k = omega arith in
+      rw (le-ltb k (pageCount found answer) past)
 
   pub blank-past : (k : ℕ) → pageText found answer k ≡ blankPage → length (listed found answer) ≤ 59 * k
-  unfolding blankPage joined blankLine namesLine lineOf cell
+  unfolding pageCount blankPage joined blankLine namesLine lineOf cell
   blank-past k e = go (ltb (59 * k) (length (listed found answer))) refl
     where
       go : (b : Bool) → ltb (59 * k) (length (listed found answer)) ≡ b → length (listed found answer) ≤ 59 * k
       go true t =
-          let there : k < pageCount found answer = there-of k (ltb-true (59 * k) (length (listed found answer)) t) in
-          let same : namesLine ≡ blankLine = sym (begins-with-names k there) ∙ ap (take 41) e in
-          let z : _≡_ {A = ℕ} 118 32 = ap (λ (l : List ℕ). getD l 2 0) same in
+          let left : 59 * k < length (listed found answer) = ltb-true (59 * k) (length (listed found answer)) t in
+          let same : namesLine ≡ blankLine = sym (begins-with-names k (omega arith)) ∙ ap (take 41) e in
+          let z : getD namesLine 5 0 ≡ 32 = ap (λ (l : List ℕ). getD l 5 0) same in
           absurd (omega arith)
       go false t = ltb-false (59 * k) (length (listed found answer)) t
 
+  -- the lines behind the last piece are blank
+  pub rest-blank : (k l : ℕ) → l < 59 → length (listed found answer) ≤ 59 * k + l → getD (pageLines found answer k) (1 + l) [] ≡ blankLine
+  unfolding pageLine
+  rest-blank k l h p = go (ltb k (pageCount found answer)) refl
+    where
+      n : 1 + l ≡ suc l
+      n = omega arith
+
+      go : (b : Bool) → ltb k (pageCount found answer) ≡ b → getD (pageLines found answer k) (1 + l) [] ≡ blankLine
+      go true e =
+          rw n (line-there found answer k (suc l) (omega arith) (ltb-true k (pageCount found answer) e))
+          ∙ listed-past found answer (k * 59 + l) (omega arith)
+      go false e = line-past found answer k (1 + l) (omega arith) (ltb-false k (pageCount found answer) e)
+
   -- (f) any outcome but 2: page 0 is the names, the number, and blanks, whatever else
-  pub outcome-page : found .outcome ≢ 2
-      → pageText found answer 0 ≡ joined (namesLine ∷ outcomeLine (found .outcome) ∷ replicate 58 blankLine)
+  pub outcome-page : found .outcome ≢ 2 → pageText found answer 0 ≡ joined (namesLine ∷ outcomeLine (found .outcome) ∷ replicate 58 blankLine)
   unfolding pageText pageLines pageLine pageCount countUp
   outcome-page e = rw (listed-other found answer e) refl
 
