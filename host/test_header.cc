@@ -22,6 +22,7 @@ INTERFACE(lw_solve, lw_record, LENT(uint16_t), OUT(uint16_t), OUT(uint16_t));
 INTERFACE(lw_right_side, lw_part, LENT(uint16_t), size_t, size_t);
 INTERFACE(lw_make_pattern, lw_record, LENT(uint16_t), LENT(uint8_t), OUT(uint8_t));
 INTERFACE(lw_marker_positions, lw_record, LENT(uint16_t), LENT(uint16_t), OUT(uint32_t));
+INTERFACE(lw_page, lw_page_bytes, lw_record, LENT(uint16_t), size_t);
 INTERFACE(lw_value_rows, lw_record, LENT(lw_row), size_t, LENT(uint8_t), OUT(uint8_t));
 INTERFACE(lw_normal_form_rows, lw_record, LENT(lw_row), size_t, OUT(uint16_t));
 INTERFACE(lw_solve_rows, lw_record, LENT(lw_row), OUT(uint16_t), OUT(uint16_t));
@@ -48,6 +49,7 @@ int main()
     check("lw_right_side", lw_right_side(NOTHING, 0, 0).len, 0);
     check("lw_make_pattern", lw_make_pattern(NOTHING, NOTHING, NOTHING).outcome, LW_ACCEPTED);
     check("lw_marker_positions", lw_marker_positions(NOTHING, NOTHING, NOTHING).outcome, LW_REFUSED_WINDOW);
+    check("lw_page", lw_page(lw_record(), NOTHING, 0).bytes[2], 'v');
     check("lw_value_rows", lw_value_rows(NOTHING, 0, NOTHING, NOTHING).outcome, LW_REFUSED_ROW);
     check("lw_normal_form_rows", lw_normal_form_rows(NOTHING, 0, NOTHING).outcome, LW_REFUSED_ROW);
     check("lw_solve_rows", lw_solve_rows(NOTHING, NOTHING, NOTHING).outcome, LW_REFUSED_MEMORY);

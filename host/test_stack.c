@@ -33,13 +33,15 @@ typedef struct {
     size_t sheet_len;
     uint16_t answer[LW_SOLVER_NUMBERS], work[LW_SOLVER_NUMBERS];
     size_t answer_len, work_len, rows_in_use, variable;
+    lw_record record;
+    size_t number; /* of a page */
     uint8_t fresh[LW_MAX_VARIABLE_BITS];
     size_t fresh_len;
     uint16_t words[LW_MAX_WORDS + 1];
     size_t words_len;
     uint32_t list[1000];
-    uint32_t outcome; /* what the call gave; 0 for a right side */
-    size_t size;      /* the field free, or a right side's length */
+    uint32_t outcome; /* what the call gave; 0 for a right side and for a page */
+    size_t size;      /* the field free, a right side's length, or a page's lines */
 } call;
 
 static void add(call *c, size_t kind, size_t a, size_t b, size_t low)
@@ -504,6 +506,31 @@ static void short_pattern(call *c)
     c->pattern_len--;
 }
 
+/* Pages. */
+
+static void full_page(call *c)
+{
+    fresh_rows(c);
+    c->record = (lw_record){.outcome = LW_SOLVED, .pieces = 4096};
+}
+
+static void last_page(call *c)
+{
+    full_page(c);
+    c->number = 69;
+}
+
+static void past_page(call *c)
+{
+    full_page(c);
+    c->number = SIZE_MAX;
+}
+
+static void refused_page(call *c)
+{
+    c->record.outcome = UINT32_MAX;
+}
+
 /* Sheets; their tables are lent whole. */
 
 static void lines(call *c, const char *line, size_t count)
@@ -661,6 +688,12 @@ static const test patterns[] = {
     {"refused 34, the last byte above 1", bad_fresh_bit, LW_REFUSED_FRESH, 0},
     {"refused 32", short_pattern, LW_REFUSED_OUTPUT, 0},
 };
+static const test pages[] = {
+    {"page 0 of 4096 pieces", full_page, 0, LW_PAGE_LINES},
+    {"page 69 of 4096 pieces", last_page, 0, LW_PAGE_LINES},
+    {"past the last page", past_page, 0, LW_PAGE_LINES},
+    {"outcome 4294967295", refused_page, 0, LW_PAGE_LINES},
+};
 
 /* The calls. */
 
@@ -689,6 +722,13 @@ static lw_part part_entry(void)
     return (lw_part){1, 1};
 }
 
+__attribute__((noinline))
+static lw_page_bytes page_bytes_entry(void)
+{
+    entry = ENTRY;
+    return (lw_page_bytes){{0}};
+}
+
 static void note_record(call *c, lw_record record)
 {
     c->outcome = record.outcome;
@@ -698,6 +738,13 @@ static void note_record(call *c, lw_record record)
 static void note_part(call *c, lw_part part)
 {
     c->size = part.len;
+}
+
+static void note_page_bytes(call *c, lw_page_bytes page)
+{
+    c->size = 0;
+    for (size_t i = 0; i < LW_PAGE_BYTES; i++)
+        c->size += page.bytes[i] == '\n';
 }
 
 /*
@@ -729,6 +776,7 @@ RUN(lw_solve, record, TABLE, SOLVE)
 RUN(lw_right_side, part, c->answer, LW_SOLVER_NUMBERS, c->rows_in_use, c->variable)
 RUN(lw_make_pattern, record, c->answer, c->answer_len, c->fresh, c->fresh_len, c->pattern, c->pattern_len)
 RUN(lw_marker_positions, record, TABLE, c->words, c->words_len, c->list, COUNT(c->list))
+RUN(lw_page, page_bytes, c->record, c->answer, c->answer_len, c->number)
 RUN(lw_value_rows, record, ROWS, VALUE)
 RUN(lw_normal_form_rows, record, ROWS, FORM)
 RUN(lw_solve_rows, record, ROWS, SOLVE)
@@ -748,6 +796,7 @@ static const struct {
     {"lw_right_side", run_lw_right_side, LW_STACK_RIGHT_SIDE, parts, COUNT(parts)},
     {"lw_make_pattern", run_lw_make_pattern, LW_STACK_MAKE_PATTERN, patterns, COUNT(patterns)},
     {"lw_marker_positions", run_lw_marker_positions, LW_STACK_MARKER_POSITIONS, searches, COUNT(searches)},
+    {"lw_page", run_lw_page, LW_STACK_PAGE, pages, COUNT(pages)},
     {"lw_value_rows", run_lw_value_rows, LW_STACK_VALUE_ROWS, tables, COUNT(tables)},
     {"lw_normal_form_rows", run_lw_normal_form_rows, LW_STACK_NORMAL_FORM_ROWS, tables, COUNT(tables) - 1},
     {"lw_solve_rows", run_lw_solve_rows, LW_STACK_SOLVE_ROWS, solves, COUNT(solves)},

@@ -9,7 +9,8 @@
   buffers of the caller. One of them solves the equations: it tells whether
   every, no or some choice of the variables' bits meets them all, and for some
   it describes these choices. Another makes such a choice from the description,
-  and one finds the places of a long run of words at which the words meet them.
+  one finds the places of a long run of words at which the words meet them, and
+  one prints the description on pages for a line printer.
 
   The library is proved: for every input each call yields the record and the
   buffer contents that this header names, and it always returns. It is linked
@@ -211,6 +212,22 @@
   table which refuses a kind of 9.
 
 
+                                  Pages
+
+  An answer table can be had as a result sheet: pages of text, numbered from 0,
+  each of 60 lines of exactly 40 characters and a newline (byte 10), 2460 bytes
+  in all. A line has four columns of 10 characters. What stands in a column
+  stands at its right end, with blanks (byte 32) before it, and numbers are
+  decimal without leading zeros. Line one has the names variable, kind, width
+  and fresh; each line below it has one row of the answer table, a piece, 59 of
+  them on a page, and lines that are left are blanks. The first lines of page 0
+  of the answer table above are
+
+       variable      kind     width     fresh
+              0         2         1         0
+              0         2         2         1
+
+
                          Refusals of a term table
 
   A call that works on a table tests all of it, also rows that it does not need.
@@ -283,8 +300,8 @@ extern "C" {
   The version of the library, as text and as a number that grows from version to
   version: major * 1000000 + minor * 1000 + patch.
 */
-#define LW_VERSION_TEXT "0.14.0"
-#define LW_VERSION      14000
+#define LW_VERSION_TEXT "0.15.0"
+#define LW_VERSION      15000
 
 /* constants */
 
@@ -316,6 +333,9 @@ extern "C" {
 #define LW_MAX_VARIABLE_BITS 4096
 #define LW_MAX_EQUATIONS       64
 #define LW_MAX_WORDS      1048576 /* words of a run */
+#define LW_PAGE_BYTES        2460 /* of a page */
+#define LW_PAGE_LINES          60
+#define LW_PAGE_PIECES         59 /* lines of a page below the names */
 
 /* Outcomes of an accepted call: of lw_solve the last three, of the others the first. */
 #define LW_ACCEPTED 0
@@ -358,6 +378,7 @@ extern "C" {
 #define LW_STACK_RIGHT_SIDE           64
 #define LW_STACK_MAKE_PATTERN      16576
 #define LW_STACK_MARKER_POSITIONS 168576
+#define LW_STACK_PAGE               2688
 #define LW_STACK_VALUE_ROWS        47616
 #define LW_STACK_NORMAL_FORM_ROWS 145600
 #define LW_STACK_SOLVE_ROWS       195008
@@ -365,9 +386,9 @@ extern "C" {
 /* the record */
 
 /*
-  What each call but lw_right_side yields. Every call says which fields it sets;
-  the others are 0. A refusal has its number as outcome, in row the place given at the
-  call, and 0 in all other fields.
+  What each call but lw_right_side and lw_page yields. Every call says which
+  fields it sets; the others are 0. A refusal has its number as outcome, in row
+  the place given at the call, and 0 in all other fields.
 */
 typedef struct {
     uint32_t outcome; /* 0 to 2, or the number of the refusal */
@@ -658,6 +679,36 @@ lw_record lw_marker_positions(const uint16_t *table, size_t table_len,
      and each shift between tied bits of them, up to the first that fails.
 
      The table and the run are only read. Neither may overlap list.
+*/
+
+/* The bytes of a page. */
+typedef struct {
+    uint8_t bytes[LW_PAGE_BYTES];
+} lw_page_bytes;
+
+lw_page_bytes lw_page(lw_record record, const uint16_t *answer, size_t answer_len,
+                      size_t number);
+/*
+     Yields a page of the result sheet of a record and an answer table (see
+     Pages), by its number from 0. Mostly both come from lw_solve.
+
+     If the field outcome is LW_SOLVED, the pieces are the rows of answer, in
+     their order: as many as the field pieces says, or as many as there are
+     whole rows, that is answer_len / 4 rounded down, if these are fewer. Page k
+     has the names, and below them pieces 59 * k to 59 * k + 58, as many of them
+     as there are, and then blank lines. There are as many pages as the pieces
+     need: 1 for 0 to 59 pieces, 2 for 60 to 118, and so on. So page 0 is always
+     there; without a piece it has the names and 59 blank lines.
+
+     With any other outcome there is one page: the names, then a line with that
+     number in the first column and blanks in the other three, and 58 blank
+     lines. Nothing else of the record is used then, and nothing of answer.
+
+     A number past the last page yields 60 blank lines, without the names.
+
+     Of the record only outcome, and with LW_SOLVED pieces, are used. Nothing is
+     asked of any number: none is tested, and each is printed as it is. There is
+     no refusal. The answer table is only read.
 */
 
 /* calls on row records */
