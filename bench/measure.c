@@ -7,6 +7,7 @@
 #include <stdio.h>
 #include <string.h>
 
+#include "plain_page.h"
 #include "plain_solver.h"
 #include "timing.h"
 #include "z3.h"
@@ -174,4 +175,35 @@ void measure_growth(growth *g, size_t rounds)
     for (size_t i = 0; i < rounds; i++)
         for (size_t k = 0; k < g->count; k++)
             note(&g->steps[k].solve, solve_time(g->steps[k].in, g->steps[k].rows));
+}
+
+/* Pages. */
+
+enum { PAGE_CALLS = 100 }; /* in one sample */
+
+static double page_time(__typeof__(lw_page) *make, lw_record record, size_t number)
+{
+    double start = seconds();
+    for (size_t i = 0; i < PAGE_CALLS; i++)
+        sink += make(record, answer, LW_SOLVER_NUMBERS, number).bytes[i];
+    return (seconds() - start) / PAGE_CALLS;
+}
+
+bool measure_pages(const subject *of, page_subject *in, size_t count, size_t rounds)
+{
+    lw_record record = solve(of, of->d.rows);
+    for (size_t k = 0; k < count; k++) {
+        lw_page_bytes page = lw_page(record, answer, LW_SOLVER_NUMBERS, in[k].number);
+        lw_page_bytes plain_one = plain_page(record, answer, LW_SOLVER_NUMBERS, in[k].number);
+        if (memcmp(&page, &plain_one, sizeof page) != 0) {
+            fprintf(stderr, "%s: not that of the plain page maker\n", in[k].name);
+            return false;
+        }
+    }
+    for (size_t i = 0; i < rounds; i++)
+        for (size_t k = 0; k < count; k++) {
+            note(&in[k].page, page_time(lw_page, record, in[k].number));
+            note(&in[k].plain, page_time(plain_page, record, in[k].number));
+        }
+    return true;
 }

@@ -57,6 +57,13 @@ typedef struct {
     } steps[MAX_STEPS];
 } growth;
 
+/* A page of a result sheet. */
+typedef struct {
+    const char *name;
+    size_t number;
+    samples page, plain;
+} page_subject;
+
 /* Makes the table and lays out its pairs. Whether lw_solve's answer is that of the plain solver. */
 bool prepare(subject *in);
 
@@ -71,5 +78,8 @@ bool measure(subject *in, size_t count, size_t rounds, bool z3);
 /* A step is the first rows of a table. */
 void add_step(growth *g, const subject *in, size_t size, size_t rows, size_t pairs);
 void measure_growth(growth *g, size_t rounds);
+
+/* Times lw_page and the plain page maker on pages of a table's answer. False if they differ. */
+bool measure_pages(const subject *of, page_subject *in, size_t count, size_t rounds);
 
 #endif /* MEASURE_H */

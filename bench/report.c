@@ -156,6 +156,28 @@ bool print_growth(growth *g)
     return g->goal <= 0 || time <= g->goal;
 }
 
+bool print_pages(page_subject *in, size_t count)
+{
+    const double most = 1.0, most_of_first = 1.1; /* goals */
+    double first = median(&in[0].page);
+    bool met = true;
+
+    printf("\n## Pages\n\n"
+           "Pages of the result sheet of the table turned, which has 4,096 pieces, against the plain page maker in C\n"
+           "([host/plain_page.c](../host/plain_page.c)), which prints each line with `snprintf`.\n\n");
+    printf("| page | `lw_page`, µs | page in C, µs | ratio | goal | `lw_page` / page 0 | goal |\n");
+    printf("|---|---:|---:|---:|---|---:|---|\n");
+    for (size_t k = 0; k < count; k++) {
+        double page = median(&in[k].page), plain = median(&in[k].plain);
+        bool fast = page <= most * plain, alike = page <= most_of_first * first;
+        printf("| %s | %s | %s | %s | at most %.1f: %s ", in[k].name, micro(page), micro(plain), figure(page / plain), most,
+               fast ? "met" : "MISSED");
+        printf("| %s | at most %.1f: %s |\n", figure(page / first), most_of_first, alike ? "met" : "MISSED");
+        met = met && fast && alike;
+    }
+    return met;
+}
+
 /* The points of the growths that follow the rows, or of those that follow the pairs. */
 static void print_panel(FILE *out, growth *g, size_t count, bool by_rows)
 {

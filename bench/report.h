@@ -22,6 +22,9 @@ void print_z3(subject *in, size_t count, bool z3);
 /* Whether the growth keeps to its goal. */
 bool print_growth(growth *g);
 
+/* Pages against the plain page maker, and against the first of them; whether the goals are met. */
+bool print_pages(page_subject *in, size_t count);
+
 /* The growths as points for draw_growth, one panel for what follows the pairs and one for what follows the rows. */
 void print_points(FILE *out, growth *g, size_t count);
 

@@ -93,6 +93,16 @@ static growth growths[] = {
 
 enum { GROWTHS = sizeof growths / sizeof growths[0] };
 
+/* The first one has to be page 0, with which the others are compared. */
+static page_subject pages[] = {
+    {.name = "page 0, 59 pieces", .number = 0},
+    {.name = "page 68, 59 pieces", .number = 68},
+    {.name = "page 69, the last, 25 pieces", .number = 69},
+    {.name = "page 70, past the last", .number = 70},
+};
+
+enum { PAGES = sizeof pages / sizeof pages[0] };
+
 static bool prepare_all(void)
 {
     for (size_t k = 0; k < SUBJECTS; k++)
@@ -136,6 +146,7 @@ static bool print_all(size_t rounds, bool z3)
            "![Time of lw_solve against bit pairs and against rows](growth.svg)\n");
     for (size_t i = 0; i < GROWTHS; i++)
         met &= print_growth(&growths[i]);
+    met &= print_pages(pages, PAGES);
     return met;
 }
 
@@ -167,6 +178,8 @@ int main(int argc, char **argv)
         return 2;
     for (size_t i = 0; i < GROWTHS; i++)
         measure_growth(&growths[i], rounds);
+    if (!measure_pages(&subjects[TURNED], pages, PAGES, rounds))
+        return 2;
     bool met = print_all(rounds, z3);
     return !write_points() || fflush(stdout) != 0 || ferror(stdout) ? 2 : met ? 0 : 1;
 }
