@@ -1108,6 +1108,116 @@ static void test_large(void)
         check(shorter[k] != 0, HERE, "no large table has %s", short_names[k]);
 }
 
+/* Sides of many pieces. */
+
+enum { PIECED_TABLES = 600 };
+
+static const size_t piece_bits[] = {1, 2, 3, 5, 7, 16, 64, 1024};
+
+/* A word of 1024 bits in pieces of so many, parts of the first variables; the last piece may be shorter. */
+static size_t word_of_pieces(draft *d, size_t variables, size_t bits)
+{
+    size_t word = NONE, piece;
+    for (size_t i = 0; i < (bits == 1024 ? 1 : 8); i++) {
+        size_t v = bits == 1024 ? 0 : below(variables), at = below(d->width[v] - bits + 1);
+        piece = add_row(d, bits, CUT(v, at + bits - 1, at));
+        word = word == NONE ? piece : add_row(d, d->width[word] + bits, JOIN(word, piece));
+    }
+    while (d->width[word] <= 512)
+        word = add_row(d, 2 * d->width[word], JOIN(word, word));
+    if (d->width[word] < 1024) {
+        piece = add_row(d, 1024 - d->width[word], CUT(word, d->width[word] - 1, 2 * d->width[word] - 1024));
+        word = add_row(d, 1024, JOIN(word, piece));
+    }
+    return word;
+}
+
+/* The word with the bit that is so many places behind its high end made a fill. */
+static size_t with_fixed_bit(draft *d, size_t word, size_t at, size_t bit)
+{
+    size_t r = add_row(d, 1, FILL(bit, 1)), w = d->width[word];
+    if (at != 0) {
+        size_t top = add_row(d, at, CUT(word, w - 1, w - at));
+        r = add_row(d, at + 1, JOIN(top, r));
+    }
+    if (at + 1 == w)
+        return r;
+    size_t low = add_row(d, w - at - 1, CUT(word, w - at - 2, 0));
+    return add_row(d, w, JOIN(r, low));
+}
+
+/* What occurs in them. */
+enum { ONE_TO_ALL, HALF_TO_THIRD, AT_FIRST, AT_MIDDLE, AT_LAST, FILLED, PIECED };
+
+static const char *const pieced_names[PIECED] = {
+    "sides of 1024 pieces and of one", "sides of 512 and of 342 pieces", "a conflict at a piece's first bit",
+    "a conflict within a piece", "a conflict at a piece's last bit", "a narrower side of many pieces",
+};
+
+static size_t pieces_of(const draft *d, size_t row)
+{
+    static uint16_t form[LW_FORM_NUMBERS];
+    return lw_normal_form(ALL(d->t), row, form, LW_FORM_NUMBERS).pieces;
+}
+
+/* Equations between sides of many pieces, whose pieces end at different places. */
+static void make_pieced(draft *d, bool has[PIECED])
+{
+    size_t variables = 2 + below(3), conflict = one_in(2) ? 1 + below(4) : 0, place = below(3);
+    clear(d);
+    add_row(d, 1024, VARIABLE(1024));
+    while (d->rows < variables) {
+        size_t width = 64 + below(900);
+        add_row(d, width, VARIABLE(width));
+    }
+    for (size_t e = 1; e <= 4; e++) {
+        size_t left = piece_bits[below(COUNT(piece_bits))], right = piece_bits[below(COUNT(piece_bits))];
+        size_t a = word_of_pieces(d, variables, left), b = word_of_pieces(d, variables, right);
+        if (e == conflict) {
+            size_t at = below(1024 / left) * left + (place == 0 ? 0 : place == 1 ? left / 2 : left - 1);
+            a = with_fixed_bit(d, a, at, 1);
+            b = with_fixed_bit(d, b, at, 0);
+            has[AT_FIRST + (left == 1 ? 0 : place)] = true;
+        } else if (one_in(4)) {
+            size_t width = 1 + below(1023);
+            b = add_row(d, width, CUT(b, width - 1, 0));
+            has[FILLED] |= width > right * 8;
+        }
+        size_t m = pieces_of(d, a), n = pieces_of(d, b), most = m < n ? n : m, least = m < n ? m : n;
+        has[ONE_TO_ALL] |= most == 1024 && least == 1;
+        has[HALF_TO_THIRD] |= most == 512 && least == 342;
+        add_row(d, 0, EQUATION(a, b));
+    }
+}
+
+static void test_pieced(void)
+{
+    static draft d;
+    static uint16_t answer[LEAST];
+    unsigned long outcomes[3] = {0}, seen[PIECED] = {0};
+    char name[64];
+
+    for (unsigned long i = 0; i < PIECED_TABLES; i++) {
+        bool has[PIECED] = {false};
+        make_pieced(&d, has);
+        lw_record want = expected(ALL(d.t), LEAST, LEAST, answer);
+        snprintf(name, sizeof name, "table of many pieces %lu", i);
+        if (!check(want.outcome <= 2, HERE, "%s: refused %u, row %u", name, want.outcome, want.row))
+            continue;
+        call(HERE, name, ALL(d.t), NULL, LEAST, LEAST, want, answer);
+        outcomes[want.outcome]++;
+        for (int k = 0; k < PIECED; k++)
+            seen[k] += has[k];
+    }
+    printf("%d tables of many pieces: always %lu, never %lu, solved %lu\n", PIECED_TABLES, outcomes[0], outcomes[1],
+           outcomes[2]);
+    for (int k = 0; k < PIECED; k++) {
+        printf("    with %-45s %lu\n", pieced_names[k], seen[k]);
+        check(seen[k] != 0, HERE, "no table of many pieces has %s", pieced_names[k]);
+    }
+    check(outcomes[1] != 0 && outcomes[2] != 0, HERE, "an outcome does not occur");
+}
+
 const test_list tests = {
     .name = "solve", .inputs = 100000,
     .groups = {
@@ -1130,5 +1240,6 @@ const test_list tests = {
         {.name = "small tables against all patterns", .run_random = test_small},
         {.name = "damaged tables", .run_random = test_damaged},
         {.name = "large tables against the plain solver", .run = test_large},
+        {.name = "sides of many pieces against the plain solver", .run = test_pieced},
     },
 };

@@ -374,14 +374,14 @@ extern "C" {
 #define LW_STACK_VALUE             43456
 #define LW_STACK_NORMAL_FORM      141440
 #define LW_STACK_READ_SHEET         4352
-#define LW_STACK_SOLVE            190848
+#define LW_STACK_SOLVE            194816
 #define LW_STACK_RIGHT_SIDE           64
 #define LW_STACK_MAKE_PATTERN      16576
-#define LW_STACK_MARKER_POSITIONS 168576
+#define LW_STACK_MARKER_POSITIONS 172544
 #define LW_STACK_PAGE               2688
 #define LW_STACK_VALUE_ROWS        47616
 #define LW_STACK_NORMAL_FORM_ROWS 145600
-#define LW_STACK_SOLVE_ROWS       195008
+#define LW_STACK_SOLVE_ROWS       198912
 
 /* the record */
 

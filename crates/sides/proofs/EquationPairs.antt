@@ -1,24 +1,28 @@
--- The bit pairs of a row are those of the sources that `equation_pairs` leaves in two buffers.
+-- The bit pairs of a row are those that readers give of the normal forms of its filled sides.
 use mathlib.Core.Path.{_≡_, refl, sym, _∙_, ap, ap₂}
-use mathlib.Core.Bool.{false}
+use mathlib.Core.Bool.{Bool, true, false}
 use mathlib.Core.List.{List, [], _∷_}
 use Prim.Native.Nat.{ℕ, suc, _+_, _<_, _≤_, max}
 use native.Mathlib.Omega.{arith}
+use native.Mathlib.Nat.{zero-add}
+use lib.Dec.{eqb}
 use lib.ListN.{length, getD}
+use borrow.Author.Tests.{eqb-true, eqb-false}
 use Rattle.terms.specs.declared.Row.{Row}
-use Rattle.terms.specs.Table.{rowsOf, rowAt, bitsOf, widthOf, sourceOf, evened}
+use Rattle.terms.specs.Table.{rowsOf, rowAt, bitsOf, widthOf, countKind, sourceOf}
+use Rattle.terms.specs.inner.Places.{lowSource}
 use Rattle.laws.specs.Buffers.{overwrite}
 use Rattle.terms.specs.Faults.{absent}
 use Rattle.terms.proofs.AcceptedTable.{Table, accepted-table, term-present}
-use Rattle.laws.proofs.Buffers.{overwrite-read}
 use Rattle.terms.proofs.RowKinds.{of-equation, of-term}
 use Rattle.terms.proofs.Faults.{Term, Kept, kept, kept-names, equation-names, widths-small}
 use Rattle.terms.proofs.Filled.{evened-word, evened-length}
 use Rattle.terms.proofs.Sources.{source-length}
 use Rattle.answers.specs.Pairs.{Pair, paired, pairsOf}
-use Rattle.sides.specs.inner.Sides.{Prepared, pairsFrom, SidesRead}
-use Rattle.sides.proofs.FormSources.{filled-below, below-read}
-use Rattle.sides.proofs.Spelling.{AllBelow}
+use Rattle.forms.specs.Form.{formFrom, numbersOf}
+use Rattle.forms.specs.inner.Numbered.{Numbered}
+use Rattle.sides.specs.inner.Sides.{Prepared, leftSide, rightSide, sideWritten, pairsFrom, SidesWritten, SidesRead}
+use Rattle.sides.proofs.FormSources.{filled-below, below-read, side-read}
 
 -- pairs read where two words stand
 pairs-from : (left right xs ys : List ℕ) (k : ℕ) → length xs ≡ length ys
@@ -39,26 +43,31 @@ pairs-from left right (x ∷ xs) (y ∷ ys) k e l r =
     (λ i h. ap (λ (j : ℕ). getD left j 0) (s i) ∙ l (suc i) (omega arith))
     (λ i h. ap (λ (j : ℕ). getD right j 0) (s i) ∙ r (suc i) (omega arith)))
 
-module _ (table widths variables lows : List ℕ) (ready : Prepared table widths variables lows) (r : ℕ) (inside : r < length (rowsOf table)) where
+-- as many pairs as either word has bits
+paired-length : (xs ys : List ℕ) → length xs ≡ length ys → length (paired xs ys) ≡ length xs
+unfolding paired
+paired-length [] ys e = refl
+paired-length (x ∷ xs) [] e = absurd (omega arith)
+paired-length (x ∷ xs) (y ∷ ys) e = ap suc (paired-length xs ys (omega arith))
+
+module _ (table widths variables : List ℕ) (ready : Numbered table widths variables) (r : ℕ) (inside : r < length (rowsOf table)) where
   abbrev rows : List Row
   rows = rowsOf table
 
   whole : Table table
-  whole = accepted-table table (ready .numbered .accepted)
+  whole = accepted-table table (ready .accepted)
 
   row-kept : Kept rows r
   row-kept = kept rows r (whole .sound r inside)
 
-  -- a row that is no equation has no pairs
-  pub no-pairs : (left right : List ℕ) → (rowAt rows r .kind ≡ 4 → ⊥) → SidesRead rows r left right 0
-  unfolding pairsFrom pairsOf
-  no-pairs left right h =
-      let row = rowAt rows r in
+  -- a row that is no equation has no pairs, and nothing is written for it
+  pub no-sides : (left right : List ℕ) → (rowAt (rowsOf table) r .kind ≡ 4 → ⊥) → SidesWritten (rowsOf table) r left left right right 0
+  unfolding sideWritten pairsOf
+  no-sides left right h =
       record {
-        pairs = sym (of-term row _ [] h);
-        few = omega arith;
-        left-small = λ i l. absurd (omega arith);
-        right-small = λ i l. absurd (omega arith);
+        left-is = sym (of-term (rowAt rows r) _ left h);
+        right-is = sym (of-term (rowAt rows r) _ right h);
+        count = sym (ap length (of-term (rowAt rows r) _ [] h));
       }
 
   module _ (e : rowAt rows r .kind ≡ 4) where
@@ -83,50 +92,86 @@ module _ (table widths variables lows : List ℕ) (ready : Prepared table widths
     pub right-there : absent rows b ≡ false
     right-there = term-present rows b right-in (sides .1 .no-equation)
 
-    -- the filled sides
-    abbrev left-side : List ℕ
-    left-side = evened (sourceOf rows a) (sourceOf rows b)
-
-    abbrev right-side : List ℕ
-    right-side = evened (sourceOf rows b) (sourceOf rows a)
-
-    left-wide : length left-side ≡ max (widthOf rows a) (widthOf rows b)
+    left-wide : length (leftSide rows (rowAt rows r)) ≡ max (widthOf rows a) (widthOf rows b)
     left-wide = evened-word (sourceOf rows a) (sourceOf rows b) .wide ∙ ap₂ max (source-length rows (whole .sound) a left-in) (source-length rows (whole .sound) b right-in)
 
-    same-wide : length left-side ≡ length right-side
+    same-wide : length (leftSide rows (rowAt rows r)) ≡ length (rightSide rows (rowAt rows r))
     same-wide = evened-length (sourceOf rows a) (sourceOf rows b)
 
     small : (x : ℕ) → x < length rows → widthOf rows x ≤ 1024
     small x h = widths-small rows (length rows) (omega arith) (whole .sound) x h
 
-    left-few : length left-side ≤ 1024
+    left-few : length (leftSide rows (rowAt rows r)) ≤ 1024
     left-few = omega (arith, left-wide, small a left-in, small b right-in)
 
-    -- one side, read
-    read : (xs out out′ : List ℕ) → length xs ≤ 1024 → 1024 ≤ length out → out′ ≡ overwrite xs out → (i : ℕ) → i < length xs → getD out′ i 0 ≡ getD xs i 0
-    read xs out out′ few room eo i l = ap (λ (o : List ℕ). getD o i 0) eo ∙ overwrite-read xs out i l (omega arith)
-
-    read-small : (xs out out′ : List ℕ) → AllBelow (bitsOf rows + 2) xs → length xs ≤ 1024 → 1024 ≤ length out → out′ ≡ overwrite xs out
-        → (i : ℕ) → i < length xs → getD out′ i 0 < bitsOf rows + 2
-    read-small xs out out′ below few room eo i l =
-        omega (arith, read xs out out′ few room eo i l, below-read (bitsOf rows + 2) xs below i l)
-
-    pub all-pairs : (left₀ left right₀ right : List ℕ) (w : ℕ) → 1024 ≤ length left₀ → 1024 ≤ length right₀
-        → left ≡ overwrite (evened (sourceOf rows a) (sourceOf rows b)) left₀ → right ≡ overwrite (evened (sourceOf rows b) (sourceOf rows a)) right₀
-        → w ≡ max (getD widths a 0) (getD widths b 0) → SidesRead rows r left right w
+    are-pairs : pairsOf rows (rowAt rows r) ≡ paired (leftSide rows (rowAt rows r)) (rightSide rows (rowAt rows r))
     unfolding pairsOf
-    all-pairs left₀ left right₀ right w roomₗ roomᵣ eₗ eᵣ ew =
-        let wide : w ≡ length left-side = ew ∙ ap₂ max (ready .numbered .widths-are a left-in) (ready .numbered .widths-are b right-in) ∙ sym left-wide in
-        let z : (i : ℕ) → 0 + i ≡ i = λ i. omega arith in
-        let right-few : length right-side ≤ 1024 = omega (arith, same-wide, left-few) in
+    are-pairs = of-equation (rowAt rows r) (paired (leftSide rows (rowAt rows r)) (rightSide rows (rowAt rows r))) [] e
+
+    pub both-sides : (left left′ right right′ : List ℕ) (w : ℕ)
+        → left′ ≡ overwrite (numbersOf (formFrom (rowsOf table) (leftSide (rowsOf table) (rowAt (rowsOf table) r)))) left
+        → right′ ≡ overwrite (numbersOf (formFrom (rowsOf table) (rightSide (rowsOf table) (rowAt (rowsOf table) r)))) right
+        → w ≡ max (getD widths (rowAt (rowsOf table) r .a) 0) (getD widths (rowAt (rowsOf table) r .b) 0)
+        → SidesWritten (rowsOf table) r left left′ right right′ w
+    unfolding sideWritten
+    both-sides left left′ right right′ w eₗ eᵣ ew =
         record {
-          pairs =
-              ap (pairsFrom left right 0) wide
-              ∙ pairs-from left right left-side right-side 0 same-wide
-              (λ i h. ap (λ (j : ℕ). getD left j 0) (z i) ∙ read left-side left₀ left left-few roomₗ eₗ i h)
-              (λ i h. ap (λ (j : ℕ). getD right j 0) (z i) ∙ read right-side right₀ right right-few roomᵣ eᵣ i h)
-              ∙ sym (of-equation (rowAt rows r) (paired left-side right-side) [] (omega arith));
-          few = omega (arith, wide, left-few);
-          left-small = λ i h. read-small left-side left₀ left (filled-below rows (whole .sound) a b left-in) left-few roomₗ eₗ i (omega (arith, wide));
-          right-small = λ i h. read-small right-side right₀ right (filled-below rows (whole .sound) b a right-in) right-few roomᵣ eᵣ i (omega (arith, wide, same-wide));
+          left-is = eₗ ∙ sym (of-equation (rowAt rows r) _ left e);
+          right-is = eᵣ ∙ sym (of-equation (rowAt rows r) _ right e);
+          count =
+              ew ∙ ap₂ max (ready .widths-are a left-in) (ready .widths-are b right-in) ∙ sym left-wide
+              ∙ sym (ap length are-pairs ∙ paired-length (leftSide rows (rowAt rows r)) (rightSide rows (rowAt rows r)) same-wide);
         }
+
+    module _ (lows : List ℕ) (lows-are : (v : ℕ) → v < countKind 0 (rowsOf table) → getD lows v 0 ≡ lowSource (rowsOf table) v) where
+      equation-read : (left left′ right right′ : List ℕ) (w : ℕ) → 4096 ≤ length left → 4096 ≤ length right
+          → SidesWritten (rowsOf table) r left left′ right right′ w → SidesRead (rowsOf table) r lows left′ right′ w
+      unfolding sideWritten
+      equation-read left left′ right right′ w roomₗ roomᵣ s =
+          let l : List ℕ = leftSide rows (rowAt rows r) in
+          let q : List ℕ = rightSide rows (rowAt rows r) in
+          let wide : w ≡ length l = s .count ∙ ap length are-pairs ∙ paired-length l q same-wide in
+          let right-few : length q ≤ 1024 = omega (arith, same-wide, left-few) in
+          record {
+            left-read =
+                λ k at h.
+                side-read table widths variables ready a left-there b right-there lows lows-are left left′ roomₗ
+                (s .left-is ∙ of-equation (rowAt rows r) _ left e) k at (omega (arith, wide));
+            right-read =
+                λ k at h.
+                side-read table widths variables ready b right-there a left-there lows lows-are right right′ roomᵣ
+                (s .right-is ∙ of-equation (rowAt rows r) _ right e) k at (omega (arith, wide, same-wide));
+            pairs = ap (pairsFrom l q 0) wide ∙ pairs-from l q l q 0 same-wide (λ i h. ap (λ (j : ℕ). getD l j 0) (zero-add i)) (λ i h. ap (λ (j : ℕ). getD q j 0) (zero-add i)) ∙ sym are-pairs;
+            few = omega (arith, wide, left-few);
+            left-small = λ i h. below-read (bitsOf rows + 2) l (filled-below rows (whole .sound) a b left-in) i (omega (arith, wide));
+            right-small = λ i h. below-read (bitsOf rows + 2) q (filled-below rows (whole .sound) b a right-in) i (omega (arith, wide, same-wide));
+          }
+
+-- the readers of the forms that were written give the bit pairs of the row
+module _ (table widths variables lows : List ℕ) (ready : Prepared table widths variables lows) (r : ℕ) (inside : r < length (rowsOf table)) where
+  pub none-read : (left right : List ℕ) → (rowAt (rowsOf table) r .kind ≡ 4 → ⊥) → SidesRead (rowsOf table) r lows left right 0
+  unfolding pairsFrom pairsOf
+  none-read left right h =
+      record {
+        left-read = λ k at l. absurd (omega arith);
+        right-read = λ k at l. absurd (omega arith);
+        pairs = sym (of-term (rowAt (rowsOf table) r) _ [] h);
+        few = omega arith;
+        left-small = λ i l. absurd (omega arith);
+        right-small = λ i l. absurd (omega arith);
+      }
+
+  pub sides-read : (left left′ right right′ : List ℕ) (w : ℕ) → 4096 ≤ length left → 4096 ≤ length right
+      → SidesWritten (rowsOf table) r left left′ right right′ w → SidesRead (rowsOf table) r lows left′ right′ w
+  unfolding pairsOf
+  sides-read left left′ right right′ w roomₗ roomᵣ s = go (eqb (rowAt (rowsOf table) r .kind) 4) refl
+    where
+      go : (b : Bool) → eqb (rowAt (rowsOf table) r .kind) 4 ≡ b → SidesRead (rowsOf table) r lows left′ right′ w
+      go true e = equation-read table widths variables (ready .numbered) r inside (eqb-true _ 4 e) lows (ready .lows-are) left left′ right right′ w roomₗ roomᵣ s
+      go false e =
+          let n = eqb-false (rowAt (rowsOf table) r .kind) 4 e in
+          let z : w ≡ 0 = s .count ∙ ap length (no-row-pairs n) in
+          rw z (none-read left′ right′ n)
+        where
+          no-row-pairs : (rowAt (rowsOf table) r .kind ≡ 4 → ⊥) → pairsOf (rowsOf table) (rowAt (rowsOf table) r) ≡ []
+          no-row-pairs n = of-term (rowAt (rowsOf table) r) _ [] n

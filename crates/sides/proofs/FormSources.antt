@@ -1,4 +1,4 @@
--- The sources of a filled side, spelled out from its normal form in a buffer.
+-- The sources of a filled side, as a reader gives them from its normal form in a buffer.
 use mathlib.Core.Path.{_≡_, refl, sym, _∙_, ap, ap₂}
 use mathlib.Core.Bool.{Bool, true, false}
 use mathlib.Core.List.{List, [], _∷_, _++_, map, append-assoc, append-nil}
@@ -9,7 +9,7 @@ use lib.ListN.{length, getD, take, replicate}
 use lib.Seq.{take-suc, take-length}
 use borrow.Author.Tests.{ltb-true}
 use Rattle.terms.specs.declared.Row.{Row}
-use Rattle.terms.specs.Table.{rowsOf, bitsOf, bitOf, sourcesOf, sourceOf, evened}
+use Rattle.terms.specs.Table.{rowsOf, bitsOf, countKind, bitOf, sourcesOf, sourceOf, evened}
 use Rattle.laws.specs.Lists.{countUp}
 use Rattle.laws.specs.Buffers.{overwrite}
 use Rattle.terms.specs.Faults.{absent}
@@ -21,13 +21,16 @@ use Rattle.laws.proofs.CountUp.{count-up}
 use Rattle.terms.specs.Sound.{Sound}
 use Rattle.forms.specs.declared.Piece.{Piece}
 use Rattle.forms.specs.Form.{fill, formFrom, numbersOf}
+use Rattle.forms.specs.inner.Numbered.{Numbered}
 use Rattle.pieces.proofs.Buffer.{form-piece}
 use Rattle.appender.specs.inner.Append.{Appended}
 use Rattle.forms.proofs.RowForms.{sources-wide, width-small, width-read}
 use Rattle.appender.proofs.Appending.{appended-both, appended-same, appended-first}
 use Rattle.forms.proofs.Units.{form-count}
-use Rattle.sides.specs.inner.Sides.{Prepared}
-use Rattle.sides.specs.inner.Spread.{stepped, sourcesIn, spelled, Spells}
+use Rattle.terms.specs.inner.Places.{lowSource}
+use Rattle.sides.specs.declared.Reader.{Reader}
+use Rattle.sides.specs.inner.Reading.{stepped, sourcesIn, spelled, Stands}
+use Rattle.sides.proofs.Reading.{reader-source}
 use Rattle.sides.proofs.Spelling.{named, namedAll, Lies, AllLie, form-lies, form-named, AllBelow, none, some}
 
 -- a run that stands still, and one that rises
@@ -70,11 +73,13 @@ module _ (n : ℕ) (lows : List ℕ) (fit : n < 65535) where
   piece-read p k = go (ltb (p .kind) 2) refl
     where
       go : (b : Bool) → ltb (p .kind) 2 ≡ b → sourcesIn lows p ≡ named lows p
-      go true e = rw (e) (stepped-still (p .kind) (p .high + 1) (omega (arith, ltb-true (p .kind) 2 e)))
+      go true e =
+          let w : suc (p .high) ≡ p .high + 1 = omega arith in
+          rw (e, w) (stepped-still (p .kind) (p .high + 1) (omega (arith, ltb-true (p .kind) 2 e)))
       go false e =
           let low = getD lows (p .variable) 0 in
-          let x : (low - p .high) % 65536 ≡ low - p .high = omega (arith, k .small e) in
-          rw (e, x) (stepped-up (low - p .high) (p .high + 1 - p .low) (omega (arith, k .inside e, k .small e)))
+          let w : suc (p .high - p .low) ≡ p .high + 1 - p .low = omega (arith, k .in-order) in
+          rw (e, w) (stepped-up (low - p .high) (p .high + 1 - p .low) (omega (arith, k .inside e, k .small e)))
 
   pieces-read : (f : List Piece) → AllLie n lows f → inTurn lows f ≡ namedAll lows f
   unfolding inTurn namedAll
@@ -121,8 +126,8 @@ pub filled-below : (t : List Row) → Sound t → (r s : ℕ) → r < length t �
 unfolding evened
 filled-below t sound r s h = zeros-below (bitsOf t + 2) (length (sourceOf t s) - length (sourceOf t r)) (sourceOf t r) (omega arith) (sources-below t sound r h)
 
--- what `side_bits` writes
-module _ (table widths variables lows : List ℕ) (ready : Prepared table widths variables lows)
+-- one side: its form in a buffer, and what a reader gives of it
+module _ (table widths variables : List ℕ) (ready : Numbered table widths variables)
     (row : ℕ) (there : absent (rowsOf table) row ≡ false) (other : ℕ) (there′ : absent (rowsOf table) other ≡ false) where
   abbrev rows : List Row
   rows = rowsOf table
@@ -132,7 +137,7 @@ module _ (table widths variables lows : List ℕ) (ready : Prepared table widths
   side = evened (sourceOf rows row) (sourceOf rows other)
 
   whole : Table table
-  whole = accepted-table table (ready .numbered .accepted)
+  whole = accepted-table table (ready .accepted)
 
   few-bits : bitsOf rows ≤ 4096
   few-bits = rw (take-length rows) at (totals-small rows (length rows) (whole .sound) .1)
@@ -145,31 +150,40 @@ module _ (table widths variables lows : List ℕ) (ready : Prepared table widths
       omega (
         arith,
         evened-word (sourceOf rows row) (sourceOf rows other) .wide,
-        sources-wide table widths variables (ready .numbered) row there,
-        width-small table widths variables (ready .numbered) row there,
-        sources-wide table widths variables (ready .numbered) other there′,
-        width-small table widths variables (ready .numbered) other there′,
+        sources-wide table widths variables ready row there,
+        width-small table widths variables ready row there,
+        sources-wide table widths variables ready other there′,
+        width-small table widths variables ready other there′,
       )
 
   -- as many zeros as the side lacks
   lacks : getD widths other 0 - getD widths row 0 ≡ length (sourceOf rows other) - length (sourceOf rows row)
   lacks =
-      let n = ready .numbered in
-      ap₂ _-_ (width-read table widths variables n other there′ other there′ ∙ sym (sources-wide table widths variables n other there′))
-      (width-read table widths variables n row there row there ∙ sym (sources-wide table widths variables n row there))
+      ap₂ _-_ (width-read table widths variables ready other there′ other there′ ∙ sym (sources-wide table widths variables ready other there′))
+      (width-read table widths variables ready row there row there ∙ sym (sources-wide table widths variables ready row there))
 
-  pub side-written : (form form₁ form′ out out′ : List ℕ) (lacking m n : ℕ) → lacking ≡ getD widths other 0 - getD widths row 0
-      → Appended rows (replicate lacking 0) 0 form m form₁ → Appended rows (sourceOf rows row) m form₁ n form′ → Spells lows form′ n out out′
-      → 4096 ≤ length form → 1024 ≤ length out → out′ ≡ overwrite side out
+  -- a fill of zeros and the row's form behind it are the normal form of the filled side
+  pub side-written : (form form₁ form′ : List ℕ) (lacking m n : ℕ) → lacking ≡ getD widths other 0 - getD widths row 0
+      → Appended rows (replicate lacking 0) 0 form m form₁ → Appended rows (sourceOf rows row) m form₁ n form′
+      → 4096 ≤ length form → form′ ≡ overwrite (numbersOf (formFrom rows side)) form
   unfolding evened
-  side-written form form₁ form′ out out′ lacking m n el fill put spells room room′ =
+  side-written form form₁ form′ lacking m n el fill put room =
       let both = appended-both rows (replicate lacking 0) (sourceOf rows row) 0 m n form form₁ form′ fill put in
       let filled = appended-same rows (replicate lacking 0 ++ sourceOf rows row) side 0 n form form′
       (ap (λ (k : ℕ). replicate k 0 ++ sourceOf rows row) (el ∙ lacks)) both in
-      let done = appended-first rows side form n form′ small room filled in
+      appended-first rows side form n form′ small room filled .numbers
+
+  -- from its first bit to its last a reader gives the filled side's sources
+  pub side-read : (lows : List ℕ) → ((v : ℕ) → v < countKind 0 (rowsOf table) → getD lows v 0 ≡ lowSource (rowsOf table) v)
+      → (form form′ : List ℕ) → 4096 ≤ length form
+      → form′ ≡ overwrite (numbersOf (formFrom (rowsOf table) (evened (sourceOf (rowsOf table) row) (sourceOf (rowsOf table) other)))) form
+      → (k : ℕ) (at : Reader) → k < length (evened (sourceOf (rowsOf table) row) (sourceOf (rowsOf table) other)) → Stands lows form′ k at
+      → at .source ≡ getD (evened (sourceOf (rowsOf table) row) (sourceOf (rowsOf table) other)) k 0
+  side-read lows lows-are form form′ room e k at l s =
+      let n : ℕ = length (formFrom rows side) in
       let all : spelled lows form′ n ≡ side =
-      ap₂ (spelled lows) (done .numbers) (done .pieces)
-      ∙ form-read (bitsOf rows + 1) lows (omega (arith, few-bits)) (formFrom rows side) form (form-lies rows lows (ready .lows-are) side below)
+      ap (λ (f : List ℕ). spelled lows f n) e
+      ∙ form-read (bitsOf rows + 1) lows (omega (arith, few-bits)) (formFrom rows side) form (form-lies rows lows lows-are side below)
       (omega (arith, form-count rows side, small))
-      ∙ form-named rows lows (ready .lows-are) side below in
-      spells (rw all (omega (arith, small))) ∙ ap (λ (l : List ℕ). overwrite l out) all
+      ∙ form-named rows lows lows-are side below in
+      reader-source lows form′ at n k (rw all l) s ∙ ap (λ (q : List ℕ). getD q k 0) all

@@ -1,6 +1,6 @@
 pub mod Spelling
+pub mod Reading
 pub mod FormSources
-pub mod Writing
 pub mod EquationPairs
 pub mod NextEquation
 pub mod Shortened

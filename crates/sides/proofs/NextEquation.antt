@@ -2,7 +2,7 @@
 -- nothing.
 use mathlib.Core.Path.{_≡_, refl}
 use mathlib.Core.Bool.{Bool}
-use mathlib.Core.List.{List, []}
+use mathlib.Core.List.{List}
 use mathlib.Core.Logic.{_≢_}
 use Prim.Native.Nat.{ℕ, suc, _+_, _-_, _≤_, _<_}
 use native.Mathlib.Omega.{arith}
@@ -14,8 +14,7 @@ use Rattle.laws.specs.Lists.{least}
 use Rattle.laws.proofs.Least.{least-within, least-passed}
 use Rattle.terms.specs.declared.Row.{Row}
 use Rattle.terms.specs.Table.{rowsOf, rowAt}
-use Rattle.sides.specs.inner.Sides.{Prepared, SidesRead, nextEquation}
-use Rattle.sides.proofs.EquationPairs.{no-pairs}
+use Rattle.sides.specs.inner.Sides.{nextEquation}
 
 -- the search at an equation, at another row, and behind the last
 module _ (t : List Row) (r rows : ℕ) where
@@ -42,21 +41,20 @@ pub next-forth : (t : List Row) (from rows n : ℕ) → n ≡ nextEquation t fro
 unfolding nextEquation
 next-forth t from rows n e = omega (arith, least-within (λ r. eqb (rowAt t r .kind) 4) from (rows - from) .0)
 
--- The rows of a table from one row to another: none of them has bit pairs.
+-- The rows of a table from one row to another: none of them is an equation.
 pub record Passed (t : List Row) (from n : ℕ) : Type 0 where
   pub forth : from ≤ n
   pub most : n ≤ length t
-  pub none : (i : ℕ) → from ≤ i → i < n → SidesRead t i [] [] 0
+  pub none : (i : ℕ) → from ≤ i → i < n → rowAt t i .kind ≢ 4
 
-pub next-passed : (table widths variables lows : List ℕ) → Prepared table widths variables lows → (from rows n : ℕ) → from ≤ rows → rows ≡ length (rowsOf table)
+pub next-passed : (table : List ℕ) (from rows n : ℕ) → from ≤ rows → rows ≡ length (rowsOf table)
     → n ≡ nextEquation (rowsOf table) from rows → Passed (rowsOf table) from n
 unfolding nextEquation
-next-passed table widths variables lows ready from rows n l whole e =
+next-passed table from rows n l whole e =
     let test : ℕ → Bool = λ r. eqb (rowAt (rowsOf table) r .kind) 4 in
     let w = least-within test from (rows - from) in
-    let most : n ≤ length (rowsOf table) = omega (arith, w .1) in
     record {
       forth = omega (arith, w .0);
-      most = most;
-      none = λ i a b. no-pairs table widths variables lows ready i (omega arith) [] [] (eqb-false _ _ (least-passed test from (rows - from) i a (omega arith)));
+      most = omega (arith, w .1);
+      none = λ i a b. eqb-false _ _ (least-passed test from (rows - from) i a (omega arith));
     }

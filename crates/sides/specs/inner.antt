@@ -1,3 +1,3 @@
-pub mod Spread
+pub mod Reading
 pub mod Sides
 pub mod Shortened

@@ -1,93 +1,101 @@
-// The equations of a table: which row is the next one; and its bit pairs, from the normal forms of its filled sides: the sources of each side,
-// high end first. And a copy of a table in which each cut of a cut is made one cut, so that the forms take few calls.
+// The equations of a table: which row is the next one; the normal forms of its filled sides, each in a buffer of its own; and a reader that
+// takes a side's bits, as sources and high end first, from the form where it was written. And a copy of a table in which each cut of a
+// cut is made one cut, so that the forms take few calls.
 ghost use mathlib.Core.Path.{_≡_};
 ghost use Prim.Native.Nat.{_≤_, min};
 ghost use lib.ListN.{length};
-ghost use Rattle.laws.specs.Buffers.{Behind};
 ghost use Rattle.terms.specs.Table.{rowsOf};
-ghost use Rattle.sides.specs.inner.Sides.{nextEquation, ReadsSides};
-ghost use Rattle.sides.specs.inner.Spread.{stepped, sourcesIn, Spells, ReadsSide};
+ghost use Rattle.sides.specs.inner.Reading.{firstIn, nextIn, Stands, StepsOn};
+ghost use Rattle.sides.specs.inner.Sides.{nextEquation, WritesSide, WritesSides};
 ghost use Rattle.sides.specs.inner.Shortened.{shortIn, storedRow, Shortens};
-use forms::Piece;
 use terms::Row;
 
-// Writes count numbers from a place on, as far as there is room: x, x + step, x + 2 · step and so on. The place behind them.
-fn run(out: &mut [u16], from: usize, count: usize, x: u16, step: u16) -> usize
-    ensures { λ m. ⌜ Behind (stepped x step count) from (now (out .entry)) m (now (out .exit)) ⌝ }
-{
-    let mut at = from;
-    let mut left = numbers::lesser(count, numbers::minus(out.len(), from));
-    let mut y = x;
-    while 0 < left {
-        out[at] = y;
-        y = numbers::plus(y, step);
-        at += 1;
-        left -= 1;
-    }
-    at
+// Where a form is read: the piece and, at one of its bits, the source, how far on the next bit's source is (0 in a fill, 1 in a part of a
+// variable), and how many bits of the piece are left behind it.
+pub struct Reader {
+    pub piece: u16,
+    pub source: u16,
+    pub step: u16,
+    pub left: u16,
 }
 
-// Writes the sources of a piece behind the n that are there. How many there are then.
-fn put_sources(lows: &[u16], p: Piece, out: &mut [u16], n: usize) -> usize
-    ensures { λ m. ⌜ Behind (sourcesIn (now (lows .entry)) p) n (now (out .entry)) m (now (out .exit)) ⌝ }
+// The reader at the first bit of a piece.
+fn begin(lows: &[u16], form: &[u16], piece: u16) -> Reader
+    ensures { λ at. ⌜ at ≡ firstIn (now (lows .entry)) (now (form .entry)) piece ⌝ }
 {
+    let p = pieces::piece_at(form, numbers::wide(piece));
     let kind = p.kind;
-    let high = numbers::wide(p.high);
     if kind < 2 {
-        return run(out, n, high + 1, kind, 0);
+        return Reader {
+            piece: piece,
+            source: kind,
+            step: 0,
+            left: p.high,
+        };
     }
-    let low = numbers::wide(numbers::load(lows, numbers::wide(p.variable)));
-    let count = numbers::minus(high + 1, numbers::wide(p.low));
-    run(out, n, count, numbers::narrow(numbers::minus(low, high)), 1)
+    let low = numbers::load(lows, numbers::wide(p.variable));
+    Reader {
+        piece: piece,
+        source: numbers::difference(low, p.high),
+        step: 1,
+        left: numbers::difference(p.high, p.low),
+    }
 }
 
-// Writes the sources of the first n pieces of a form.
-fn spread(lows: &[u16], form: &[u16], n: usize, out: &mut [u16])
-    ensures { λ _. ⌜ Spells (now (lows .entry)) (now (form .entry)) n (now (out .entry)) (now (out .exit)) ⌝ }
+// The reader at the first bit of a form.
+pub fn first(lows: &[u16], form: &[u16]) -> Reader
+    ensures is { λ at. ⌜ at ≡ firstIn (now (lows .entry)) (now (form .entry)) 0 ⌝ }
+    ensures stands { λ at. ⌜ Stands (now (lows .entry)) (now (form .entry)) 0 at ⌝ }
 {
-    let mut m = 0;
-    let mut i = 0;
-    while i < n {
-        m = put_sources(lows, pieces::piece_at(form, i), out, m);
-        i += 1;
+    begin(lows, form, 0)
+}
+
+// The reader one bit on.
+pub fn next(lows: &[u16], form: &[u16], at: Reader) -> Reader
+    ensures is { λ on. ⌜ on ≡ nextIn (now (lows .entry)) (now (form .entry)) at ⌝ }
+    ensures stands { λ on. ⌜ StepsOn (now (lows .entry)) (now (form .entry)) at on ⌝ }
+{
+    let left = at.left;
+    if left == 0 {
+        return begin(lows, form, numbers::plus(at.piece, 1));
+    }
+    Reader {
+        piece: at.piece,
+        source: numbers::plus(at.source, at.step),
+        step: at.step,
+        left: left - 1,
     }
 }
 
-// Writes the sources of a row that is brought to the width of another, high end first, by its normal form behind a fill of zeros.
-fn side_bits(
+// Writes the normal form of a row that is brought to the width of another to the beginning of a buffer: a fill of zeros, and the row's own
+// form behind it. How many pieces it has.
+fn side_form(
     table: &[u16],
     widths: &[u16],
     variables: &[u16],
-    lows: &[u16],
     row: usize,
     other: usize,
     form: &mut [u16],
-    out: &mut [u16],
-)
-    ensures { λ _. ⌜ ReadsSide (now (table .entry)) (now (widths .entry)) (now (variables .entry)) (now (lows .entry)) row other
-        (length (now (form .entry))) (now (out .entry)) (now (out .exit)) ⌝ }
+) -> usize
+    ensures { λ _. ⌜ WritesSide (now (table .entry)) (now (widths .entry)) (now (variables .entry)) row other (now (form .entry)) (now (form .exit)) ⌝ }
 {
     let own = numbers::load(widths, row);
     let lacking = numbers::difference(numbers::load(widths, other), own);
     let zeros = appender::put_fill(form, 0, 0, lacking);
-    let pieces = appender::put_form(table, widths, variables, row, form, zeros);
-    spread(lows, form, pieces, out);
+    appender::put_form(table, widths, variables, row, form, zeros)
 }
 
-// The bit pairs of row r, as two runs of sources. How many there are: none, if it is no equation.
-pub fn equation_pairs(
+// Writes the normal forms of the filled sides of row r. How many bit pairs it has: none, if it is no equation.
+pub fn put_sides(
     table: &[u16],
     widths: &[u16],
     variables: &[u16],
-    lows: &[u16],
     r: usize,
-    form: &mut [u16],
     left: &mut [u16],
     right: &mut [u16],
 ) -> usize
-    ensures { λ w. ⌜ ReadsSides (now (table .entry)) (now (widths .entry)) (now (variables .entry)) (now (lows .entry)) r
-        (length (now (form .entry))) (length (now (left .entry))) (length (now (right .entry)))
-        (now (left .exit)) (now (right .exit)) w ⌝ }
+    ensures { λ w. ⌜ WritesSides (now (table .entry)) (now (widths .entry)) (now (variables .entry)) r
+        (now (left .entry)) (now (left .exit)) (now (right .entry)) (now (right .exit)) w ⌝ }
 {
     let row = rows::row_at(table, r);
     let kind = row.kind;
@@ -96,8 +104,8 @@ pub fn equation_pairs(
     }
     let a = numbers::wide(row.a);
     let b = numbers::wide(row.b);
-    side_bits(table, widths, variables, lows, a, b, form, left);
-    side_bits(table, widths, variables, lows, b, a, form, right);
+    side_form(table, widths, variables, a, b, left);
+    side_form(table, widths, variables, b, a, right);
     let width = numbers::load(widths, a);
     numbers::wide(numbers::higher(width, numbers::load(widths, b)))
 }

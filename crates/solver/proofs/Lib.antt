@@ -1,4 +1,5 @@
 pub mod Taking
+pub mod Forms
 pub mod Filling
 pub mod Settling
 pub mod Concluding

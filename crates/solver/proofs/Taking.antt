@@ -22,7 +22,8 @@ use Rattle.classes.specs.inner.Links.{Low, rootsOf, pair, linked, PairTaken}
 use Rattle.classes.proofs.Links.{Canon, canon-merge, merge-len, merge-is}
 use Rattle.classes.proofs.Roots.{roots-settled}
 use Rattle.classes.proofs.Taking.{tie-or-not, no-conflict, a-conflict}
-use Rattle.sides.specs.inner.Sides.{pairsFrom, SidesRead}
+use Rattle.terms.proofs.RowKinds.{of-term}
+use Rattle.sides.specs.inner.Sides.{pairsFrom}
 use Rattle.sides.proofs.NextEquation.{Passed}
 use Rattle.solver.specs.inner.Equations.{EquationsTaken}
 
@@ -222,12 +223,16 @@ module _ (t : List Row) where
         }
 
   -- rows were passed that have no bit pairs
+  no-pairs : (i : ℕ) → rowAt t i .kind ≢ 4 → pairsOf t (rowAt t i) ≡ pairsFrom [] [] 0 0
+  unfolding pairsOf pairsFrom
+  no-pairs i n = of-term (rowAt t i) _ [] n
+
   between-past : (d : ℕ) (h : List ℕ) (ties row : ℕ) → Between h ties row → row + d ≤ length t
-      → ((i : ℕ) → row ≤ i → i < row + d → SidesRead t i [] [] 0) → Between h ties (row + d)
+      → ((i : ℕ) → row ≤ i → i < row + d → rowAt t i .kind ≢ 4) → Between h ties (row + d)
   between-past zero h ties row b g none = let e : row ≡ row + 0 = omega arith in subst (Between h ties) e b
   between-past (suc d) h ties row b g none =
       let m : Between h (ties + 0) (row + 1) =
-      between-more h ties row b (omega arith) [] [] h 0 0 (taking-first [] [] _ h (b .canon) (b .low) refl (sym (b .roots-len)) (b .one)) (none row (omega arith) (omega arith) .pairs) in
+      between-more h ties row b (omega arith) [] [] h 0 0 (taking-first [] [] _ h (b .canon) (b .low) refl (sym (b .roots-len)) (b .one)) (sym (no-pairs row (none row (omega arith) (omega arith)))) in
       let z : ties + 0 ≡ ties = omega arith in
       let e : row + 1 + d ≡ row + suc d = omega arith in
       subst (Between h ties) e

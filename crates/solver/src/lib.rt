@@ -1,11 +1,11 @@
-// The solver (document 01, "The solver's answer"). The bit pairs of each equation are read from the normal forms of its sides (crate
-// sides); each pair joins the classes of its two bits (classes), until two different fixed bits meet; the classes give the answer's
-// rows (borders).
+// The solver (document 01, "The solver's answer"). The bit pairs of each equation are read from the normal forms of its sides, where
+// these were written (crate sides); each pair joins the classes of its two bits (classes), until two different fixed bits meet; the
+// classes give the answer's rows (borders).
 ghost use mathlib.Core.Path.{_≡_};
 ghost use Prim.Native.Nat.{_%_, _≤_, suc};
 ghost use lib.ListN.{length};
 ghost use Rattle.answers.specs.Solve.{solveRecord, answerAfter, workAfter};
-ghost use Rattle.solver.specs.inner.Equations.{TakesEquations, SettlesTies, TableClasses};
+ghost use Rattle.solver.specs.inner.Equations.{TakesEquations, LeavesForms, SettlesTies, TableClasses};
 ghost use Rattle.solver.specs.inner.Call.{Unlinks, Concludes, AnswersTable, SolvesAccepted};
 use terms::Record;
 
@@ -15,30 +15,32 @@ pub struct Taken {
     pub ties: usize,
 }
 
-// Takes the equations of a table in row order, and the bit pairs of each from the high end: the classes of their bits are joined. Two
-// different fixed bits that meet end it.
+// Takes the equations of a table in row order, and the bit pairs of each from the high end, from the forms of its two sides: the classes
+// of their bits are joined. Two different fixed bits that meet end it. The forms stay as they were written.
 fn take_equations(
     table: &[u16],
     widths: &[u16],
     variables: &[u16],
     lows: &[u16],
-    form: &mut [u16],
     left: &mut [u16],
     right: &mut [u16],
     links: &mut [u16],
 ) -> Taken
-    ensures { λ r. ⌜ TakesEquations (now (table .entry)) (now (widths .entry)) (now (variables .entry)) (now (lows .entry)) (length (now (form .entry))) (length (now (left .entry))) (length (now (right .entry))) (now (links .entry)) (now (links .exit)) (r .row) (r .ties) ⌝ }
+    ensures classes { λ r. ⌜ TakesEquations (now (table .entry)) (now (widths .entry)) (now (variables .entry)) (now (lows .entry)) (length (now (left .entry))) (length (now (right .entry))) (now (links .entry)) (now (links .exit)) (r .row) (r .ties) ⌝ }
+    ensures forms { λ r. ⌜ LeavesForms (now (table .entry)) (now (widths .entry)) (now (variables .entry)) (now (left .entry)) (now (left .exit)) (now (right .entry)) (now (right .exit)) (r .row) ⌝ }
 {
     let rows = numbers::lesser(table.len() / 4, terms::MAX_ROWS);
     let mut ties: usize = 0;
     let mut r = sides::next_equation(table, 0, rows);
     'solve: while r < rows {
-        let pairs = sides::equation_pairs(table, widths, variables, lows, r, form, left, right);
+        let pairs = sides::put_sides(table, widths, variables, r, left, right);
         let width = numbers::lesser(pairs, terms::MAX_WIDTH);
+        let mut a = sides::first(lows, left);
+        let mut b = sides::first(lows, right);
         let mut found: usize = 0;
         let mut k: usize = 0;
         while k < width {
-            match classes::take_pair(links, numbers::load(left, k), numbers::load(right, k)) {
+            match classes::take_pair(links, a.source, b.source) {
                 classes::Pairing::Nothing => {}
                 classes::Pairing::Tie => {
                     found += 1;
@@ -47,6 +49,8 @@ fn take_equations(
                     break 'solve;
                 }
             }
+            a = sides::next(lows, left, a);
+            b = sides::next(lows, right, b);
             k += 1;
         }
         ties += found;
@@ -78,7 +82,7 @@ fn settle_ties(table: &[u16], row: usize, ties: usize, links: &mut [u16])
 }
 
 // The classes of a table's bits: its equations are taken from sources that link to themselves; then each link is its source's
-// representative, unless two different fixed bits met.
+// representative, unless two different fixed bits met. The left sides' forms are written to `form`.
 pub fn table_classes(
     table: &[u16],
     widths: &[u16],
@@ -91,8 +95,7 @@ pub fn table_classes(
     let mut short = [0u16; 2048];
     let len = sides::shorten(table, &mut short[..]);
     let lows = numbers::lesser(terms::MAX_ROWS + 1, places.len());
-    let mut left = [0u16; 1024];
-    let mut right = [0u16; 1024];
+    let mut right = [0u16; 4096];
     unlink(links);
     let taken = take_equations(
         &short[..len],
@@ -100,7 +103,6 @@ pub fn table_classes(
         places,
         &places[lows..],
         form,
-        &mut left[..],
         &mut right[..],
         links,
     );

@@ -53,9 +53,6 @@ part-take-equations-end c = search needs
 slice-aggregate-take-equations-2 : tie.Need-slice-aggregate-take-equations-2
 slice-aggregate-take-equations-2 c = search needs
 
-slice-aggregate-take-equations-3 : tie.Need-slice-aggregate-take-equations-3
-slice-aggregate-take-equations-3 c = search needs
-
 take-equations-requires : tie.Need-take-equations-requires
 take-equations-requires c κs = search needs
 
@@ -71,18 +68,18 @@ same-length-2 c = search needs
 returns : tie.Need-returns
 returns c =
     λ accepted widths variables sources long form len.
-    let table = now (c .before .before .before .before .before .before .before .before .before .before .before .before .before .before .before .before .before .before .before .before .before .before .before .before .before .before .before .before .before .before .args .table) in
+    let table = now (c .before .before .before .before .before .before .before .before .before .before .before .before .before .before .before .before .before .before .before .before .before .before .before .before .before .before .before .before .args .table) in
     let totals = rw (take-length (rowsOf table)) at (totals-small (rowsOf table) (length (rowsOf table)) (accepted-table table accepted .sound)) in
-    let made = c .before .before .before .before .before .before .before .before .before .before .before .before .before .before .before .before .before .before .before .before .before .before .before .shorten .ensures .1 accepted (omega arith) in
-    let short : List ℕ = take (c .before .before .before .before .before .before .before .before .before .before .before .before .before .before .before .before .before .before .before .before .before .before .before .shorten .result) (c .before .before .before .before .before .before .before .before .before .before .before .before .before .before .before .before .before .before .before .before .before .before .before .shorten .last .1 .0) in
-    let size : length short ≡ length table = copy-length table (c .before .before .before .before .before .before .before .before .before .before .before .before .before .before .before .before .before .before .before .before .before .before .before .shorten .last .1 .0) (c .before .before .before .before .before .before .before .before .before .before .before .before .before .before .before .before .before .before .before .before .before .before .before .shorten .result) 2048 (made .0) (c .before .before .before .before .before .before .before .before .before .before .before .before .before .before .before .before .before .before .before .before .before .before .before .shorten .ensures .0) (c .before .before .before .before .before .before .before .before .before .before .before .before .before .before .before .before .before .before .before .before .before .before .before .shorten .kept .1 .0) in
-    let places = now (c .before .before .before .before .before .before .before .before .before .before .before .before .before .before .before .before .before .before .before .before .before .before .before .before .before .before .before .before .before .before .args .places) in
-    let ready : Prepared short (now (c .before .before .before .before .before .before .before .before .before .before .before .before .before .before .before .before .before .before .before .before .before .before .before .before .before .before .before .before .before .before .args .widths)) places (take (length places - c .before .before .before .before .before .before .before .before .before .before .before .before .before .before .before .before .before .before .before .before .before .lesser .result) (drop (c .before .before .before .before .before .before .before .before .before .before .before .before .before .before .before .before .before .before .before .before .before .lesser .result) places)) =
+    let made = c .before .before .before .before .before .before .before .before .before .before .before .before .before .before .before .before .before .before .before .before .before .shorten .ensures .1 accepted (omega arith) in
+    let short : List ℕ = take (c .before .before .before .before .before .before .before .before .before .before .before .before .before .before .before .before .before .before .before .before .before .shorten .result) (c .before .before .before .before .before .before .before .before .before .before .before .before .before .before .before .before .before .before .before .before .before .shorten .last .1 .0) in
+    let size : length short ≡ length table = copy-length table (c .before .before .before .before .before .before .before .before .before .before .before .before .before .before .before .before .before .before .before .before .before .shorten .last .1 .0) (c .before .before .before .before .before .before .before .before .before .before .before .before .before .before .before .before .before .before .before .before .before .shorten .result) 2048 (made .0) (c .before .before .before .before .before .before .before .before .before .before .before .before .before .before .before .before .before .before .before .before .before .shorten .ensures .0) (c .before .before .before .before .before .before .before .before .before .before .before .before .before .before .before .before .before .before .before .before .before .shorten .kept .1 .0) in
+    let places = now (c .before .before .before .before .before .before .before .before .before .before .before .before .before .before .before .before .before .before .before .before .before .before .before .before .before .before .before .before .args .places) in
+    let ready : Prepared short (now (c .before .before .before .before .before .before .before .before .before .before .before .before .before .before .before .before .before .before .before .before .before .before .before .before .before .before .before .before .args .widths)) places (take (length places - c .before .before .before .before .before .before .before .before .before .before .before .before .before .before .before .before .before .before .before .lesser .result) (drop (c .before .before .before .before .before .before .before .before .before .before .before .before .before .before .before .before .before .before .before .lesser .result) places)) =
     copy-prepared table short accepted size (made .1) _ _ _ widths variables
-    (λ v h. lows-part places (c .before .before .before .before .before .before .before .before .before .before .before .before .before .before .before .before .before .before .before .before .before .lesser .result) v (c .before .before .before .before .before .before .before .before .before .before .before .before .before .before .before .before .before .before .before .before .before .lesser .ensures .0) long (omega (arith, totals .0)) ∙ sources (suc v) h) in
-    let alone : c .before .before .before .before .before .before .before .before .before .before .before .before .before .before .before .before .before .before .before .unlink .last .0 ≡ unlinked (rowsOf short) =
-    c .before .before .before .before .before .before .before .before .before .before .before .before .before .before .before .before .before .before .before .unlink .ensures (omega (arith, len, totals .1)) ∙ ap (countUp 0) len ∙ ap (λ (n : ℕ). countUp 0 (suc (suc n))) (sym (copy-bits table short accepted size (made .1))) in
-    let taken = c .before .before .before .before .before .before .before .before .before .before .take-equations .ensures ready form (omega arith) (omega arith) alone in
+    (λ v h. lows-part places (c .before .before .before .before .before .before .before .before .before .before .before .before .before .before .before .before .before .before .before .lesser .result) v (c .before .before .before .before .before .before .before .before .before .before .before .before .before .before .before .before .before .before .before .lesser .ensures .0) long (omega (arith, totals .0)) ∙ sources (suc v) h) in
+    let alone : c .before .before .before .before .before .before .before .before .before .before .before .before .before .before .before .before .before .unlink .last .0 ≡ unlinked (rowsOf short) =
+    c .before .before .before .before .before .before .before .before .before .before .before .before .before .before .before .before .before .unlink .ensures (omega (arith, len, totals .1)) ∙ ap (countUp 0) len ∙ ap (λ (n : ℕ). countUp 0 (suc (suc n))) (sym (copy-bits table short accepted size (made .1))) in
+    let taken = c .before .before .before .before .before .before .before .before .before .take-equations .ensures .0 ready form (omega arith) alone in
     c .before .before .settle-ties .ensures accepted (copy-taken table short accepted size (made .1) _ _ _ taken)
 
 pub table-classes-spec : {M : Type 1} → statement M
@@ -101,7 +98,6 @@ table-classes-spec =
     part-take-equations-start
     part-take-equations-end
     slice-aggregate-take-equations-2
-    slice-aggregate-take-equations-3
     take-equations-requires
     settle-ties-requires
     same-length

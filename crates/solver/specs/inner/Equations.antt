@@ -1,7 +1,7 @@
 -- What the inner functions promise of the equations of a table, taken one after the other.
 use mathlib.Core.Path.{_≡_}
 use mathlib.Core.List.{List}
-use Prim.Native.Nat.{ℕ, suc, _+_, _≤_, _<_}
+use Prim.Native.Nat.{ℕ, zero, suc, _+_, _≤_, _<_}
 use lib.ListN.{length, getD, take}
 use Rattle.terms.specs.declared.Row.{Row}
 use Rattle.terms.specs.declared.Fault.the-variants.{Accepted}
@@ -12,7 +12,8 @@ use Rattle.laws.specs.Lists.{countUp}
 use Rattle.answers.specs.Pairs.{equationPairs}
 use Rattle.answers.specs.inner.Classes.{runAll, conflictAt, linksBefore}
 use Rattle.classes.specs.inner.Links.{Low, rootsOf}
-use Rattle.sides.specs.inner.Sides.{Prepared}
+use Rattle.forms.specs.inner.Numbered.{Numbered}
+use Rattle.sides.specs.inner.Sides.{Prepared, leftSide, rightSide, sideWritten}
 
 -- Each source links to itself.
 abbrev pub unlinked : List Row → List ℕ
@@ -27,11 +28,28 @@ pub record EquationsTaken (t : List Row) (links : List ℕ) (row ties : ℕ) : T
   pub low : row ≡ length t → Low links
   pub classes-are : row ≡ length t → rootsOf links ≡ runAll (countUp 0 (suc (suc (bitsOf t)))) (equationPairs t)
 
--- What taking them promises, from unlinked sources and with room for a form and for the bits of two sides.
-abbrev pub TakesEquations : List ℕ → List ℕ → List ℕ → List ℕ → ℕ → ℕ → ℕ → List ℕ → List ℕ → ℕ → ℕ → Type 0
-TakesEquations table widths variables lows formRoom leftRoom rightRoom links links′ row ties =
-    Prepared table widths variables lows → 4096 ≤ formRoom → 1024 ≤ leftRoom → 1024 ≤ rightRoom → links ≡ unlinked (rowsOf table)
+-- What taking them promises, from unlinked sources and with room for the forms of two sides.
+abbrev pub TakesEquations : List ℕ → List ℕ → List ℕ → List ℕ → ℕ → ℕ → List ℕ → List ℕ → ℕ → ℕ → Type 0
+TakesEquations table widths variables lows leftRoom rightRoom links links′ row ties =
+    Prepared table widths variables lows → 4096 ≤ leftRoom → 4096 ≤ rightRoom → links ≡ unlinked (rowsOf table)
     → EquationsTaken (rowsOf table) links′ row ties
+
+-- A buffer after the first n rows: for each equation among them, in order, the normal form of one of its filled sides was written to the
+-- beginning, and nothing else.
+unfoldable pub formsWritten : (List Row → Row → List ℕ) → List Row → ℕ → List ℕ → List ℕ
+formsWritten side t zero old = old
+formsWritten side t (suc n) old = sideWritten side t n (formsWritten side t n old)
+
+-- The forms of the rows up to the one at which taking ended stand as they were written, in every number of both buffers. A row behind the
+-- last is no equation.
+pub record FormsLeft (t : List Row) (left left′ right right′ : List ℕ) (row : ℕ) : Type 0 where
+  pub left-is : left′ ≡ formsWritten leftSide t (suc row) left
+  pub right-is : right′ ≡ formsWritten rightSide t (suc row) right
+
+-- What taking them promises of the two buffers, whatever the links are.
+abbrev pub LeavesForms : List ℕ → List ℕ → List ℕ → List ℕ → List ℕ → List ℕ → List ℕ → ℕ → Type 0
+LeavesForms table widths variables left left′ right right′ row =
+    Numbered table widths variables → 4096 ≤ length left → 4096 ≤ length right → FormsLeft (rowsOf table) left left′ right right′ row
 
 -- The same, and where no conflict was met each link is its source's representative.
 pub record ClassesTaken (t : List Row) (links : List ℕ) (row ties : ℕ) : Type 0 where
