@@ -22,7 +22,7 @@ use Rattle.answers.specs.Pairs.{Pair, paired, pairsOf}
 use Rattle.forms.specs.Form.{formFrom, numbersOf}
 use Rattle.forms.specs.inner.Numbered.{Numbered}
 use Rattle.sides.specs.inner.Sides.{Prepared, leftSide, rightSide, sideWritten, pairsFrom, SidesWritten, SidesRead}
-use Rattle.sides.proofs.FormSources.{filled-below, below-read, side-read}
+use Rattle.sides.proofs.FormSources.{filled-below, below-read, side-read, side-ends, table-bits}
 
 -- pairs read where two words stand
 pairs-from : (left right xs ys : List ℕ) (k : ℕ) → length xs ≡ length ys
@@ -141,8 +141,17 @@ module _ (table widths variables : List ℕ) (ready : Numbered table widths vari
                 λ k at h.
                 side-read table widths variables ready b right-there a left-there lows lows-are right right′ roomᵣ
                 (s .right-is ∙ of-equation (rowAt rows r) _ right e) k at (omega (arith, wide, same-wide));
+            left-ends =
+                λ k at h n.
+                omega (
+                  arith,
+                  wide,
+                  side-ends table widths variables ready a left-there b right-there lows lows-are left left′ roomₗ
+                      (s .left-is ∙ of-equation (rowAt rows r) _ left e) k at (omega (arith, wide)) n,
+                );
             pairs = ap (pairsFrom l q 0) wide ∙ pairs-from l q l q 0 same-wide (λ i h. ap (λ (j : ℕ). getD l j 0) (zero-add i)) (λ i h. ap (λ (j : ℕ). getD q j 0) (zero-add i)) ∙ sym are-pairs;
             few = omega (arith, wide, left-few);
+            few-bits = table-bits table (ready .accepted);
             left-small = λ i h. below-read (bitsOf rows + 2) l (filled-below rows (whole .sound) a b left-in) i (omega (arith, wide));
             right-small = λ i h. below-read (bitsOf rows + 2) q (filled-below rows (whole .sound) b a right-in) i (omega (arith, wide, same-wide));
           }
@@ -155,8 +164,10 @@ module _ (table widths variables lows : List ℕ) (ready : Prepared table widths
       record {
         left-read = λ k at l. absurd (omega arith);
         right-read = λ k at l. absurd (omega arith);
+        left-ends = λ k at l. absurd (omega arith);
         pairs = sym (of-term (rowAt (rowsOf table) r) _ [] h);
         few = omega arith;
+        few-bits = table-bits table (ready .numbered .accepted);
         left-small = λ i l. absurd (omega arith);
         right-small = λ i l. absurd (omega arith);
       }

@@ -12,7 +12,8 @@ use Rattle.terms.specs.declared.Row.{Row}
 use Rattle.terms.specs.Table.{rowsOf, bitsOf, countKind, bitOf, sourcesOf, sourceOf, evened}
 use Rattle.laws.specs.Lists.{countUp}
 use Rattle.laws.specs.Buffers.{overwrite}
-use Rattle.terms.specs.Faults.{absent}
+use Rattle.terms.specs.Faults.{absent, firstFault}
+use Rattle.terms.specs.declared.Fault.the-variants.{Accepted}
 use Rattle.terms.proofs.AcceptedTable.{Table, accepted-table, term-there}
 use Rattle.terms.proofs.Faults.{totals-small}
 use Rattle.terms.proofs.Filled.{evened-word}
@@ -30,7 +31,7 @@ use Rattle.forms.proofs.Units.{form-count}
 use Rattle.terms.specs.inner.Places.{lowSource}
 use Rattle.sides.specs.declared.Reader.{Reader}
 use Rattle.sides.specs.inner.Reading.{stepped, sourcesIn, spelled, Stands}
-use Rattle.sides.proofs.Reading.{reader-source}
+use Rattle.sides.proofs.Reading.{reader-source, reader-ends}
 use Rattle.sides.proofs.Spelling.{named, namedAll, Lies, AllLie, form-lies, form-named, AllBelow, none, some}
 
 -- a run that stands still, and one that rises
@@ -126,6 +127,11 @@ pub filled-below : (t : List Row) → Sound t → (r s : ℕ) → r < length t �
 unfolding evened
 filled-below t sound r s h = zeros-below (bitsOf t + 2) (length (sourceOf t s) - length (sourceOf t r)) (sourceOf t r) (omega arith) (sources-below t sound r h)
 
+-- an accepted table has at most 4,096 variable bits
+pub table-bits : (table : List ℕ) → firstFault table ≡ Accepted → bitsOf (rowsOf table) ≤ 4096
+table-bits table accepted =
+    rw (take-length (rowsOf table)) at (totals-small (rowsOf table) (length (rowsOf table)) (accepted-table table accepted .sound) .1)
+
 -- one side: its form in a buffer, and what a reader gives of it
 module _ (table widths variables : List ℕ) (ready : Numbered table widths variables)
     (row : ℕ) (there : absent (rowsOf table) row ≡ false) (other : ℕ) (there′ : absent (rowsOf table) other ≡ false) where
@@ -140,7 +146,7 @@ module _ (table widths variables : List ℕ) (ready : Numbered table widths vari
   whole = accepted-table table (ready .accepted)
 
   few-bits : bitsOf rows ≤ 4096
-  few-bits = rw (take-length rows) at (totals-small rows (length rows) (whole .sound) .1)
+  few-bits = table-bits table (ready .accepted)
 
   below : AllBelow (bitsOf rows + 2) side
   below = filled-below rows (whole .sound) row other (term-there rows row there .earlier)
@@ -173,17 +179,22 @@ module _ (table widths variables : List ℕ) (ready : Numbered table widths vari
       (ap (λ (k : ℕ). replicate k 0 ++ sourceOf rows row) (el ∙ lacks)) both in
       appended-first rows side form n form′ small room filled .numbers
 
-  -- from its first bit to its last a reader gives the filled side's sources
-  pub side-read : (lows : List ℕ) → ((v : ℕ) → v < countKind 0 (rowsOf table) → getD lows v 0 ≡ lowSource (rowsOf table) v)
-      → (form form′ : List ℕ) → 4096 ≤ length form
-      → form′ ≡ overwrite (numbersOf (formFrom (rowsOf table) (evened (sourceOf (rowsOf table) row) (sourceOf (rowsOf table) other)))) form
-      → (k : ℕ) (at : Reader) → k < length (evened (sourceOf (rowsOf table) row) (sourceOf (rowsOf table) other)) → Stands lows form′ k at
-      → at .source ≡ getD (evened (sourceOf (rowsOf table) row) (sourceOf (rowsOf table) other)) k 0
-  side-read lows lows-are form form′ room e k at l s =
-      let n : ℕ = length (formFrom rows side) in
-      let all : spelled lows form′ n ≡ side =
-      ap (λ (f : List ℕ). spelled lows f n) e
-      ∙ form-read (bitsOf rows + 1) lows (omega (arith, few-bits)) (formFrom rows side) form (form-lies rows lows lows-are side below)
-      (omega (arith, form-count rows side, small))
-      ∙ form-named rows lows lows-are side below in
-      reader-source lows form′ at n k (rw all l) s ∙ ap (λ (q : List ℕ). getD q k 0) all
+  -- the pieces of a written form spell the filled side's sources
+  module _ (lows : List ℕ) (lows-are : (v : ℕ) → v < countKind 0 (rowsOf table) → getD lows v 0 ≡ lowSource (rowsOf table) v)
+      (form form′ : List ℕ) (room : 4096 ≤ length form)
+      (e : form′ ≡ overwrite (numbersOf (formFrom (rowsOf table) (evened (sourceOf (rowsOf table) row) (sourceOf (rowsOf table) other)))) form) where
+    all : spelled lows form′ (length (formFrom rows side)) ≡ side
+    all =
+        ap (λ (f : List ℕ). spelled lows f (length (formFrom rows side))) e
+        ∙ form-read (bitsOf rows + 1) lows (omega (arith, few-bits)) (formFrom rows side) form (form-lies rows lows lows-are side below)
+        (omega (arith, form-count rows side, small))
+        ∙ form-named rows lows lows-are side below
+
+    -- from its first bit to its last a reader gives them, and none of its pieces goes on past the last
+    pub side-read : (k : ℕ) (at : Reader) → k < length (evened (sourceOf (rowsOf table) row) (sourceOf (rowsOf table) other)) → Stands lows form′ k at
+        → at .source ≡ getD (evened (sourceOf (rowsOf table) row) (sourceOf (rowsOf table) other)) k 0
+    side-read k at l s = reader-source lows form′ at (length (formFrom rows side)) k (rw all l) s ∙ ap (λ (q : List ℕ). getD q k 0) all
+
+    pub side-ends : (k : ℕ) (at : Reader) → k < length (evened (sourceOf (rowsOf table) row) (sourceOf (rowsOf table) other)) → Stands lows form′ k at
+        → k + at .left < length (evened (sourceOf (rowsOf table) row) (sourceOf (rowsOf table) other))
+    side-ends k at l s = omega (arith, ap length all, reader-ends lows form′ at (length (formFrom rows side)) k (rw all l) s)

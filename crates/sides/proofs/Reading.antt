@@ -15,7 +15,12 @@ use Rattle.laws.proofs.Numbers.{lt-or-le}
 use Rattle.forms.specs.declared.Piece.{Piece}
 use Rattle.pieces.specs.inner.Pieces.{pieceAt}
 use Rattle.sides.specs.declared.Reader.{Reader}
-use Rattle.sides.specs.inner.Reading.{stepped, sourcesIn, spelled, firstIn, nextIn, Stands}
+use Rattle.sides.specs.inner.Reading.{stepped, sourcesIn, spelled, firstIn, nextIn, risen, Stands}
+
+stepped-length : (x step n : ℕ) → length (stepped x step n) ≡ n
+unfolding stepped
+stepped-length x step zero = refl
+stepped-length x step (suc n) = ap suc (stepped-length ((x + step) % 65536) step n)
 
 module _ (lows form : List ℕ) where
   -- what is left of a piece at its first bit is the whole piece
@@ -30,7 +35,7 @@ module _ (lows form : List ℕ) where
 
   pub first-stands : Stands lows form 0 (firstIn lows form 0)
   unfolding spelled firstIn
-  first-stands = record { before = []; counted = refl; spells = piece-stepped 0; few = omega arith }
+  first-stands = record { before = []; counted = refl; spells = piece-stepped 0; within = omega arith; few = omega arith }
 
   -- one bit on
   pub next-stands : (at : Reader) (k : ℕ) → k < 65535 → Stands lows form k at → Stands lows form (k + 1) (nextIn lows form at)
@@ -48,7 +53,7 @@ module _ (lows form : List ℕ) where
           let z : at .left ≡ 0 = eqb-true (at .left) 0 e in
           let p : (at .piece + 1) % 65536 ≡ suc (at .piece) = omega (arith, s .few) in
           let done : spelled lows form (suc (at .piece)) ≡ s .before ++ (at .source ∷ []) = last z in
-          rw (e, p) (record { before = on; counted = on-count; spells = begun done; few = omega (arith, s .few) })
+          rw (e, p) (record { before = on; counted = on-count; spells = begun done; within = omega (arith, ap length done, on-count); few = omega (arith, s .few) })
         where
           last : at .left ≡ 0 → spelled lows form (suc (at .piece)) ≡ s .before ++ (at .source ∷ [])
           last z = s .spells ∙ ap (λ (n : ℕ). s .before ++ stepped (at .source) (at .step) (suc n)) z
@@ -59,13 +64,36 @@ module _ (lows form : List ℕ) where
       go false e =
           let n = eqb-false (at .left) 0 e in
           let m : suc (at .left) ≡ suc (suc (at .left - 1)) = omega arith in
-          rw e (record { before = on; counted = on-count; spells = more m; few = omega (arith, s .few) })
+          rw e (record { before = on; counted = on-count; spells = more m; within = omega (arith, s .within); few = omega (arith, s .few) })
         where
           more : suc (at .left) ≡ suc (suc (at .left - 1))
               → spelled lows form (suc (at .piece)) ≡ on ++ stepped ((at .source + at .step) % 65536) (at .step) (suc (at .left - 1))
           more m =
               s .spells ∙ ap (λ (n : ℕ). s .before ++ stepped (at .source) (at .step) n) m
               ∙ sym (append-assoc (s .before) (at .source ∷ []) (stepped ((at .source + at .step) % 65536) (at .step) (suc (at .left - 1))))
+
+  -- n bits on in a part of a variable
+  risen-more : (at : Reader) (n : ℕ) → at .step ≡ 1 → n < at .left → nextIn lows form (risen n at) ≡ risen (suc n) at
+  unfolding nextIn risen
+  risen-more at n one more =
+      let z : eqb (at .left - n) 0 ≡ false = ne-eqb (at .left - n) 0 (omega arith) in
+      let x : ((at .source + n) % 65536 + at .step) % 65536 ≡ (at .source + suc n) % 65536 = omega (arith, one) in
+      let l : at .left - n - 1 ≡ at .left - suc n = omega arith in
+      rw (z, x, l)
+
+  pub risen-stands : (at : Reader) (k n : ℕ) → at .step ≡ 1 → at .source < 65536 → n ≤ at .left → k + n ≤ 65535 → Stands lows form k at
+      → Stands lows form (k + n) (risen n at)
+  unfolding risen
+  risen-stands at k zero one small more few s =
+      let e : (at .source + 0) % 65536 ≡ at .source = omega arith in
+      let z : k + 0 ≡ k = omega arith in
+      let l : at .left - 0 ≡ at .left = omega arith in
+      rw (e, z, l) s
+  risen-stands at k (suc n) one small more few s =
+      let e : k + n + 1 ≡ k + suc n = omega arith in
+      subst (λ (j : ℕ). Stands lows form j (risen (suc n) at)) e
+      (subst (Stands lows form (k + n + 1)) (risen-more at n one (omega arith))
+      (next-stands (risen n at) (k + n) (omega arith) (risen-stands at k n one small (omega arith) (omega arith) s)))
 
   -- what more pieces spell begins with what fewer spell
   spelled-more : (n : ℕ) → length (spelled lows form n) ≤ length (spelled lows form (suc n))
@@ -83,6 +111,9 @@ module _ (lows form : List ℕ) where
   spelled-early : (n d k : ℕ) → k < length (spelled lows form n) → getD (spelled lows form (d + n)) k 0 ≡ getD (spelled lows form n) k 0
   spelled-early n zero k l = ap (λ (m : ℕ). getD (spelled lows form m) k 0) (zero-add n)
   spelled-early n (suc d) k l = rw (suc-add d n) (spelled-one (d + n) k (omega (arith, spelled-longer n d)) ∙ spelled-early n d k l)
+
+  longer : (m n : ℕ) → n ≤ m → length (spelled lows form n) ≤ length (spelled lows form m)
+  longer m n h = let e : m - n + n ≡ m = omega arith in omega (arith, spelled-longer n (m - n), ap (λ (j : ℕ). length (spelled lows form j)) e)
 
   -- the source of a reader that stands at bit k is source k of what the pieces spell
   pub reader-source : (at : Reader) (n k : ℕ) → k < length (spelled lows form n) → Stands lows form k at → at .source ≡ getD (spelled lows form n) k 0
@@ -107,6 +138,12 @@ module _ (lows form : List ℕ) where
 
       within : k < length (spelled lows form (suc (at .piece)))
       within = omega (arith, ap length (s .spells), length-append (s .before) rest, s .counted)
+
+  -- a piece that a reader stands in before bit w, where n pieces spell w sources, ends before it
+  pub reader-ends : (at : Reader) (n k : ℕ) → k < length (spelled lows form n) → Stands lows form k at → k + at .left < length (spelled lows form n)
+  reader-ends at n k l s =
+      let inside : at .piece < n = ⊎-elim (λ m. m) (λ m. absurd (omega (arith, longer (at .piece) n m, s .within))) (lt-or-le (at .piece) n) in
+      omega (arith, longer n (suc (at .piece)) inside, ap length (s .spells), length-append (s .before) (stepped (at .source) (at .step) (suc (at .left))), s .counted, stepped-length (at .source) (at .step) (suc (at .left)))
 
 -- what the functions make
 module _ (lows form : List ℕ) (p : Piece) (i : ℕ) (e : p ≡ pieceAt form i) where

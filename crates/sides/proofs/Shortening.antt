@@ -83,7 +83,7 @@ row-part s n i h l =
 pub record Shortening (table short₀ short : List ℕ) (r : ℕ) : Type 0 where
   pub within : r ≤ length (rowsOf table)
   pub same-room : length short ≡ length short₀
-  pub rows-are : firstFault table ≡ Accepted → 2048 ≤ length short₀ → rowsOf (take (r * 4) short) ≡ shortened (take r (rowsOf table))
+  pub rows-are : firstFault table ≡ Accepted → length table ≤ length short₀ → rowsOf (take (r * 4) short) ≡ shortened (take r (rowsOf table))
 
 pub shortening-first : (table short₀ : List ℕ) → Shortening table short₀ short₀ 0
 unfolding rowsOf shortened byRows
@@ -94,7 +94,7 @@ module _ (table short₀ short : List ℕ) (r : ℕ) (k : Shortening table short
   t = rowsOf table
 
   -- in 16 bits the sums of an accepted table are exact
-  row-exact : r < length t → r < 512 → firstFault table ≡ Accepted → 2048 ≤ length short₀
+  row-exact : r < length t → r < 512 → firstFault table ≡ Accepted → length table ≤ length short₀
       → shortIn (rowAt t r) (rowAt (rowsOf short) (rowAt t r .a)) ≡ shortRow (shortened (take r t)) (rowAt t r)
   row-exact l few f room = go (eqb (row .kind) 3) refl (eqb (rowAt made (row .a) .kind) 3) refl
     where
@@ -114,7 +114,7 @@ module _ (table short₀ short : List ℕ) (r : ℕ) (k : Shortening table short
       same e =
           let early : row .a < r = extract-names t r row (kept-names t r (kept t r (sound r l))) e .earlier in
           ap (λ (q : List Row). rowAt q (row .a)) (sym (k .rows-are f room))
-          ∙ row-part short r (row .a) (omega (arith, k .same-room)) early
+          ∙ row-part short r (row .a) (omega (arith, k .same-room, rows-length table)) early
 
       go : (b : Bool) → eqb (row .kind) 3 ≡ b → (d : Bool) → eqb (rowAt made (row .a) .kind) 3 ≡ d → shortIn row named ≡ shortRow made row
       go false e d g =
@@ -145,9 +145,9 @@ module _ (table short₀ short : List ℕ) (r : ℕ) (k : Shortening table short
         same-room = ap length stored ∙ stored-length short r new ∙ k .same-room;
         rows-are =
             λ f room.
-            let size : length (take (r * 4) short) ≡ r * 4 = length-take-le (r * 4) short (omega (arith, k .same-room)) in
+            let size : length (take (r * 4) short) ≡ r * 4 = length-take-le (r * 4) short (omega (arith, k .same-room, rows-length table)) in
             ap (λ (q : List ℕ). rowsOf (take (suc r * 4) q)) stored
-            ∙ ap rowsOf (stored-take short r new (omega (arith, k .same-room)))
+            ∙ ap rowsOf (stored-take short r new (omega (arith, k .same-room, rows-length table)))
             ∙ rows-four (take (r * 4) short) (new .kind) (new .a) (new .b) (new .c) (omega arith)
             ∙ ap₂ (λ (q : List Row) (x : Row). q ++ (x ∷ [])) (k .rows-are f room)
             (ew ∙ ap₂ (λ (x y : Row). shortIn x y) er (en ∙ ap (rowAt (rowsOf short)) (ea ∙ ap (λ (x : Row). x .a) er)) ∙ row-exact l few f room)

@@ -5,7 +5,7 @@ ghost use mathlib.Core.Path.{_≡_};
 ghost use Prim.Native.Nat.{_≤_, min};
 ghost use lib.ListN.{length};
 ghost use Rattle.terms.specs.Table.{rowsOf};
-ghost use Rattle.sides.specs.inner.Reading.{firstIn, nextIn, Stands, StepsOn};
+ghost use Rattle.sides.specs.inner.Reading.{firstIn, nextIn, risen, Stands, StepsOn};
 ghost use Rattle.sides.specs.inner.Sides.{nextEquation, WritesSide, WritesSides};
 ghost use Rattle.sides.specs.inner.Shortened.{shortIn, storedRow, Shortens};
 use terms::Row;
@@ -64,6 +64,21 @@ pub fn next(lows: &[u16], form: &[u16], at: Reader) -> Reader
         source: numbers::plus(at.source, at.step),
         step: at.step,
         left: left - 1,
+    }
+}
+
+// How many bits a reader passes at once, where their pairs say nothing.
+pub const STRIDE: u16 = 8;
+
+// The reader so many bits on in a part of a variable.
+pub fn skip(at: Reader) -> Reader
+    ensures { λ on. ⌜ on ≡ risen 8 at ⌝ }
+{
+    Reader {
+        piece: at.piece,
+        source: numbers::plus(at.source, STRIDE),
+        step: at.step,
+        left: numbers::difference(at.left, STRIDE),
     }
 }
 

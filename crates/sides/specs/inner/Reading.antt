@@ -48,8 +48,13 @@ pub record Stands (lows form : List ℕ) (k : ℕ) (at : Reader) : Type 0 where
   pub before : List ℕ
   pub counted : length before ≡ k
   pub spells : spelled lows form (suc (at .piece)) ≡ before ++ stepped (at .source) (at .step) (suc (at .left))
+  pub within : length (spelled lows form (at .piece)) ≤ k
   pub few : at .piece ≤ k
 
 -- A reader that stood at bit k stands at bit k + 1.
 abbrev pub StepsOn : List ℕ → List ℕ → Reader → Reader → Type 0
 StepsOn lows form at on = (k : ℕ) → k < 65535 → Stands lows form k at → Stands lows form (k + 1) on
+
+-- The reader n bits on, in a part of a variable that goes on so far.
+unfoldable pub risen : ℕ → Reader → Reader
+risen n at = record { piece = at .piece; source = (at .source + n) % 65536; step = at .step; left = at .left - n }

@@ -36,4 +36,4 @@ storedRow s r row = setFour s (r * 4) (row .kind) (row .a) (row .b) (row .c)
 -- What the code promises: n numbers, the accepted table's with its cuts made so.
 abbrev pub Shortens : List ℕ → ℕ → List ℕ → ℕ → Type 0
 Shortens table room short n =
-    firstFault table ≡ Accepted → 2048 ≤ room → (n ≡ length table) × (rowsOf (take n short) ≡ shortened (rowsOf table))
+    firstFault table ≡ Accepted → length table ≤ room → (n ≡ length table) × (rowsOf (take n short) ≡ shortened (rowsOf table))

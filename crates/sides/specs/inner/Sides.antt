@@ -61,11 +61,14 @@ unfoldable pub pairsFrom : List ℕ → List ℕ → ℕ → ℕ → List Pair
 pairsFrom left right k zero = []
 pairsFrom left right k (suc w) = record { left = getD left k 0; right = getD right k 0 } ∷ pairsFrom left right (suc k) w
 
--- Readers of two forms give the w bit pairs of row r: at bit k one has source k of the left side, the other source k of the right side.
+-- Readers of two forms give the w bit pairs of row r: at bit k one has source k of the left side, the other source k of the right side. No
+-- piece goes on past the last pair.
 pub record SidesRead (t : List Row) (r : ℕ) (lows left right : List ℕ) (w : ℕ) : Type 0 where
   pub left-read : (k : ℕ) (at : Reader) → k < w → Stands lows left k at → at .source ≡ getD (leftSide t (rowAt t r)) k 0
   pub right-read : (k : ℕ) (at : Reader) → k < w → Stands lows right k at → at .source ≡ getD (rightSide t (rowAt t r)) k 0
+  pub left-ends : (k : ℕ) (at : Reader) → k < w → Stands lows left k at → k + at .left < w
   pub pairs : pairsFrom (leftSide t (rowAt t r)) (rightSide t (rowAt t r)) 0 w ≡ pairsOf t (rowAt t r)
   pub few : w ≤ 1024
+  pub few-bits : bitsOf t ≤ 4096
   pub left-small : (i : ℕ) → i < w → getD (leftSide t (rowAt t r)) i 0 < bitsOf t + 2
   pub right-small : (i : ℕ) → i < w → getD (rightSide t (rowAt t r)) i 0 < bitsOf t + 2
