@@ -20,7 +20,7 @@ use Rattle.laws.proofs.CountUp.{count-at, count-up}
 use Rattle.answers.proofs.Equations.{pairs-from, pairs-past}
 use Rattle.classes.specs.inner.Links.{Low, rootsOf, pair, linked, PairTaken}
 use Rattle.classes.proofs.Links.{Canon, canon-merge, merge-len, merge-is}
-use Rattle.classes.proofs.Roots.{roots-settled}
+use Rattle.classes.proofs.Roots.{roots-settled, taken-alike}
 use Rattle.classes.proofs.Taking.{tie-or-not, no-conflict, a-conflict}
 use Rattle.terms.proofs.RowKinds.{of-term}
 use Rattle.sides.specs.inner.Sides.{pairsFrom}
@@ -134,6 +134,18 @@ module _ (l r c h : List ℕ) (k found : ℕ) (t : Taking l r c h k found) (h′
   taking-conflict n width s =
       stays l r c (t .canon) 0 (suc k) width s
       (ap (λ (v : List ℕ). rep v 1) (run-more l r c 0 k) ∙ a-conflict d canon-d q (sym what ∙ n))
+
+-- n pairs whose sources link alike say nothing
+pub taking-alike : (l r c h : List ℕ) (n k found : ℕ) → Taking l r c h k found → ((i : ℕ) → i < n → getD h (getD l (k + i) 0) 0 ≡ getD h (getD r (k + i) 0) 0)
+    → Taking l r c h (k + n) found
+taking-alike l r c h zero k found t same = let e : k ≡ k + 0 = omega arith in subst (λ (j : ℕ). Taking l r c h j found) e t
+taking-alike l r c h (suc n) k found t same =
+    let z : k + 0 ≡ k = omega arith in
+    let first : getD h (getD l k 0) 0 ≡ getD h (getD r k 0) 0 = rw z at (same 0 (omega arith)) in
+    let one : Taking l r c h (k + 1) found =
+    taking-to l r c h k found t h 0 (taken-alike h (getD l k 0) (getD r k 0) _ _ _ _ refl refl refl refl first (t .low)) found (omega arith) refl (λ e. omega (arith, e)) in
+    let e : k + 1 + n ≡ k + suc n = omega arith in
+    subst (λ (j : ℕ). Taking l r c h j found) e (taking-alike l r c h n (k + 1) found one (λ i m. let s : k + 1 + i ≡ k + suc i = omega arith in rw s (same (suc i) (omega arith))))
 
 -- ---- between equations: `row` rows are taken; c are the classes now
 module _ (t : List Row) where

@@ -13,6 +13,7 @@ use Rattle.answers.specs.Pairs.{equationPairs}
 use Rattle.answers.specs.inner.Classes.{runAll, conflictAt, linksBefore}
 use Rattle.classes.specs.inner.Links.{Low, rootsOf}
 use Rattle.forms.specs.inner.Numbered.{Numbered}
+use Rattle.sides.specs.declared.Reader.{Reader}
 use Rattle.sides.specs.inner.Sides.{Prepared, leftSide, rightSide, sideWritten}
 
 -- Each source links to itself.
@@ -27,6 +28,14 @@ pub record EquationsTaken (t : List Row) (links : List ℕ) (row ties : ℕ) : T
   pub few : ties ≤ 1000000
   pub low : row ≡ length t → Low links
   pub classes-are : row ≡ length t → rootsOf links ≡ runAll (countUp 0 (suc (suc (bitsOf t)))) (equationPairs t)
+
+-- The next eight sources of two readers, each in a part of a variable that goes on so far, link alike: their pairs say nothing.
+pub record Alike (links : List ℕ) (a b : Reader) : Type 0 where
+  pub left-long : 8 ≤ a .left
+  pub right-long : 8 ≤ b .left
+  pub left-rises : a .step ≡ 1
+  pub right-rises : b .step ≡ 1
+  pub same : (i : ℕ) → i < 8 → getD links (a .source + i) 0 ≡ getD links (b .source + i) 0
 
 -- What taking them promises, from unlinked sources and with room for the forms of two sides.
 abbrev pub TakesEquations : List ℕ → List ℕ → List ℕ → List ℕ → ℕ → ℕ → List ℕ → List ℕ → ℕ → ℕ → Type 0
@@ -70,3 +79,8 @@ TableClasses table widths places formRoom links links′ row ties =
     → ((v : ℕ) → v ≤ countKind 0 (rowsOf table) → getD places (512 + v) 0 ≡ sourceBefore (rowsOf table) v) → 577 ≤ length places
     → 4096 ≤ formRoom → length links ≡ suc (suc (bitsOf (rowsOf table)))
     → ClassesTaken (rowsOf table) links′ row ties
+
+-- The same, with room for a copy of the table.
+abbrev pub ClassesWith : List ℕ → List ℕ → List ℕ → ℕ → ℕ → List ℕ → List ℕ → ℕ → ℕ → Type 0
+ClassesWith table widths places copyRoom formRoom links links′ row ties =
+    length table ≤ copyRoom → TableClasses table widths places formRoom links links′ row ties
