@@ -300,8 +300,8 @@ extern "C" {
   The version of the library, as text and as a number that grows from version to
   version: major * 1000000 + minor * 1000 + patch.
 */
-#define LW_VERSION_TEXT "0.15.0"
-#define LW_VERSION      15000
+#define LW_VERSION_TEXT "0.16.0"
+#define LW_VERSION      16000
 
 /* constants */
 
