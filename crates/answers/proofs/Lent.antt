@@ -3,7 +3,7 @@
 -- accepted tables alone. Assumes nothing.
 use mathlib.Core.Path.{_≡_, refl, sym, _∙_, ap}
 use mathlib.Core.Bool.{Bool, true, false, or-true}
-use mathlib.Core.List.{List, [], _∷_}
+use mathlib.Core.List.{List}
 use Prim.Native.Nat.{ℕ, _*_, _≤_, _<_}
 use native.Mathlib.Omega.{arith}
 use lib.Dec.{ltb}
@@ -18,32 +18,27 @@ use Rattle.terms.specs.Table.{rowsOf, bitsOf, satisfies}
 use Rattle.terms.proofs.AcceptedTable.{accepted-table, fault-none, fault-high}
 use Rattle.laws.proofs.Buffers.{overwrite-fits}
 use Rattle.terms.proofs.Faults.{totals-small}
-use Rattle.answers.specs.declared.AnswerRow.{AnswerRow}
 use Rattle.answers.specs.Answer.{variableWidths, answerNumbers}
 use Rattle.answers.specs.Pairs.{equalUnder}
 use Rattle.answers.specs.Solve.{solvedRows, answerRecord, solveRecord, answerAfter, workAfter}
+use Rattle.answers.proofs.AnswerNumbers.{numbers-length}
 use Rattle.answers.proofs.Tables.{rows-few}
 use Rattle.answers.proofs.Demands.{demand-3}
 
-numbers-length : (rows : List AnswerRow) → length (answerNumbers rows) ≡ length rows * 4
-unfolding answerNumbers
-numbers-length [] = refl
-numbers-length (r ∷ rows) = omega (arith, numbers-length rows)
-
--- A call whose answer table, or work area, is below 16,384 numbers is refused 10, whatever its table.
-pub no-answer-room : (table : List ℕ) (answerRoom workRoom : ℕ) → answerRoom < 16384 → solveRecord table answerRoom workRoom ≡ refusal 10 0
+-- A call whose answer table is below 24,576 numbers, or whose work area is below 16,384, is refused 10, whatever its table.
+pub no-answer-room : (table : List ℕ) (answerRoom workRoom : ℕ) → answerRoom < 24576 → solveRecord table answerRoom workRoom ≡ refusal 10 0
 unfolding solveRecord stopAt
-no-answer-room table answerRoom workRoom l = rw (lt-ltb answerRoom 16384 l) refl
+no-answer-room table answerRoom workRoom l = rw (lt-ltb answerRoom 24576 l) refl
 
 pub no-work-room : (table : List ℕ) (answerRoom workRoom : ℕ) → workRoom < 16384 → solveRecord table answerRoom workRoom ≡ refusal 10 0
 unfolding solveRecord stopAt
-no-work-room table answerRoom workRoom l = rw (lt-ltb workRoom 16384 l, or-true (ltb answerRoom 16384)) refl
+no-work-room table answerRoom workRoom l = rw (lt-ltb workRoom 16384 l, or-true (ltb answerRoom 24576)) refl
 
-module _ (table : List ℕ) (accepted : firstFault table ≡ Accepted) (old work : List ℕ) (room : 16384 ≤ length old) (memory : 16384 ≤ length work) where
+module _ (table : List ℕ) (accepted : firstFault table ≡ Accepted) (old work : List ℕ) (room : 24576 ≤ length old) (memory : 16384 ≤ length work) where
   -- A call with room is refused only for a fault of its table.
   pub call-record : solveRecord table (length old) (length work) ≡ answerRecord (rowsOf table)
   unfolding solveRecord stopAt
-  call-record = rw (le-ltb (length old) 16384 room, le-ltb (length work) 16384 memory, accepted) refl
+  call-record = rw (le-ltb (length old) 24576 room, le-ltb (length work) 16384 memory, accepted) refl
 
   -- Every number of the work area is 0 afterwards.
   pub call-work : workAfter table (length old) work ≡ replicate (length work) 0
@@ -58,27 +53,27 @@ module _ (table : List ℕ) (accepted : firstFault table ≡ Accepted) (old work
 
   -- For outcome 2 the answer table begins with the answer's rows, and as many as the record's pieces.
   pub call-answer : answerRecord (rowsOf table) .outcome ≡ 2
-      → take (answerRecord (rowsOf table) .pieces * 4) (answerAfter table old (length work)) ≡ answerNumbers (solvedRows (rowsOf table))
+      → take (answerRecord (rowsOf table) .pieces * 6) (answerAfter table old (length work)) ≡ answerNumbers (solvedRows (rowsOf table))
   unfolding answerAfter
   call-answer e =
-      let count : answerRecord (rowsOf table) .pieces * 4 ≡ length (answerNumbers (solvedRows (rowsOf table))) =
-      ap (λ (n : ℕ). n * 4) (demand-3 table accepted .solved-pieces e) ∙ sym (numbers-length (solvedRows (rowsOf table))) in
+      let count : answerRecord (rowsOf table) .pieces * 6 ≡ length (answerNumbers (solvedRows (rowsOf table))) =
+      ap (λ (n : ℕ). n * 6) (demand-3 table accepted .solved-pieces e) ∙ sym (numbers-length (solvedRows (rowsOf table))) in
       rw (call-record, e)
-      (ap (λ (l : List ℕ). take (answerRecord (rowsOf table) .pieces * 4) l) (overwrite-fits (answerNumbers (solvedRows (rowsOf table))) old few-numbers)
-      ∙ take-at (answerNumbers (solvedRows (rowsOf table))) (drop (length (answerNumbers (solvedRows (rowsOf table)))) old) (answerRecord (rowsOf table) .pieces * 4) (sym count))
+      (ap (λ (l : List ℕ). take (answerRecord (rowsOf table) .pieces * 6) l) (overwrite-fits (answerNumbers (solvedRows (rowsOf table))) old few-numbers)
+      ∙ take-at (answerNumbers (solvedRows (rowsOf table))) (drop (length (answerNumbers (solvedRows (rowsOf table)))) old) (answerRecord (rowsOf table) .pieces * 6) (sym count))
 
 -- A solve with room ends with outcome 0, 1 or 2 exactly if the table is accepted.
-pub solve-accepts : (table : List ℕ) (answerRoom workRoom : ℕ) → 16384 ≤ answerRoom → 16384 ≤ workRoom
+pub solve-accepts : (table : List ℕ) (answerRoom workRoom : ℕ) → 24576 ≤ answerRoom → 16384 ≤ workRoom
     → Exactly (solveRecord table answerRoom workRoom .outcome ≤ 2) (firstFault table ≡ Accepted)
 unfolding solveRecord stopAt
 solve-accepts table answerRoom workRoom room memory =
     record {
       to = λ l. fault-none (firstFault table) (go (isAccepted (firstFault table)) refl l);
-      of = λ e. rw (le-ltb answerRoom 16384 room, le-ltb workRoom 16384 memory, e) (demand-3 table e .one-of-three);
+      of = λ e. rw (le-ltb answerRoom 24576 room, le-ltb workRoom 16384 memory, e) (demand-3 table e .one-of-three);
     }
   where
     go : (b : Bool) → isAccepted (firstFault table) ≡ b → solveRecord table answerRoom workRoom .outcome ≤ 2 → b ≡ true
     go true h l = refl
     go false h l =
-        let high : faultNumber (firstFault table) ≤ 2 = rw (le-ltb answerRoom 16384 room, le-ltb workRoom 16384 memory, h) at l in
+        let high : faultNumber (firstFault table) ≤ 2 = rw (le-ltb answerRoom 24576 room, le-ltb workRoom 16384 memory, h) at l in
         absurd (omega (arith, fault-high (firstFault table) h))

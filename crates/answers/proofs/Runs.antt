@@ -111,7 +111,7 @@ module _ (v : ℕ) where
   run-found vs h = omega (arith, on-passed vs (rowsBefore v vs) h (before-is vs h))
 
   -- one row more passed, over the rows of an answer table: what is counted, with what the rest gives, stays the same
-  module _ (t : List ℕ) (i : ℕ) (h : i < length t / 4) (row : AnswerRow) (read : row ≡ answerRowAt (answerRowsOf t) i) where
+  module _ (t : List ℕ) (i : ℕ) (h : i < length t / 6) (row : AnswerRow) (read : row ≡ answerRowAt (answerRowsOf t) i) where
     here : getD (rowVariables t) i 0 ≡ row .variable
     here = variable-at t i ∙ ap (λ (r : AnswerRow). r .variable) (sym read)
 

@@ -93,22 +93,6 @@ rowsTo n ws same (suc i) = placed (goesOn n ws same i) (placeRow n ws same i) (r
 unfoldable pub answerRows : ℕ → List ℕ → (ℕ → ℕ → Bool) → List AnswerRow
 answerRows n ws same = reverse (rowsTo n ws same n)
 
--- An answer table as it is written: so many numbers for each row, in the order variable, kind, width, fresh number.
-abbrev pub answerRowLength : ℕ
-answerRowLength = 4
-
-unfoldable pub answerNumbers : List AnswerRow → List ℕ
-answerNumbers [] = []
-answerNumbers (r ∷ rows) = r .variable ∷ r .kind ∷ r .width ∷ r .fresh ∷ answerNumbers rows
-
--- The numbers of an answer table as rows.
-unfoldable pub answerRowsOf : List ℕ → List AnswerRow
-answerRowsOf [] = []
-answerRowsOf (v ∷ []) = []
-answerRowsOf (v ∷ k ∷ []) = []
-answerRowsOf (v ∷ k ∷ w ∷ []) = []
-answerRowsOf (v ∷ k ∷ w ∷ f ∷ numbers) = record { variable = v; kind = k; width = w; fresh = f } ∷ answerRowsOf numbers
-
 -- What is read past the end of an answer table, and row j of it.
 abbrev pub noAnswerRow : AnswerRow
 noAnswerRow = record { variable = 0; kind = 0; width = 0; fresh = 0 }
@@ -150,3 +134,50 @@ bitsOfRows rows f (r ∷ rs) = rowBits rows f r ++ bitsOfRows rows f rs
 -- The assignment (pattern) that an answer table gives at the fresh bits f.
 unfoldable pub instantiate : List AnswerRow → List ℕ → List ℕ
 instantiate rows f = bitsOfRows rows f rows
+
+-- The widths of the rows of one variable.
+unfoldable pub widthIn : List AnswerRow → ℕ → ℕ
+widthIn [] v = 0
+widthIn (r ∷ rows) v = cond (eqb (r .variable) v) (r .width) 0 + widthIn rows v
+
+-- The number of row j's highest bit in its variable, counted width - 1 down to 0: the widths of its variable's rows from it on, less 1.
+unfoldable pub highBit : List AnswerRow → ℕ → ℕ
+highBit rows j = widthIn (drop j rows) (answerRowAt rows j .variable) - 1
+
+-- The row where the piece of row j first appears: the first row of its fresh piece; a fill is its own.
+unfoldable pub homeRow : List AnswerRow → ℕ → ℕ
+homeRow rows j =
+    cond (isFresh (answerRowAt rows j)) (least (λ i. isFresh (answerRowAt rows i) && eqb (answerRowAt rows i .fresh) (answerRowAt rows j .fresh)) 0 j) j
+
+-- An answer table as it is written: so many numbers for each row, in the order variable, kind, width, fresh number, home, high. Home and
+-- high are the variable and the highest bit of the row where its piece first appears.
+abbrev pub answerRowLength : ℕ
+answerRowLength = 6
+
+unfoldable pub rowNumbers : List AnswerRow → ℕ → List ℕ
+rowNumbers rows j =
+    answerRowAt rows j .variable
+    ∷ answerRowAt rows j .kind
+    ∷ answerRowAt rows j .width
+    ∷ answerRowAt rows j .fresh
+    ∷ answerRowAt rows (homeRow rows j) .variable
+    ∷ highBit rows (homeRow rows j)
+    ∷ []
+
+-- The numbers of as many rows of a table as are in a list, from row j on; and those of all its rows.
+unfoldable pub numbersFrom : List AnswerRow → ℕ → List AnswerRow → List ℕ
+numbersFrom rows j [] = []
+numbersFrom rows j (r ∷ rs) = rowNumbers rows j ++ numbersFrom rows (suc j) rs
+
+unfoldable pub answerNumbers : List AnswerRow → List ℕ
+answerNumbers rows = numbersFrom rows 0 rows
+
+-- The numbers of an answer table as rows: the first four of each six.
+unfoldable pub answerRowsOf : List ℕ → List AnswerRow
+answerRowsOf [] = []
+answerRowsOf (v ∷ []) = []
+answerRowsOf (v ∷ k ∷ []) = []
+answerRowsOf (v ∷ k ∷ w ∷ []) = []
+answerRowsOf (v ∷ k ∷ w ∷ f ∷ []) = []
+answerRowsOf (v ∷ k ∷ w ∷ f ∷ h ∷ []) = []
+answerRowsOf (v ∷ k ∷ w ∷ f ∷ h ∷ b ∷ numbers) = record { variable = v; kind = k; width = w; fresh = f } ∷ answerRowsOf numbers

@@ -61,11 +61,12 @@ answerRecord t =
     (cond (unsatisfiable t) (neverRecord (tiesTo t (unsatRow t)) (unsatRow t))
     (solvedRecord (solvedRows t) (tiesTo t (length t))))
 
--- The record of a call, where the answer table and the work area have room for so many numbers. 10: one of them below 16,384
+-- The record of a call, where the answer table and the work area have room for so many numbers. 10: the answer table below 24,576
+-- or the work area below 16,384
 unfoldable pub solveRecord : List ℕ → ℕ → ℕ → Record
 solveRecord table answerRoom workRoom =
     stopAt
-    ((ltb answerRoom 16384 || ltb workRoom 16384, refusal 10 0)
+    ((ltb answerRoom 24576 || ltb workRoom 16384, refusal 10 0)
     ∷ (not (isAccepted (firstFault table)), faultRecord (firstFault table))
     ∷ [])
     (answerRecord (rowsOf table))

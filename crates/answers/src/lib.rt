@@ -8,8 +8,10 @@ pub struct AnswerRow {
     pub fresh: u16,
 }
 
-// How many numbers a row of the answer table has.
-pub const ROW: usize = 4;
+// How many numbers a row of the answer table has; and how many it has before its home and high bit are known.
+pub const ROW: usize = 6;
+
+pub const FOUR: usize = 4;
 
 // A part of a run of numbers: where it starts and how many numbers it has.
 #[repr(C)]
