@@ -1,9 +1,9 @@
-// The answer table as numbers: a row read, a row written, and the right side of a variable as a part of the table.
+// The answer table as numbers: a row read, its own four numbers written, and the right side of a variable as a part of the table.
 ghost use mathlib.Core.Path.{_≡_};
 ghost use lib.ListN.{drop};
 ghost use Rattle.answers.specs.RightSide.{rowVariables, rowsBefore, rowsOn, rightSideStart, rightSideLength, rightSide};
 ghost use Rattle.answers.specs.Answer.{answerRowsOf, answerRowAt};
-ghost use Rattle.answer_table.specs.inner.Rows.{answerRowPut};
+ghost use Rattle.answer_table.specs.inner.Rows.{fourPut};
 use answers::AnswerRow;
 use answers::Part;
 
@@ -28,11 +28,11 @@ pub fn row_at(answer: &[u16], i: usize) -> AnswerRow
     }
 }
 
-// Writes row i of an answer table, as far as there is room.
-pub fn put_row(answer: &mut [u16], i: u16, row: AnswerRow)
-    ensures { λ _. ⌜ now (answer .exit) ≡ answerRowPut (now (answer .entry)) i row ⌝ }
+// Writes the own four numbers of row i, before any row has its home and high bit, as far as there is room.
+pub fn put_four(answer: &mut [u16], i: u16, row: AnswerRow)
+    ensures { λ _. ⌜ now (answer .exit) ≡ fourPut (now (answer .entry)) i row ⌝ }
 {
-    let at = numbers::wide(i) * answers::ROW;
+    let at = numbers::wide(i) * answers::FOUR;
     numbers::store_four(answer, at, row.variable, row.kind, row.width, row.fresh);
 }
 

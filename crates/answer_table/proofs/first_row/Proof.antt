@@ -12,10 +12,10 @@ use Rattle.answer_table.proofs.first_row.Tie as tie
 
 abbrev Inv-loop : tie.InvT-loop
 Inv-loop used variable i₀ i =
-    (i ≤ length used / 4) × (i + rowsBefore variable (drop i (rowVariables used)) ≡ rowsBefore variable (rowVariables used))
+    (i ≤ length used / 6) × (i + rowsBefore variable (drop i (rowVariables used)) ≡ rowsBefore variable (rowVariables used))
 
 abbrev μ-loop : tie.MeasureT-loop
-μ-loop used variable i₀ i = length used / 4 - i
+μ-loop used variable i₀ i = length used / 6 - i
 
 loop-holds : tie.Need-loop-holds Inv-loop μ-loop
 loop-holds c = (omega arith, omega arith)

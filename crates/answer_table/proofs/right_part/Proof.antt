@@ -23,7 +23,7 @@ mul-end c = search needs
 slice-aggregate-used : tie.Need-slice-aggregate-used
 slice-aggregate-used c =
     let s = c .before .before .before .args in
-    sym (length-take-le (s .rows * 4) (now (s .answer)) (omega (arith, c .before .if1 .left)))
+    sym (length-take-le (s .rows * 6) (now (s .answer)) (omega (arith, c .before .if1 .left)))
 
 first-row-requires : tie.Need-first-row-requires
 first-row-requires c κs = search needs

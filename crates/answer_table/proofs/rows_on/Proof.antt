@@ -15,7 +15,7 @@ Inv-loop used variable first i₀ i =
     (first ≤ i) × (i + rowsOn variable (drop i (rowVariables used)) ≡ first + rowsOn variable (drop first (rowVariables used)))
 
 abbrev μ-loop : tie.MeasureT-loop
-μ-loop used variable first i₀ i = length used / 4 - i
+μ-loop used variable first i₀ i = length used / 6 - i
 
 loop-holds : tie.Need-loop-holds Inv-loop μ-loop
 loop-holds c = (omega arith, refl)
