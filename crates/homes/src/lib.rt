@@ -1,0 +1,189 @@
+// Home and high bit of each answer row: the variable and the highest bit where its piece first appears. Rows of four numbers are widened
+// to six from the last one back, each with its own place; then each later appearance of a fresh piece takes the two numbers of the first.
+// The test of a table goes the same way and writes nothing.
+ghost use mathlib.Core.Path.{_≡_};
+ghost use Prim.Native.Nat.{_*_};
+ghost use lib.ListN.{length};
+ghost use Rattle.homes.specs.inner.Homes.{columnsAt, widthOn, rowPut, Widens, homeIn, seenWith, homeCopied, SetsHomes, PutsHomes, MarksFirsts, homeFine, TestsRows, TestsHomes};
+use answers::AnswerRow;
+
+// The kind of a row with a fresh piece; a lower kind is a fill of that bit.
+const FRESH: u16 = 2;
+
+// Row i of a table whose rows have four numbers.
+fn four_at(answer: &[u16], i: u16) -> AnswerRow
+    ensures { λ r. ⌜ r ≡ columnsAt (now (answer .entry)) (i * 4) ⌝ }
+{
+    let at = numbers::wide(i) * answers::FOUR;
+    AnswerRow {
+        variable: numbers::load(answer, at),
+        kind: numbers::load(answer, at + 1),
+        width: numbers::load(answer, at + 2),
+        fresh: numbers::load(answer, at + 3),
+    }
+}
+
+// Writes row i with its own place: its variable and its highest bit.
+fn put_row(answer: &mut [u16], i: u16, row: AnswerRow, high: u16)
+    ensures { λ _. ⌜ now (answer .exit) ≡ rowPut (now (answer .entry)) i row high ⌝ }
+{
+    let at = numbers::wide(i) * answers::ROW;
+    let variable = row.variable;
+    numbers::store_four(answer, at, variable, row.kind, row.width, row.fresh);
+    numbers::store(answer, at + 4, variable);
+    numbers::store(answer, at + 5, high);
+}
+
+// The width of a row's variable from the row on, from that of the last row's variable behind it.
+fn width_on(passed: u16, variable: u16, row: AnswerRow) -> u16
+    ensures { λ w. ⌜ w ≡ widthOn passed variable row ⌝ }
+{
+    let own = row.variable;
+    if own == variable {
+        return numbers::plus(passed, row.width);
+    }
+    row.width
+}
+
+// Widens rows of four numbers to six, from the last one back: row i moves from 4 i to 6 i, never onto a row that is still to be read.
+fn widen(answer: &mut [u16], rows: u16)
+    ensures { λ _. ⌜ Widens rows (now (answer .entry)) (now (answer .exit)) ⌝ }
+{
+    let mut passed: u16 = 0;
+    let mut variable: u16 = 0;
+    let mut i = rows;
+    while 0 < i {
+        i -= 1;
+        let row = four_at(answer, i);
+        passed = width_on(passed, variable, row);
+        variable = row.variable;
+        put_row(answer, i, row, numbers::difference(passed, 1));
+    }
+}
+
+// The row where the piece of row i first appears: a fill's is its own.
+fn home_row(firsts: &[u16], row: AnswerRow, i: u16) -> u16
+    ensures { λ h. ⌜ h ≡ homeIn (now (firsts .entry)) row i ⌝ }
+{
+    let kind = row.kind;
+    if kind < FRESH {
+        return i;
+    }
+    numbers::load(firsts, numbers::wide(row.fresh))
+}
+
+// How many fresh pieces have appeared, with one row more.
+fn seen_with(row: AnswerRow, seen: u16) -> u16
+    ensures { λ n. ⌜ n ≡ seenWith row seen ⌝ }
+{
+    let kind = row.kind;
+    let number = row.fresh;
+    if kind < FRESH {
+        return seen;
+    }
+    if number == seen {
+        return numbers::plus(seen, 1);
+    }
+    seen
+}
+
+// Copies home and high bit of one row to another.
+fn copy_home(answer: &mut [u16], from: u16, to: u16)
+    ensures { λ _. ⌜ now (answer .exit) ≡ homeCopied (now (answer .entry)) from to ⌝ }
+{
+    let source = numbers::wide(from) * answers::ROW;
+    let target = numbers::wide(to) * answers::ROW;
+    let home = numbers::load(answer, source + 4);
+    let high = numbers::load(answer, source + 5);
+    numbers::store(answer, target + 4, home);
+    numbers::store(answer, target + 5, high);
+}
+
+// Sets home and high bit of each row to those of the row where its piece first appears, which has its own there. `firsts` has the first row
+// of each fresh piece seen. A row without a new one stores at the place of the next, which stores again.
+fn set_homes(answer: &mut [u16], rows: u16, firsts: &mut [u16])
+    ensures { λ _. ⌜ SetsHomes rows (now (answer .entry)) (now (answer .exit)) (length (now (firsts .entry))) ⌝ }
+{
+    let mut seen: u16 = 0;
+    let mut i: u16 = 0;
+    while i < rows {
+        numbers::store(firsts, numbers::wide(seen), i);
+        let row = answer_table::row_at(answer, numbers::wide(i));
+        let from = home_row(firsts, row, i);
+        copy_home(answer, from, i);
+        seen = seen_with(row, seen);
+        i += 1;
+    }
+}
+
+// Writes home and high bit of each row of a table that has the rows' own four numbers.
+pub fn put_homes(answer: &mut [u16], rows: usize, firsts: &mut [u16])
+    ensures { λ _. ⌜ PutsHomes rows (now (answer .entry)) (now (answer .exit)) (length (now (firsts .entry))) ⌝ }
+{
+    let count = numbers::narrow(rows);
+    widen(answer, count);
+    set_homes(answer, count, firsts);
+}
+
+// Marks the first row of each fresh piece.
+fn mark_firsts(answer: &[u16], rows: u16, firsts: &mut [u16])
+    ensures { λ _. ⌜ MarksFirsts rows (now (answer .entry)) (length (now (firsts .entry))) (now (firsts .exit)) ⌝ }
+{
+    let mut seen: u16 = 0;
+    let mut i: u16 = 0;
+    while i < rows {
+        numbers::store(firsts, numbers::wide(seen), i);
+        let row = answer_table::row_at(answer, numbers::wide(i));
+        seen = seen_with(row, seen);
+        i += 1;
+    }
+}
+
+// Whether home and high bit of row i are its own, if its piece first appears there, or else those of the row where it does.
+fn home_fine(answer: &[u16], variable: u16, high: u16, from: u16, i: u16) -> bool
+    ensures { λ b. ⌜ b ≡ homeFine (now (answer .entry)) variable high from i ⌝ }
+{
+    let at = numbers::wide(i) * answers::ROW;
+    let source = numbers::wide(from) * answers::ROW;
+    let home = numbers::load(answer, at + 4);
+    let bit = numbers::load(answer, at + 5);
+    if from == i {
+        if home == variable {
+            return bit == high;
+        }
+        return false;
+    }
+    if home == numbers::load(answer, source + 4) {
+        return bit == numbers::load(answer, source + 5);
+    }
+    false
+}
+
+// Tests home and high bit of each row, from the last one back.
+fn rows_fine(answer: &[u16], rows: u16, firsts: &[u16]) -> bool
+    ensures { λ b. ⌜ TestsRows rows (now (answer .entry)) (now (firsts .entry)) b ⌝ }
+{
+    let mut passed: u16 = 0;
+    let mut variable: u16 = 0;
+    let mut i = rows;
+    while 0 < i {
+        i -= 1;
+        let row = answer_table::row_at(answer, numbers::wide(i));
+        passed = width_on(passed, variable, row);
+        variable = row.variable;
+        let from = home_row(firsts, row, i);
+        if !home_fine(answer, variable, numbers::difference(passed, 1), from, i) {
+            return false;
+        }
+    }
+    true
+}
+
+// Whether home and high bit of every row of an answer table are right, where the rows are of the form.
+pub fn homes_fine(answer: &[u16], firsts: &mut [u16]) -> bool
+    ensures { λ b. ⌜ TestsHomes (now (answer .entry)) (length (now (firsts .entry))) b ⌝ }
+{
+    let count = numbers::narrow(answer.len() / answers::ROW);
+    mark_firsts(answer, count, firsts);
+    rows_fine(answer, count, firsts)
+}
