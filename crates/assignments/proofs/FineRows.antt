@@ -12,7 +12,7 @@ use borrow.Author.Tests.{eq-eqb, ne-eqb, lt-leb}
 use Rattle.answers.specs.Pairs.{Pair}
 use Rattle.answers.specs.inner.Classes.{rep, inClass, Represents}
 use Rattle.laws.specs.Lists.{tally, member}
-use Rattle.answers.specs.Answer.{begins, variableAt, fixedTo, unfixed, goesOn, placeRow, widened, placed, rowsTo, answerRows, isFresh, freshNumbers}
+use Rattle.answers.specs.Answer.{begins, variableAt, fixedTo, unfixed, goesOn, placeRow, widened, placed, rowsTo, answerRows, isFresh, freshNumbers, widthIn}
 use Rattle.answers.specs.declared.AnswerRow.{AnswerRow}
 use Rattle.laws.proofs.Numbers.{lt-or-le}
 use Rattle.laws.proofs.Tallies.{tally-mono, tally-up}
@@ -24,7 +24,7 @@ use Rattle.answers.proofs.Relation.{unfixed-is, goes-open, goes-fixed}
 use Rattle.answers.proofs.AnswerRows.{Each, Whole, Reaching, rows-are, ended}
 use Rattle.answers.proofs.Instantiating.{each-turn, width-found}
 use Rattle.answers.proofs.RowSides.{variable-low}
-use Rattle.assignments.specs.Form.{widthIn, patternBits, rowsFine}
+use Rattle.assignments.specs.Form.{patternBits, rowsFine}
 use Rattle.assignments.proofs.Places.{Sized, placeIn, variable-first, place-first, Next, next-place, place-small}
 use Rattle.assignments.proofs.Turning.{FineBack, fine-rows, bits-reverse, numbers-reverse, number-here, Follows, Differs, Below, Behind, behind-fine}
 use Rattle.laws.proofs.Bools.{clash}

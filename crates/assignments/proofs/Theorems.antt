@@ -14,39 +14,31 @@ use Rattle.terms.specs.declared.Fault.the-variants.{Accepted}
 use Rattle.terms.specs.Assignments.{Assignment, done, off, on}
 use Rattle.terms.specs.Calls.{completed, stopAt}
 use Rattle.terms.specs.Faults.{firstFault}
-use Rattle.terms.specs.Table.{rowsOf, bitsOf, satisfies}
+use Rattle.terms.specs.Table.{rowsOf, bitsOf, sameWord, satisfies}
 use Rattle.terms.proofs.Assignments.{assignment-length}
+use Rattle.terms.proofs.Satisfies.{word-same}
 use Rattle.laws.proofs.Buffers.{overwrite-fits}
 use Rattle.laws.specs.Buffers.{overwrite}
 use Rattle.laws.specs.Lists.{allBits, distinct}
 use Rattle.answers.specs.declared.AnswerRow.{AnswerRow}
-use Rattle.answers.specs.Answer.{variableWidths, begins, answerNumbers, answerRowsOf, freshNumbers, freshPieces, freshStart, freeBits, bitsOfRows, instantiate}
+use Rattle.answers.specs.Answer.{variableWidths, begins, numbersFrom, answerNumbers, answerRowsOf, freshNumbers, freshPieces, freshStart, freeBits, bitsOfRows, instantiate}
 use Rattle.answers.specs.Solve.{unsatisfiable, pairsTogether, solvedRows, answerRecord}
 use Rattle.answers.specs.Pairs.{equationPairs}
+use Rattle.answers.proofs.AnswerNumbers.{numbers-length, rows-back}
 use Rattle.answers.proofs.Variables.{widths-sum, begins-first, begins-behind}
 use Rattle.answers.proofs.Tables.{tableClasses, represent, apart-one, solved-rows}
 use Rattle.answers.proofs.Demands.{demand-2, demand-3}
 use Rattle.answers.proofs.OurSystem.{some-left}
-use Rattle.assignments.specs.Form.{patternBits, rowsFine, hasForm}
+use Rattle.assignments.specs.Form.{patternBits, rowsFine, homesFine, hasForm}
 use Rattle.assignments.specs.Call.{wrongFresh, patternRecord, patternAfter}
 use Rattle.assignments.proofs.Places.{table-sized, table-variables, table-bits}
 use Rattle.assignments.proofs.FineRows.{answer-fine, answer-bits}
 use Rattle.assignments.specs.Made.{MadeFromSolved, Makes, patternOf}
 
--- Rows written as numbers are read as they were.
-pub rows-back : (rows : List AnswerRow) → answerRowsOf (answerNumbers rows) ≡ rows
-unfolding answerRowsOf answerNumbers
-rows-back [] = refl
-rows-back (r ∷ rows) = ap (λ (l : List AnswerRow). r ∷ l) (rows-back rows)
-
-numbers-length : (rows : List AnswerRow) → length (answerNumbers rows) ≡ length rows * 4
-unfolding answerNumbers
-numbers-length [] = refl
-numbers-length (r ∷ rows) = omega (arith, numbers-length rows)
-
-form-of : (rows : List AnswerRow) → rowsFine [] rows ≡ true → hasForm (answerNumbers rows) ≡ true
-unfolding hasForm
-form-of rows h = rw (numbers-length rows, mul-mod-left (length rows) 4, rows-back rows) h
+-- Rows that are fine have the form as they are written.
+pub form-of : (rows : List AnswerRow) → rowsFine [] rows ≡ true → hasForm (answerNumbers rows) ≡ true
+unfolding hasForm homesFine
+form-of rows h = rw (numbers-length rows, mul-mod-left (length rows) 6, rows-back rows, word-same (answerNumbers rows), h)
 
 bits-all : {n : ℕ} {f : List ℕ} → Assignment n f → allBits f ≡ true
 unfolding allBits
@@ -139,7 +131,7 @@ module _ (table : List ℕ) (accepted : firstFault table ≡ Accepted) (solved :
 
 -- An empty table with no fresh bytes gives an empty pattern, whatever the buffer, and leaves the buffer as it was.
 empty-returned : (room : ℕ) → patternRecord [] [] room ≡ completed 0 0
-unfolding patternRecord stopAt hasForm rowsFine answerRowsOf wrongFresh allBits freeBits freshPieces freshNumbers freshStart distinct patternBits
+unfolding patternRecord stopAt hasForm rowsFine homesFine sameWord answerNumbers numbersFrom answerRowsOf wrongFresh allBits freeBits freshPieces freshNumbers freshStart distinct patternBits
 empty-returned room = rw (le-ltb room 0 (omega arith)) refl
 
 pub empty-pattern : (old : List ℕ) → (patternRecord [] [] (length old) ≡ completed 0 0) × (patternAfter [] [] old ≡ old)

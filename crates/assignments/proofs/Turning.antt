@@ -9,12 +9,12 @@ use lib.Dec.{eqb, ltb}
 use lib.ListN.{length, length-reverseAux}
 use borrow.Author.Tests.{eqb-true, eq-eqb, lt-ltb}
 use Rattle.answers.specs.declared.AnswerRow.{AnswerRow}
-use Rattle.answers.specs.Answer.{isFresh, freshNumbers, freshWidth}
+use Rattle.answers.specs.Answer.{isFresh, freshNumbers, freshWidth, widthIn}
 use Rattle.laws.specs.Lists.{member}
 use Rattle.laws.proofs.Bools.{and-both, or-shared}
 use Rattle.laws.proofs.Numbers.{lt-or-le}
 use Rattle.laws.proofs.Tallies.{distinct-is, distinct-most}
-use Rattle.assignments.specs.Form.{variableFine, kindFine, widthFine, widthIn, variableWide, patternBits, patternWide, fillFine, neighboursFine, lowestUnseen, freshFine, rowFine, rowsFine}
+use Rattle.assignments.specs.Form.{variableFine, kindFine, widthFine, variableWide, patternBits, patternWide, fillFine, neighboursFine, lowestUnseen, freshFine, rowFine, rowsFine}
 use Rattle.laws.proofs.Least.{least-at}
 
 -- Rows that stand last first, each fine behind those before it.

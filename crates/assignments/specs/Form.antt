@@ -1,13 +1,14 @@
 -- The form of an answer table (document 01, "The pattern maker takes an answer table .."): what is asked of each row, one definition
 -- for each clause, by the rows before it. 33 is told for every table that has not this form.
-use mathlib.Core.Bool.{Bool, true, not, _&&_, _||_, cond}
+use mathlib.Core.Bool.{Bool, true, not, _&&_, _||_}
 use mathlib.Core.List.{List, [], _∷_, _++_}
 use Prim.Native.Nat.{ℕ, suc, _+_, _%_}
 use lib.Dec.{eqb, ltb}
 use lib.ListN.{length}
 use Rattle.laws.specs.Lists.{least}
 use Rattle.answers.specs.declared.AnswerRow.{AnswerRow}
-use Rattle.answers.specs.Answer.{isFresh, freshNumbers, freshWidth, answerRowLength, answerRowsOf}
+use Rattle.terms.specs.Table.{sameWord}
+use Rattle.answers.specs.Answer.{isFresh, freshNumbers, freshWidth, widthIn, answerRowLength, answerNumbers, answerRowsOf}
 use Rattle.laws.specs.Lists.{member}
 
 -- "Variables start at 0 and stay or rise by one, up to 63"
@@ -24,11 +25,7 @@ kindFine r = ltb (r .kind) 3
 unfoldable pub widthFine : AnswerRow → Bool
 widthFine r = ltb 0 (r .width)
 
--- "and add up to at most 1,024 in a variable": the widths of the rows of one variable
-unfoldable pub widthIn : List AnswerRow → ℕ → ℕ
-widthIn [] v = 0
-widthIn (r ∷ rows) v = cond (eqb (r .variable) v) (r .width) 0 + widthIn rows v
-
+-- "and add up to at most 1,024 in a variable"
 unfoldable pub variableWide : List AnswerRow → AnswerRow → Bool
 variableWide before r = ltb (widthIn before (r .variable) + r .width) 1025
 
@@ -76,6 +73,10 @@ unfoldable pub rowsFine : List AnswerRow → List AnswerRow → Bool
 rowsFine before [] = true
 rowsFine before (r ∷ rows) = rowFine before r && rowsFine (before ++ (r ∷ [])) rows
 
+-- "33 also for a wrong home or high" (document 02, (vi)): the numbers are those with which their rows are written
+unfoldable pub homesFine : List ℕ → Bool
+homesFine numbers = sameWord (answerNumbers (answerRowsOf numbers)) numbers
+
 -- "The table lent to it is whole rows, all in use."
 unfoldable pub hasForm : List ℕ → Bool
-hasForm numbers = eqb (length numbers % answerRowLength) 0 && rowsFine [] (answerRowsOf numbers)
+hasForm numbers = eqb (length numbers % answerRowLength) 0 && rowsFine [] (answerRowsOf numbers) && homesFine numbers
