@@ -7,10 +7,7 @@ use lib.Dec.{ltb}
 use lib.ListN.{length, length-append}
 use Rattle.terms.specs.declared.Record.{Record}
 use Rattle.sheets.specs.Writing.{digits}
-use Rattle.sheets.specs.Print.{field, recordNames, recordValues, recordText, answerNames, answerValues, rowLines, answerLines, answerText}
-use Rattle.answers.specs.declared.AnswerRow.{AnswerRow}
-use Rattle.answers.specs.Answer.{answerRowsOf}
-use Rattle.answers.proofs.AnswerNumbers.{answer-length}
+use Rattle.sheets.specs.Print.{field, recordNames, recordValues, recordText, answerNames, answerValues, answerLines, answerText}
 
 pub digits-few : (most n : ℕ) → length (digits most n) ≤ most
 unfolding digits
@@ -29,10 +26,11 @@ field-few n byte = omega (arith, length-append (digits 10 n) (byte ∷ []), digi
 field-more : (n byte k : ℕ) (ys : List ℕ) → length ys ≤ k → length (field n byte ++ ys) ≤ 11 + k
 field-more n byte k ys h = omega (arith, h, length-append (field n byte) ys, field-few n byte)
 
-pub answer-values-few : (r : AnswerRow) → length (answerValues r) ≤ 80
+pub answer-values-few : (v k w f h b : ℕ) → length (answerValues v k w f h b) ≤ 80
 unfolding answerValues
-answer-values-few r =
-    let l : length (field (r .variable) 32 ++ (field (r .kind) 32 ++ (field (r .width) 32 ++ field (r .fresh) 10))) ≤ 44 = field-more _ _ 33 _ (field-more _ _ 22 _ (field-more _ _ 11 _ (field-few _ _))) in
+answer-values-few v k w f h b =
+    let l : length (field v 32 ++ (field k 32 ++ (field w 32 ++ (field f 32 ++ (field h 32 ++ field b 10))))) ≤ 66
+    = field-more _ _ 55 _ (field-more _ _ 44 _ (field-more _ _ 33 _ (field-more _ _ 22 _ (field-more _ _ 11 _ (field-few _ _))))) in
     omega (arith, l)
 
 pub record-values-few : (r : Record) → length (recordValues r) ≤ 80
@@ -47,15 +45,16 @@ pub record-few : (r : Record) → length (recordText r) ≤ 160
 unfolding recordText
 record-few r = omega (arith, length-append recordNames (recordValues r), record-values-few r)
 
-lines-few : (rows : List AnswerRow) → length (rowLines rows) ≤ length rows * 80
-unfolding rowLines
-lines-few [] = omega arith
-lines-few (r ∷ rows) = omega (arith, length-append (answerValues r) (rowLines rows), answer-values-few r, lines-few rows)
-
-pub rows-few : (answer : List ℕ) → length (answerLines answer) ≤ length answer / 4 * 80
+pub rows-few : (answer : List ℕ) → length (answerLines answer) ≤ length answer / 6 * 80
 unfolding answerLines
-rows-few answer = omega (arith, lines-few (answerRowsOf answer), answer-length answer)
+rows-few [] = omega arith
+rows-few (v ∷ []) = omega arith
+rows-few (v ∷ k ∷ []) = omega arith
+rows-few (v ∷ k ∷ w ∷ []) = omega arith
+rows-few (v ∷ k ∷ w ∷ f ∷ []) = omega arith
+rows-few (v ∷ k ∷ w ∷ f ∷ h ∷ []) = omega arith
+rows-few (v ∷ k ∷ w ∷ f ∷ h ∷ b ∷ answer) = omega (arith, length-append (answerValues v k w f h b) (answerLines answer), answer-values-few v k w f h b, rows-few answer)
 
-pub answer-few : (answer : List ℕ) → length (answerText answer) ≤ (length answer / 4 + 1) * 80
+pub answer-few : (answer : List ℕ) → length (answerText answer) ≤ (length answer / 6 + 1) * 80
 unfolding answerText
 answer-few answer = omega (arith, length-append answerNames (answerLines answer), rows-few answer)

@@ -22,14 +22,14 @@ use Rattle.sheets.proofs.Solving.{pieces-fit, answer-taken}
 abbrev pub PrintIs : List ℕ → List ℕ → List ℕ → ℕ → Type 0
 PrintIs text out out′ len = (len ≡ printLength text (length out)) × (out′ ≡ printAfter text out)
 
-numbers-few : (text : List ℕ) → programRecord text .outcome ≡ 2 → length (answerNumbers (solvedRows (sheetRows text))) ≤ 16384
+numbers-few : (text : List ℕ) → programRecord text .outcome ≡ 2 → length (answerNumbers (solvedRows (sheetRows text))) ≤ 24576
 numbers-few text two =
-    let old : List ℕ = replicate 16384 0 in
-    let room : length old ≡ 16384 = length-replicate {A = ℕ} 16384 0 in
+    let old : List ℕ = replicate 24576 0 in
+    let room : length old ≡ 24576 = length-replicate {A = ℕ} 24576 0 in
     omega (
       arith,
       ap length (answer-taken text old room two),
-      length-take (programRecord text .pieces * 4) (textAnswer text old),
+      length-take (programRecord text .pieces * 6) (textAnswer text old),
       pieces-fit text old room two,
     )
 
@@ -38,7 +38,7 @@ pub print-fits : (text : List ℕ) → length (programText text) ≤ 327920
 unfolding programText
 print-fits text = go (eqb (programRecord text .outcome) 2) (λ z. numbers-few text (eqb-true (programRecord text .outcome) 2 z))
   where
-    go : (b : Bool) → (b ≡ true → length (answerNumbers (solvedRows (sheetRows text))) ≤ 16384)
+    go : (b : Bool) → (b ≡ true → length (answerNumbers (solvedRows (sheetRows text))) ≤ 24576)
         → length (recordText (programRecord text) ++ cond b (answerText (answerNumbers (solvedRows (sheetRows text)))) []) ≤ 327920
     go true few =
         omega (

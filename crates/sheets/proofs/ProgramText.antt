@@ -31,7 +31,7 @@ prints-refusal text h =
     rw (ne-eqb (sheetRecord text 2048 .outcome) 0 h, ne-eqb (sheetRecord text 2048 .outcome) 2 (sheet-not-2 text 2048), append-nil) refl
 
 module _ (text : List ℕ) (rows : List Row) (sheet : SheetOf text rows) where
-  sheet-record : programRecord text ≡ solveRecord (rowNumbers rows) 16384 16384
+  sheet-record : programRecord text ≡ solveRecord (rowNumbers rows) 24576 16384
   unfolding programRecord textRecord sheetRecord
   sheet-record = let r = read-exactly text rows .0 sheet in rw (r .0, r .1) refl
 
@@ -50,11 +50,13 @@ module _ (text : List ℕ) (rows : List Row) (sheet : SheetOf text rows) where
       ≡ recordText (answerRecord rows) ++ cond (eqb (answerRecord rows .outcome) 2) (answerText (answerNumbers (solvedRows rows))) []
   unfolding programText
   prints-answer accepted =
-      let zeros : List ℕ = replicate 16384 0 in
-      let room : length zeros ≡ 16384 = length-replicate {A = ℕ} 16384 0 in
+      let zeros : List ℕ = replicate 24576 0 in
+      let work : List ℕ = replicate 16384 0 in
+      let room : length zeros ≡ 24576 = length-replicate {A = ℕ} 24576 0 in
+      let memory : length work ≡ 16384 = length-replicate {A = ℕ} 16384 0 in
       let found : programRecord text ≡ answerRecord rows =
       sheet-record
-      ∙ ap₂ (solveRecord (rowNumbers rows)) (sym room) (sym room)
-      ∙ call-record (rowNumbers rows) accepted zeros zeros (omega arith) (omega arith)
+      ∙ ap₂ (solveRecord (rowNumbers rows)) (sym room) (sym memory)
+      ∙ call-record (rowNumbers rows) accepted zeros work (omega arith) (omega arith)
       ∙ ap answerRecord (rows-written rows) in
       rw (found, read-exactly text rows .0 sheet .1) refl

@@ -6,7 +6,7 @@ use mathlib.Core.List.{List}
 use Prim.Native.Nat.{ℕ, _*_, _≤_}
 use native.Mathlib.Omega.{arith}
 use lib.Dec.{eqb, ltb}
-use lib.ListN.{length, take}
+use lib.ListN.{length, take, replicate, length-replicate}
 use lib.Seq.{take-length}
 use borrow.Author.Tests.{eq-eqb, ne-eqb, eqb-true}
 use Rattle.terms.specs.declared.Record.{Record}
@@ -80,34 +80,41 @@ unfolding programRecord textRecord
 sheet-read text e = go (eqb (sheetRecord text 2048 .outcome) 0) refl e
   where
     go : (b : Bool) → eqb (sheetRecord text 2048 .outcome) 0 ≡ b
-        → (cond b (solveRecord (rowNumbers (sheetRows text)) 16384 16384) (sheetRecord text 2048)) .outcome ≡ 2
+        → (cond b (solveRecord (rowNumbers (sheetRows text)) 24576 16384) (sheetRecord text 2048)) .outcome ≡ 2
         → sheetRecord text 2048 .outcome ≡ 0
     go true z e = eqb-true (sheetRecord text 2048 .outcome) 0 z
     go false z e = absurd (sheet-not-2 text 2048 e)
 
--- the program's record is that of an answer table with room for 16,384 numbers
-pub program-is : (text old : List ℕ) → length old ≡ 16384 → textRecord text (length old) ≡ programRecord text
+-- the program's record is that of an answer table with room for 24,576 numbers
+pub program-is : (text old : List ℕ) → length old ≡ 24576 → textRecord text (length old) ≡ programRecord text
 unfolding programRecord
 program-is text old room = ap (textRecord text) room
 
 -- For outcome 2 the answer table begins with the answer's rows, at most 4,096, and as many as the record's pieces.
-module _ (text old : List ℕ) (room : length old ≡ 16384) (two : programRecord text .outcome ≡ 2) where
+module _ (text old : List ℕ) (room : length old ≡ 24576) (two : programRecord text .outcome ≡ 2) where
   numbers : List ℕ
   numbers = rowNumbers (sheetRows text)
 
-  is-solved : programRecord text ≡ solveRecord numbers 16384 16384
+  -- a work area
+  abbrev work : List ℕ
+  work = replicate 16384 0
+
+  work-room : length work ≡ 16384
+  work-room = length-replicate {A = ℕ} 16384 0
+
+  is-solved : programRecord text ≡ solveRecord numbers 24576 16384
   unfolding numbers programRecord
-  is-solved = text-solves text (sheet-read text two) 16384
+  is-solved = text-solves text (sheet-read text two) 24576
 
   accepted-2 : firstFault numbers ≡ Accepted
   accepted-2 =
-      let e : solveRecord numbers 16384 16384 .outcome ≡ 2 = ap (λ (r : Record). r .outcome) (sym is-solved) ∙ two in
-      solve-accepts numbers 16384 16384 (omega arith) (omega arith) .to (omega arith)
+      let e : solveRecord numbers 24576 16384 .outcome ≡ 2 = ap (λ (r : Record). r .outcome) (sym is-solved) ∙ two in
+      solve-accepts numbers 24576 16384 (omega arith) (omega arith) .to (omega arith)
 
   is-record : programRecord text ≡ answerRecord (rowsOf numbers)
   is-record =
-      is-solved ∙ ap₂ (solveRecord numbers) (sym room) (sym room)
-      ∙ call-record numbers accepted-2 old old (omega arith) (omega arith)
+      is-solved ∙ ap₂ (solveRecord numbers) (sym room) (sym work-room)
+      ∙ call-record numbers accepted-2 old work (omega arith) (omega (arith, work-room))
 
   two-answer : answerRecord (rowsOf numbers) .outcome ≡ 2
   two-answer = ap (λ (r : Record). r .outcome) (sym is-record) ∙ two
@@ -124,11 +131,11 @@ module _ (text old : List ℕ) (room : length old ≡ 16384) (two : programRecor
         rows-few (bitsOf t) (variableWidths t) (equalUnder (bitsOf t) (satisfies t)),
       )
 
-  pub answer-taken : take (programRecord text .pieces * 4) (textAnswer text old) ≡ answerNumbers (solvedRows (sheetRows text))
+  pub answer-taken : take (programRecord text .pieces * 6) (textAnswer text old) ≡ answerNumbers (solvedRows (sheetRows text))
   unfolding numbers
   answer-taken =
-      let after : answerAfter numbers old (length old) ≡ textAnswer text old =
-      ap (answerAfter numbers old) room ∙ solved text (sheet-read text two) old numbers _ _ refl refl refl .1 in
-      ap₂ (λ (r : Record) (l : List ℕ). take (r .pieces * 4) l) is-record (sym after)
-      ∙ call-answer numbers accepted-2 old old (omega arith) (omega arith) two-answer
+      let after : answerAfter numbers old (length work) ≡ textAnswer text old =
+      ap (answerAfter numbers old) work-room ∙ solved text (sheet-read text two) old numbers _ _ refl refl refl .1 in
+      ap₂ (λ (r : Record) (l : List ℕ). take (r .pieces * 6) l) is-record (sym after)
+      ∙ call-answer numbers accepted-2 old work (omega arith) (omega (arith, work-room)) two-answer
       ∙ ap (λ (t : List Row). answerNumbers (solvedRows t)) (rows-written (sheetRows text))

@@ -4,8 +4,6 @@ use Prim.Native.Nat.{ℕ}
 use lib.ListN.{length, replicate, take}
 use Rattle.laws.specs.Buffers.{overwrite}
 use Rattle.terms.specs.declared.Record.{Record}
-use Rattle.answers.specs.declared.AnswerRow.{AnswerRow}
-use Rattle.answers.specs.Answer.{answerRowsOf}
 use Rattle.sheets.specs.declared.Text.{Text}
 use Rattle.sheets.specs.Writing.{digits}
 
@@ -36,28 +34,33 @@ unfoldable pub recordValues : Record → List ℕ
 recordValues r =
     field (r .outcome) 32 ++ (field (r .pieces) 32 ++ (field (r .fresh) 32 ++ (field (r .free) 32 ++ (field (r .ties) 32 ++ field (r .row) 10))))
 
--- "variable kind width fresh" and a line's end
+-- "variable kind width fresh home high" and a line's end
 abbrev pub answerNames : List ℕ
 answerNames =
     118 ∷ 97 ∷ 114 ∷ 105 ∷ 97 ∷ 98 ∷ 108 ∷ 101 ∷ 32
     ∷ 107 ∷ 105 ∷ 110 ∷ 100 ∷ 32
     ∷ 119 ∷ 105 ∷ 100 ∷ 116 ∷ 104 ∷ 32
-    ∷ 102 ∷ 114 ∷ 101 ∷ 115 ∷ 104 ∷ 10 ∷ []
+    ∷ 102 ∷ 114 ∷ 101 ∷ 115 ∷ 104 ∷ 32
+    ∷ 104 ∷ 111 ∷ 109 ∷ 101 ∷ 32
+    ∷ 104 ∷ 105 ∷ 103 ∷ 104 ∷ 10 ∷ []
 
--- one row of the answer table
-unfoldable pub answerValues : AnswerRow → List ℕ
-answerValues r = field (r .variable) 32 ++ (field (r .kind) 32 ++ (field (r .width) 32 ++ field (r .fresh) 10))
+-- the numbers of one row of the answer table, in that order
+unfoldable pub answerValues : ℕ → ℕ → ℕ → ℕ → ℕ → ℕ → List ℕ
+answerValues variable kind width fresh home high =
+    field variable 32 ++ (field kind 32 ++ (field width 32 ++ (field fresh 32 ++ (field home 32 ++ field high 10))))
 
--- The text of a record, and of an answer table whose numbers these are.
+-- The text of a record; and of an answer table whose numbers these are, a line for each whole row.
 unfoldable pub recordText : Record → List ℕ
 recordText r = recordNames ++ recordValues r
 
-unfoldable pub rowLines : List AnswerRow → List ℕ
-rowLines [] = []
-rowLines (r ∷ rows) = answerValues r ++ rowLines rows
-
 unfoldable pub answerLines : List ℕ → List ℕ
-answerLines numbers = rowLines (answerRowsOf numbers)
+answerLines [] = []
+answerLines (v ∷ []) = []
+answerLines (v ∷ k ∷ []) = []
+answerLines (v ∷ k ∷ w ∷ []) = []
+answerLines (v ∷ k ∷ w ∷ f ∷ []) = []
+answerLines (v ∷ k ∷ w ∷ f ∷ h ∷ []) = []
+answerLines (v ∷ k ∷ w ∷ f ∷ h ∷ b ∷ numbers) = answerValues v k w f h b ++ answerLines numbers
 
 unfoldable pub answerText : List ℕ → List ℕ
 answerText numbers = answerNames ++ answerLines numbers

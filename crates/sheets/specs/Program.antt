@@ -26,9 +26,9 @@ unfoldable pub textAnswer : List ℕ → List ℕ → List ℕ
 textAnswer text old =
     cond (eqb (textRecord text (length old) .outcome) 2) (overwrite (answerNumbers (solvedRows (sheetRows text))) old) old
 
--- The program's record: its answer table has room for 16,384 numbers.
+-- The program's record: its answer table has room for 24,576 numbers.
 unfoldable pub programRecord : List ℕ → Record
-programRecord text = textRecord text 16384
+programRecord text = textRecord text 24576
 
 -- The bytes that are printed: the record, then the answer table for outcome 2 only.
 unfoldable pub programText : List ℕ → List ℕ
