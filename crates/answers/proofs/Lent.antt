@@ -34,6 +34,13 @@ pub no-work-room : (table : List ℕ) (answerRoom workRoom : ℕ) → workRoom <
 unfolding solveRecord stopAt
 no-work-room table answerRoom workRoom l = rw (lt-ltb workRoom 16384 l, or-true (ltb answerRoom 24576)) refl
 
+-- 24,576 numbers are enough for the rows of an accepted table.
+pub few-numbers : (table : List ℕ) → firstFault table ≡ Accepted → length (answerNumbers (solvedRows (rowsOf table))) ≤ 24576
+unfolding solvedRows
+few-numbers table accepted =
+    let small : bitsOf (rowsOf table) ≤ 4096 = rw (take-length (rowsOf table)) at (totals-small (rowsOf table) (length (rowsOf table)) (accepted-table table accepted .sound) .1) in
+    omega (arith, numbers-length (solvedRows (rowsOf table)), rows-few (bitsOf (rowsOf table)) (variableWidths (rowsOf table)) (equalUnder (bitsOf (rowsOf table)) (satisfies (rowsOf table))))
+
 module _ (table : List ℕ) (accepted : firstFault table ≡ Accepted) (old work : List ℕ) (room : 24576 ≤ length old) (memory : 16384 ≤ length work) where
   -- A call with room is refused only for a fault of its table.
   pub call-record : solveRecord table (length old) (length work) ≡ answerRecord (rowsOf table)
@@ -45,12 +52,6 @@ module _ (table : List ℕ) (accepted : firstFault table ≡ Accepted) (old work
   unfolding workAfter
   call-work = rw (call-record, lt-ltb (answerRecord (rowsOf table) .outcome) 3 (omega (arith, demand-3 table accepted .one-of-three))) refl
 
-  few-numbers : length (answerNumbers (solvedRows (rowsOf table))) ≤ length old
-  unfolding solvedRows
-  few-numbers =
-      let small : bitsOf (rowsOf table) ≤ 4096 = rw (take-length (rowsOf table)) at (totals-small (rowsOf table) (length (rowsOf table)) (accepted-table table accepted .sound) .1) in
-      omega (arith, numbers-length (solvedRows (rowsOf table)), rows-few (bitsOf (rowsOf table)) (variableWidths (rowsOf table)) (equalUnder (bitsOf (rowsOf table)) (satisfies (rowsOf table))))
-
   -- For outcome 2 the answer table begins with the answer's rows, and as many as the record's pieces.
   pub call-answer : answerRecord (rowsOf table) .outcome ≡ 2
       → take (answerRecord (rowsOf table) .pieces * 6) (answerAfter table old (length work)) ≡ answerNumbers (solvedRows (rowsOf table))
@@ -59,7 +60,7 @@ module _ (table : List ℕ) (accepted : firstFault table ≡ Accepted) (old work
       let count : answerRecord (rowsOf table) .pieces * 6 ≡ length (answerNumbers (solvedRows (rowsOf table))) =
       ap (λ (n : ℕ). n * 6) (demand-3 table accepted .solved-pieces e) ∙ sym (numbers-length (solvedRows (rowsOf table))) in
       rw (call-record, e)
-      (ap (λ (l : List ℕ). take (answerRecord (rowsOf table) .pieces * 6) l) (overwrite-fits (answerNumbers (solvedRows (rowsOf table))) old few-numbers)
+      (ap (λ (l : List ℕ). take (answerRecord (rowsOf table) .pieces * 6) l) (overwrite-fits (answerNumbers (solvedRows (rowsOf table))) old (omega (arith, few-numbers table accepted)))
       ∙ take-at (answerNumbers (solvedRows (rowsOf table))) (drop (length (answerNumbers (solvedRows (rowsOf table)))) old) (answerRecord (rowsOf table) .pieces * 6) (sym count))
 
 -- A solve with room ends with outcome 0, 1 or 2 exactly if the table is accepted.

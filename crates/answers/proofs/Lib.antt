@@ -25,5 +25,6 @@ pub mod Lent
 pub mod RowSides
 pub mod OurSystem
 pub mod AnswerNumbers
+pub mod Homes
 pub mod RightSide
 pub mod Runs

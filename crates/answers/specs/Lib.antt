@@ -5,5 +5,6 @@ pub mod RightSide
 pub mod Systems
 pub mod Filled
 pub mod Demands
+pub mod Homes
 pub mod Representatives
 pub mod inner
