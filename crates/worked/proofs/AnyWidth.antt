@@ -25,7 +25,7 @@ use Rattle.forms.proofs.Theorems.{cut-and-joined}
 use Rattle.answers.specs.Answer.{variableWidths}
 use Rattle.answers.specs.Pairs.{ties, pairsOf, pairsIn}
 use Rattle.answers.specs.Solve.{valid, unsatisfiable, unsatRow, satisfiesTo, tiesTo, pairsTogether, alwaysRecord, neverRecord, answerRecord}
-use Rattle.worked.specs.Cases.{Solved, Refused, Form, Holds, row, times, figures}
+use Rattle.worked.specs.Cases.{Solved, Refused, Form, Holds, row, piece, times, figures}
 use Rattle.worked.proofs.Holding.{met-by-all, solved-case, refused-case, form-case}
 use Rattle.worked.proofs.OneWord.{all-alike, zeros-alone, alike-alone}
 
@@ -104,7 +104,7 @@ module _ (w : ℕ) (one : 1 ≤ w) (most : w ≤ 1024) where
       ∙ ap (λ (word : List ℕ). sameWord (evened word (replicate w 0)) (evened (replicate w 0) word)) (take-all w p (omega (arith, e)))
       ∙ same-even p (replicate w 0) (e ∙ sym (length-replicate w 0))
 
-  pub filled-any : Holds (Solved (filled w) (figures 2 1 0 0 w 0) (row 0 0 w 0) 1)
+  pub filled-any : Holds (Solved (filled w) (figures 2 1 0 0 w 0) (piece 0 0 w 0 0 (w - 1)) 1)
   unfolding satisfiesComputed variableWidths
   filled-any =
       zeros-alone (filled w) w one filled-accepted bits-are refl
@@ -154,7 +154,7 @@ module _ (w : ℕ) (one : 1 ≤ w) (most : w ≤ 1024) where
             ∙ extract-bit p (w - 1) 1 i (omega arith) (omega arith)
             ∙ ap (λ (j : ℕ). getD p j 0) a
 
-    pub chained-any : Holds (Solved (chained w) (figures 2 w 1 1 (w - 1) 0) (times w (row 0 2 1 0)) 2)
+    pub chained-any : Holds (Solved (chained w) (figures 2 w 1 1 (w - 1) 0) (times w (piece 0 2 1 0 0 (w - 1))) 2)
     unfolding satisfiesComputed variableWidths
     chained-any =
         alike-alone (chained w) w one chained-accepted bits-are refl two

@@ -1,7 +1,7 @@
 -- Document 01's cases hold at every width; its own cases 1, 2 and 5 are instances. Assumes nothing.
 use mathlib.Core.List.{[], _++_}
 use native.Mathlib.Omega.{arith}
-use Rattle.worked.specs.Cases.{Solved, Holds, row, figures}
+use Rattle.worked.specs.Cases.{Solved, Holds, row, piece, figures}
 use Rattle.worked.specs.EveryWidth.{AtEveryWidth}
 use Rattle.worked.proofs.AnyWidth.{itself-any, fills-any, variable-any, variable-refused-any, filled-any, chained-any, cut-any, cut-refused-any, joined-any}
 use Rattle.worked.proofs.WidthBounds.{fill-any, fill-refused-any, join-any, join-refused-any}
@@ -33,7 +33,7 @@ every-width =
 pub case-1-instance : Holds (Solved
     (row 0 8 0 0 ++ row 3 0 6 3 ++ row 3 0 4 1 ++ row 4 1 2 0)
     (figures 2 5 3 4 4 0)
-    (row 0 2 1 0 ++ row 0 2 2 1 ++ row 0 2 2 1 ++ row 0 2 2 1 ++ row 0 2 1 2)
+    (piece 0 2 1 0 0 7 ++ piece 0 2 2 1 0 6 ++ piece 0 2 2 1 0 6 ++ piece 0 2 2 1 0 6 ++ piece 0 2 1 2 0 0)
     16)
 case-1-instance = every-width .case-1 3 (omega arith) (omega arith)
 
@@ -41,7 +41,8 @@ case-1-instance = every-width .case-1 3 (omega arith) (omega arith)
 pub case-2-instance : Holds (Solved
     (row 0 9 0 0 ++ row 3 0 7 3 ++ row 3 0 5 1 ++ row 4 1 2 0)
     (figures 2 9 4 4 5 0)
-    (row 0 2 1 0 ++ row 0 2 1 1 ++ row 0 2 1 2 ++ row 0 2 1 1 ++ row 0 2 1 2 ++ row 0 2 1 1 ++ row 0 2 1 2 ++ row 0 2 1 1 ++ row 0 2 1 3)
+    (piece 0 2 1 0 0 8 ++ piece 0 2 1 1 0 7 ++ piece 0 2 1 2 0 6 ++ piece 0 2 1 1 0 7 ++ piece 0 2 1 2 0 6 ++ piece 0 2 1 1 0 7 ++ piece 0 2 1 2 0 6
+    ++ piece 0 2 1 1 0 7 ++ piece 0 2 1 3 0 0)
     16)
 case-2-instance = every-width .case-2 4 (omega arith) (omega arith)
 

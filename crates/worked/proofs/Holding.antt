@@ -97,7 +97,7 @@ module _ (table : List ℕ) where
     refused-case h is = (
       λ old work room memory.
           let r : solveRecord table (length old) (length work) ≡ found =
-          rw (le-ltb (length old) 16384 room, le-ltb (length work) 16384 memory, h) is in
+          rw (le-ltb (length old) 24576 room, le-ltb (length work) 16384 memory, h) is in
           (r, rw (r, not-2) refl),
       λ r pattern room. rw h is,
       λ r room. rw h is,

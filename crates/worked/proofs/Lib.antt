@@ -2,6 +2,7 @@ pub mod Holding
 pub mod ByClasses
 pub mod Program
 pub mod WorkedOut
+pub mod PieceNumbers
 pub mod OneWord
 pub mod AnyWidth
 pub mod WidthBounds
@@ -9,6 +10,7 @@ pub mod NoneLeft
 pub mod Labels
 pub mod Overlaps
 pub mod OverlapRows
+pub mod OverlapNumbers
 pub mod OverlapCases
 pub mod EveryWidth
 pub mod Worked

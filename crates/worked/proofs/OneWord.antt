@@ -22,13 +22,11 @@ use Rattle.laws.specs.Lists.{distinct, below, tally, member}
 use Rattle.answers.specs.Solve.{solvedRows, answerRecord, solvedRecord}
 use Rattle.laws.proofs.Tallies.{below-at}
 use Rattle.answers.proofs.Variables.{begins-first}
-use Rattle.worked.specs.Cases.{Solved, Holds, row, times, figures}
+use Rattle.worked.specs.Cases.{Solved, Holds, piece, times, figures}
 use Rattle.worked.proofs.Holding.{every-fails, met-by-some, solved-case}
+use Rattle.worked.proofs.PieceNumbers.{rowOf, piece-numbers, fill-numbers}
 
--- a row of variable 0, and one that is put behind others
-abbrev pub rowOf : ℕ → ℕ → ℕ → AnswerRow
-rowOf kind width fresh = record { variable = 0; kind = kind; width = width; fresh = fresh }
-
+-- a row that is put behind others
 pub begun : (r : AnswerRow) (rows : List AnswerRow) → placed false r rows ≡ r ∷ rows
 unfolding placed
 begun r [] = refl
@@ -142,11 +140,6 @@ unfolding freeBits freshStart freshWidth
 one-free zero h = absurd (omega arith)
 one-free (suc n) h = rw (one-fresh (suc n) h) refl
 
-piece-numbers : (n : ℕ) → answerNumbers (replicate n (rowOf 2 1 0)) ≡ times n (row 0 2 1 0)
-unfolding answerNumbers
-piece-numbers zero = refl
-piece-numbers (suc n) = ap (λ (l : List ℕ). row 0 2 1 0 ++ l) (piece-numbers n)
-
 -- bits that are equal in every pattern that passes a test; bits that differ in one
 pub equal-in : (n : ℕ) (test : List ℕ → Bool) (s u : ℕ)
     → ((p : List ℕ) → Assignment n p → test p ≡ true → bitOf p s ≡ bitOf p u) → equalUnder n test s u ≡ true
@@ -191,13 +184,13 @@ module _ (table : List ℕ) (w : ℕ) (least : 1 ≤ w) (accepted : firstFault t
 
   -- Only the pattern of zeros meets it: one fill.
   pub zeros-alone : ((p : List ℕ) → Assignment w p → satisfies (rowsOf table) p ≡ true → (i : ℕ) → i < w → getD p i 0 ≡ 0)
-      → satisfies (rowsOf table) (replicate w 0) ≡ true → Holds (Solved table (figures 2 1 0 0 w 0) (row 0 0 w 0) 1)
-  unfolding bitOf answerNumbers freshPieces freshNumbers distinct freeBits freshStart
+      → satisfies (rowsOf table) (replicate w 0) ≡ true → Holds (Solved table (figures 2 1 0 0 w 0) (piece 0 0 w 0 0 (w - 1)) 1)
+  unfolding bitOf freshPieces freshNumbers distinct freeBits freshStart
   zeros-alone only met =
       solved-case table (figures 2 1 0 0 w 0) accepted
       (record-is (rowOf 0 w 0 ∷ []) rows (replicate w 0) (replicate w 1) (alike w 0 (omega arith)) (alike w 1 (omega arith)) met other
       ∙ ap (λ (n : ℕ). figures 2 1 0 0 n 0) none-free)
-      (row 0 0 w 0) (ap answerNumbers rows)
+      (piece 0 0 w 0 0 (w - 1)) (ap answerNumbers rows ∙ fill-numbers w)
     where
       none-free : w - 0 ≡ w
       none-free = omega arith
@@ -216,14 +209,14 @@ module _ (table : List ℕ) (w : ℕ) (least : 1 ≤ w) (accepted : firstFault t
   -- The patterns whose bits are all alike meet it, and no other: one fresh piece of width 1, for each bit.
   pub alike-alone : 2 ≤ w → ((p : List ℕ) → Assignment w p → satisfies (rowsOf table) p ≡ true → (i : ℕ) → i < w → getD p i 0 ≡ getD p 0 0)
       → ((b : ℕ) → b ≤ 1 → satisfies (rowsOf table) (replicate w b) ≡ true)
-      → Holds (Solved table (figures 2 w 1 1 (w - 1) 0) (times w (row 0 2 1 0)) 2)
+      → Holds (Solved table (figures 2 w 1 1 (w - 1) 0) (times w (piece 0 2 1 0 0 (w - 1))) 2)
   unfolding bitOf
   alike-alone more only met =
       solved-case table (figures 2 w 1 1 (w - 1) 0) accepted
       (record-is (replicate w (rowOf 2 1 0)) rows
       (replicate w 0) (0 ∷ replicate (w - 1) 1) (alike w 0 (omega arith)) mixed (met 0 (omega arith)) other
       ∙ rw (length-replicate w (rowOf 2 1 0), one-fresh w least, one-free w least) refl)
-      (times w (row 0 2 1 0)) (ap answerNumbers rows ∙ piece-numbers w)
+      (times w (piece 0 2 1 0 0 (w - 1))) (ap answerNumbers rows ∙ piece-numbers w)
     where
       rows : solvedRows (rowsOf table) ≡ replicate w (rowOf 2 1 0)
       rows =

@@ -21,12 +21,14 @@ use Rattle.answers.specs.declared.AnswerRow.{AnswerRow}
 use Rattle.answers.specs.Answer.{variableWidths, answerRows, answerNumbers, freshNumbers, freshPieces, freshWidth, freshStart, freeBits, tied, fixedTo}
 use Rattle.answers.specs.Pairs.{equalUnder}
 use Rattle.answers.specs.Solve.{solvedRows}
-use Rattle.worked.specs.Cases.{Solved, Holds, row, times, figures}
+use Rattle.worked.specs.Cases.{Solved, Holds, row, piece, times, figures}
 use Rattle.worked.specs.EveryWidth.{case1, case2}
 use Rattle.worked.proofs.Holding.{solved-case}
-use Rattle.worked.proofs.OneWord.{rowOf, rows-are, record-is, false-of}
+use Rattle.worked.proofs.PieceNumbers.{rowOf}
+use Rattle.worked.proofs.OneWord.{rows-are, record-is, false-of}
 use Rattle.worked.proofs.Labels.{labelled, mark, labelled-bits, label-ties, label-open-0, label-open-1}
 use Rattle.worked.proofs.Overlaps.{overlapped, label, label-odd, overlapped-accepted, label-alike, label-meets}
+use Rattle.worked.proofs.OverlapNumbers.{even-numbers, odd-numbers}
 use Rattle.worked.proofs.OverlapRows.{copies, oddRows, evenRows, odd-rows, even-rows}
 
 -- The rows behind the first of an even width, and their figures.
@@ -36,11 +38,6 @@ evenRest k = copies k (rowOf 2 2 1 ∷ []) (rowOf 2 1 2 ∷ [])
 even-length : (k : ℕ) → length (evenRest k) ≡ suc k
 even-length zero = refl
 even-length (suc k) = ap suc (even-length k)
-
-even-numbers : (k : ℕ) → answerNumbers (evenRest k) ≡ times k (row 0 2 2 1) ++ row 0 2 1 2
-unfolding answerNumbers
-even-numbers zero = refl
-even-numbers (suc k) = ap (λ (l : List ℕ). row 0 2 2 1 ++ l) (even-numbers k)
 
 even-others : (k : ℕ) → member 0 (freshNumbers (evenRest k)) ≡ false
 unfolding freshNumbers member
@@ -74,11 +71,6 @@ oddRest k = copies k (rowOf 2 1 1 ∷ rowOf 2 1 2 ∷ []) (rowOf 2 1 1 ∷ rowOf
 odd-length : (k : ℕ) → length (oddRest k) ≡ 2 * k + 2
 odd-length zero = refl
 odd-length (suc k) = omega (arith, odd-length k)
-
-odd-numbers : (k : ℕ) → answerNumbers (oddRest k) ≡ times k (row 0 2 1 1 ++ row 0 2 1 2) ++ row 0 2 1 1 ++ row 0 2 1 3
-unfolding answerNumbers
-odd-numbers zero = refl
-odd-numbers (suc k) = ap (λ (l : List ℕ). row 0 2 1 1 ++ row 0 2 1 2 ++ l) (odd-numbers k)
 
 odd-others : (k : ℕ) → member 0 (freshNumbers (oddRest k)) ≡ false
 unfolding freshNumbers member
@@ -185,18 +177,27 @@ module _ (w : ℕ) (five : 5 ≤ w) (most : w ≤ 1024) where
 
 -- Case 1.
 pub even-any : (m : ℕ) → 2 ≤ m → 2 * m + 2 ≤ 1024 → Holds (case1 m)
-unfolding answerNumbers
 even-any m l most =
     holds (2 * m + 2) (omega arith) most (evenRows m) (even-are (2 * m + 2) (omega arith) most m refl) (even-free m (omega arith))
-    (2 * m) (2 * m - 2) (m + 2) 3 (row 0 2 1 0 ++ times m (row 0 2 2 1) ++ row 0 2 1 2)
-    (omega arith) (omega arith) (omega (arith, even-length m)) (even-fresh m (omega arith))
-    (ap (λ (l : List ℕ). row 0 2 1 0 ++ l) (even-numbers m))
+    (2 * m) (2 * m - 2) (m + 2) 3 (piece 0 2 1 0 0 (2 * m + 1) ++ times m (piece 0 2 2 1 0 (2 * m)) ++ piece 0 2 1 2 0 0)
+    (omega arith) (omega arith) (omega (arith, even-length m)) (even-fresh m (omega arith)) (even-numbers m (omega arith))
 
 -- Case 2.
 pub odd-any : (m : ℕ) → 2 ≤ m → 2 * m + 1 ≤ 1024 → Holds (case2 m)
-unfolding answerNumbers
 odd-any m l most =
     holds (2 * m + 1) (omega arith) most (oddRows (m - 1)) (odd-are (2 * m + 1) (omega arith) most (m - 1) (omega arith)) (odd-free (m - 1) (omega arith))
-    (2 * m - 1) (2 * m - 3) (2 * m + 1) 4 (row 0 2 1 0 ++ times (m - 1) (row 0 2 1 1 ++ row 0 2 1 2) ++ row 0 2 1 1 ++ row 0 2 1 3)
+    (2 * m - 1) (2 * m - 3) (2 * m + 1) 4 (numbers (2 * m) (2 * m - 1) (2 * m - 2))
     (omega arith) (omega arith) (omega (arith, odd-length (m - 1))) (odd-fresh (m - 1) (omega arith))
-    (ap (λ (l : List ℕ). row 0 2 1 0 ++ l) (odd-numbers (m - 1)))
+    (rw (first, second, third) at (odd-numbers (m - 1) (omega arith)))
+  where
+    numbers : ℕ → ℕ → ℕ → List ℕ
+    numbers a b c = piece 0 2 1 0 0 a ++ times (m - 1) (piece 0 2 1 1 0 b ++ piece 0 2 1 2 0 c) ++ piece 0 2 1 1 0 b ++ piece 0 2 1 3 0 0
+
+    first : 2 * (m - 1) + 2 ≡ 2 * m
+    first = omega arith
+
+    second : 2 * (m - 1) + 1 ≡ 2 * m - 1
+    second = omega arith
+
+    third : 2 * (m - 1) ≡ 2 * m - 2
+    third = omega arith

@@ -15,7 +15,8 @@ use Rattle.laws.proofs.Numbers.{dec-eq}
 use Rattle.laws.proofs.Tallies.{below-of, tally-none, tally-apart}
 use Rattle.answers.specs.declared.AnswerRow.{AnswerRow}
 use Rattle.answers.specs.Answer.{begins, implies, tied, fixedTo, contiguous, fixedAlike, goesOn, lowest, appears, placeRow, widened, placed, rowsTo, answerRows}
-use Rattle.worked.proofs.OneWord.{rowOf, begun, inside, variable-0, below-fails}
+use Rattle.worked.proofs.PieceNumbers.{rowOf}
+use Rattle.worked.proofs.OneWord.{begun, inside, variable-0, below-fails}
 use Rattle.worked.proofs.Overlaps.{label, home, Stands, first, last, between, label-first, label-last, label-between, label-odd, label-even, stands, home-least, home-label}
 
 -- Rows that stand k times before others.

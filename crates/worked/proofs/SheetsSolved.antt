@@ -25,7 +25,7 @@ use Rattle.answers.proofs.Lent.{call-record, call-answer, call-work}
 use Rattle.worked.specs.FromSheet.{tableRead, SheetSolved}
 
 pub sheet-solved : (text : List ℕ) (rows : List Row) → SheetOf text rows → firstFault (rowNumbers rows) ≡ Accepted
-    → (table answer work : List ℕ) → 2048 ≤ length table → 16384 ≤ length answer → 16384 ≤ length work
+    → (table answer work : List ℕ) → 2048 ≤ length table → 24576 ≤ length answer → 16384 ≤ length work
     → SheetSolved text rows table answer work
 sheet-solved text rows sheet accepted table answer work lines room memory =
     record {

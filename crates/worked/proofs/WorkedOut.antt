@@ -19,10 +19,10 @@ use Rattle.sheets.specs.Text.{digitOf, hexDigitOf, moreDigits, afterZero, decim
 use Rattle.sheets.specs.Sheet.{foundFrom, rowsFrom, sheetFound, sheetRows}
 use Rattle.sheets.specs.Call.{sheetRecord, tableAfter}
 use Rattle.sheets.specs.Writing.{digits}
-use Rattle.sheets.specs.Print.{field, recordValues, recordText, answerValues, rowLines, answerLines, answerText}
+use Rattle.sheets.specs.Print.{field, recordValues, recordText, answerValues, answerLines, answerText}
 use Rattle.answers.specs.Pairs.{paired, pairsOf, pairsIn}
 use Rattle.answers.specs.inner.Classes.{inClass, relabel, merge, run, classesOf, links, conflictAt, linksBefore}
-use Rattle.answers.specs.Answer.{variableWidths, begins, variableAt, contiguous, fixedAlike, goesOn, lowest, appears, placeRow, rowsTo, answerRows, answerNumbers, answerRowsOf, freshNumbers, freshPieces, freshWidth, freshStart, freeBits}
+use Rattle.answers.specs.Answer.{variableWidths, begins, variableAt, contiguous, fixedAlike, goesOn, lowest, appears, placeRow, rowsTo, answerRows, freshNumbers, freshPieces, freshWidth, freshStart, freeBits, widthIn, highBit, homeRow, numbersFrom, answerNumbers}
 use Rattle.answers.specs.Answer as answer
 use Rattle.answers.specs.Solve.{pairsTogether}
 use Rattle.worked.specs.Cases.{Case, Solved, Refused, Form, Sheet, Printed, Holds, AllHold, _and_}
@@ -102,7 +102,7 @@ _tested_ {c} test hold = subst Holds test (out-holds c) and hold
 
 -- Whoever unfolds one of these unfolds all that its value is computed from: a table's record and answer, with its rules;
 unfoldable pub tableComputed : List ℕ → Case
-unfolding faultComputed satisfiesComputed extract evened sourcesOf countUp paired pairsOf pairsIn pairsTogether relabel merge run classesOf links conflictAt linksBefore inClass least below tally member distinct variableWidths begins variableAt contiguous fixedAlike goesOn lowest appears placeRow answer.placed rowsTo answerRows answerNumbers freshNumbers freshPieces freshWidth freshStart freeBits conflictRow linksTo classRows classRecord classAnswer tableOut
+unfolding faultComputed satisfiesComputed extract evened sourcesOf countUp paired pairsOf pairsIn pairsTogether relabel merge run classesOf links conflictAt linksBefore inClass least below tally member distinct variableWidths begins variableAt contiguous fixedAlike goesOn lowest appears placeRow answer.placed rowsTo answerRows widthIn highBit homeRow answer.rowNumbers numbersFrom answerNumbers freshNumbers freshPieces freshWidth freshStart freeBits conflictRow linksTo classRows classRecord classAnswer tableOut
 tableComputed table = tableOut table
 
 -- a row's normal form;
@@ -117,7 +117,7 @@ sheetComputed text = sheetOut text
 
 -- what is printed;
 unfoldable pub printComputed : List ℕ → Case
-unfolding tableComputed sheetComputed digits field recordValues recordText answerValues rowLines answerRowsOf answerLines answerText answerPrint tablePrint textPrint printOut
+unfolding tableComputed sheetComputed digits field recordValues recordText answerValues answerLines answerText answerPrint tablePrint textPrint printOut
 printComputed text = printOut text
 
 -- a case.

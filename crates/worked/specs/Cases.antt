@@ -30,10 +30,10 @@ pub data Case : Type 0 where
   Printed : List ℕ → List ℕ → Case
 
 -- A solve of the table gives the record and leaves the answer at the beginning of the answer table lent; what follows keeps its content.
--- So it is whatever is lent, with room for 16,384 numbers in both.
+-- So it is whatever is lent, with room for 24,576 numbers in the answer table and for 16,384 in the work area.
 abbrev pub Solves : List ℕ → Record → List ℕ → Type 0
 Solves table found answer =
-    (old work : List ℕ) → 16384 ≤ length old → 16384 ≤ length work
+    (old work : List ℕ) → 24576 ≤ length old → 16384 ≤ length work
     → (solveRecord table (length old) (length work) ≡ found) × (answerAfter table old (length work) ≡ overwrite answer old)
 
 -- What it means that a case holds. A refused table is refused by each call that takes one. A normal form, or a table that is read, stands
@@ -57,9 +57,13 @@ pub data AllHold : List Case → Type 0 where
   nothing : AllHold []
   _and_ : {c : Case} {cs : List Case} → Holds c → AllHold cs → AllHold (c ∷ cs)
 
--- How the cases are written: a row of four numbers; numbers written n times; a record; a line of text as bytes, with byte 10 at its end.
+-- How the cases are written: a row of four numbers; a row of the answer table; numbers written n times; a record; a line of text as
+-- bytes, with byte 10 at its end.
 abbrev pub row : ℕ → ℕ → ℕ → ℕ → List ℕ
 row a b c d = a ∷ b ∷ c ∷ d ∷ []
+
+abbrev pub piece : ℕ → ℕ → ℕ → ℕ → ℕ → ℕ → List ℕ
+piece variable kind width fresh home high = variable ∷ kind ∷ width ∷ fresh ∷ home ∷ high ∷ []
 
 abbrev pub times : ℕ → List ℕ → List ℕ
 times zero numbers = []
@@ -84,17 +88,19 @@ cases =
     ∷ Solved
     (row 0 8 0 0 ++ row 3 0 6 3 ++ row 3 0 4 1 ++ row 4 1 2 0)
     (figures 2 5 3 4 4 0)
-    (row 0 2 1 0 ++ row 0 2 2 1 ++ row 0 2 2 1 ++ row 0 2 2 1 ++ row 0 2 1 2)
+    (piece 0 2 1 0 0 7 ++ piece 0 2 2 1 0 6 ++ piece 0 2 2 1 0 6 ++ piece 0 2 2 1 0 6 ++ piece 0 2 1 2 0 0)
     16
     ∷ Printed
     (line "kind a b c" ++ line "0 8 0 0" ++ line "3 0 6 3" ++ line "3 0 4 1" ++ line "4 1 2 0")
     (line "outcome pieces fresh free ties row" ++ line "2 5 3 4 4 0"
-    ++ line "variable kind width fresh" ++ line "0 2 1 0" ++ line "0 2 2 1" ++ line "0 2 2 1" ++ line "0 2 2 1" ++ line "0 2 1 2")
+    ++ line "variable kind width fresh home high"
+    ++ line "0 2 1 0 0 7" ++ line "0 2 2 1 0 6" ++ line "0 2 2 1 0 6" ++ line "0 2 2 1 0 6" ++ line "0 2 1 2 0 0")
     -- 2. Variable of 9, bits 7 to 3 equal to 5 to 1: 9 pieces, widths all 1, fresh 4, free 4, ties 5.
     ∷ Solved
     (row 0 9 0 0 ++ row 3 0 7 3 ++ row 3 0 5 1 ++ row 4 1 2 0)
     (figures 2 9 4 4 5 0)
-    (row 0 2 1 0 ++ row 0 2 1 1 ++ row 0 2 1 2 ++ row 0 2 1 1 ++ row 0 2 1 2 ++ row 0 2 1 1 ++ row 0 2 1 2 ++ row 0 2 1 1 ++ row 0 2 1 3)
+    (piece 0 2 1 0 0 8 ++ piece 0 2 1 1 0 7 ++ piece 0 2 1 2 0 6 ++ piece 0 2 1 1 0 7 ++ piece 0 2 1 2 0 6 ++ piece 0 2 1 1 0 7 ++ piece 0 2 1 2 0 6
+    ++ piece 0 2 1 1 0 7 ++ piece 0 2 1 3 0 0)
     16
     -- 3. Variable of 4, equal to itself: always, free 4.
     ∷ Solved (row 0 4 0 0 ++ row 4 0 0 0) (figures 0 0 0 4 0 0) [] 16
@@ -110,11 +116,11 @@ cases =
     ∷ Solved [] (figures 0 0 0 0 0 0) [] 1
     -- 7. Width 1,024 accepted; 1,025 refused 15. Accepted: the variable alone, equal to a fill, and with each bit equal to the next.
     ∷ Solved (row 0 1024 0 0) (figures 0 0 0 1024 0 0) [] (2 ^ 1024)
-    ∷ Solved (row 0 1024 0 0 ++ row 1 0 1024 0 ++ row 4 0 1 0) (figures 2 1 0 0 1024 0) (row 0 0 1024 0) 1
+    ∷ Solved (row 0 1024 0 0 ++ row 1 0 1024 0 ++ row 4 0 1 0) (figures 2 1 0 0 1024 0) (piece 0 0 1024 0 0 1023) 1
     ∷ Solved
     (row 0 1024 0 0 ++ row 3 0 1023 1 ++ row 3 0 1022 0 ++ row 4 1 2 0)
     (figures 2 1024 1 1 1023 0)
-    (times 1024 (row 0 2 1 0))
+    (times 1024 (piece 0 2 1 0 0 1023))
     2
     ∷ Refused (row 0 1025 0 0) (figures 15 0 0 0 0 0)
     -- 8. Cut of a word of 8 at 7 to 0 accepted; at 8 to 0 refused 16.

@@ -4,7 +4,7 @@ use mathlib.Core.Path.{_≡_}
 use mathlib.Core.List.{[], _++_}
 use mathlib.Core.Logic.{_⊎_}
 use Prim.Native.Nat.{ℕ, _+_, _-_, _*_, _^_, _≤_, _<_}
-use Rattle.worked.specs.Cases.{Case, Solved, Refused, Form, Holds, row, times, figures}
+use Rattle.worked.specs.Cases.{Case, Solved, Refused, Form, Holds, row, piece, times, figures}
 
 -- 1. Variable of 2 m + 2, bits 2 m to 3 equal to 2 m - 2 to 1: m + 2 pieces, a two-bit piece m times between single bits,
 -- fresh 3, free 4, ties 2 m - 2.
@@ -13,7 +13,7 @@ case1 m =
     Solved
     (row 0 (2 * m + 2) 0 0 ++ row 3 0 (2 * m) 3 ++ row 3 0 (2 * m - 2) 1 ++ row 4 1 2 0)
     (figures 2 (m + 2) 3 4 (2 * m - 2) 0)
-    (row 0 2 1 0 ++ times m (row 0 2 2 1) ++ row 0 2 1 2)
+    (piece 0 2 1 0 0 (2 * m + 1) ++ times m (piece 0 2 2 1 0 (2 * m)) ++ piece 0 2 1 2 0 0)
     16
 
 -- 2. Variable of 2 m + 1, bits 2 m - 1 to 3 equal to 2 m - 3 to 1: 2 m + 1 pieces, widths all 1, fresh 4, free 4, ties 2 m - 3.
@@ -22,7 +22,8 @@ case2 m =
     Solved
     (row 0 (2 * m + 1) 0 0 ++ row 3 0 (2 * m - 1) 3 ++ row 3 0 (2 * m - 3) 1 ++ row 4 1 2 0)
     (figures 2 (2 * m + 1) 4 4 (2 * m - 3) 0)
-    (row 0 2 1 0 ++ times (m - 1) (row 0 2 1 1 ++ row 0 2 1 2) ++ row 0 2 1 1 ++ row 0 2 1 3)
+    (piece 0 2 1 0 0 (2 * m) ++ times (m - 1) (piece 0 2 1 1 0 (2 * m - 1) ++ piece 0 2 1 2 0 (2 * m - 2))
+    ++ piece 0 2 1 1 0 (2 * m - 1) ++ piece 0 2 1 3 0 0)
     16
 
 -- 5. Words u = v, v = 0, u = 1 of w bits in rows 4, 5, 6 after u, v and both fills: never, row 6, ties 2 w.
@@ -59,12 +60,12 @@ pub record AtEveryWidth : Type 0 where
       → Holds (Refused (row 0 v 0 0 ++ row 0 w 0 0 ++ row 2 0 1 0) (figures 15 0 0 0 0 2))
   -- The variable equal to a fill, and with each bit equal to the next.
   pub filled : (w : ℕ) → 1 ≤ w → w ≤ 1024
-      → Holds (Solved (row 0 w 0 0 ++ row 1 0 w 0 ++ row 4 0 1 0) (figures 2 1 0 0 w 0) (row 0 0 w 0) 1)
+      → Holds (Solved (row 0 w 0 0 ++ row 1 0 w 0 ++ row 4 0 1 0) (figures 2 1 0 0 w 0) (piece 0 0 w 0 0 (w - 1)) 1)
   pub chained : (w : ℕ) → 2 ≤ w → w ≤ 1024
       → Holds (Solved
       (row 0 w 0 0 ++ row 3 0 (w - 1) 1 ++ row 3 0 (w - 2) 0 ++ row 4 1 2 0)
       (figures 2 w 1 1 (w - 1) 0)
-      (times w (row 0 2 1 0))
+      (times w (piece 0 2 1 0 0 (w - 1)))
       2)
   -- 8. Cut of a word of w at b to c: accepted, or refused 16. Document 01 has w = 8, b = 7 and 8, c = 0.
   pub cut : (w b c : ℕ) → w ≤ 1024 → c ≤ b → b < w → Holds (Solved (row 0 w 0 0 ++ row 3 0 b c) (figures 0 0 0 w 0 0) [] (2 ^ w))

@@ -33,7 +33,7 @@ pub record SheetSolved (text : List ℕ) (rows : List Row) (table answer work : 
   pub answer-after : answerAfter (tableRead text table) answer (length work)
       ≡ cond (eqb (answerRecord rows .outcome) 2) (overwrite (answerNumbers (solvedRows rows)) answer) answer
   pub answer-rows : answerRecord rows .outcome ≡ 2
-      → take (answerRecord rows .pieces * 4) (answerAfter (tableRead text table) answer (length work)) ≡ answerNumbers (solvedRows rows)
+      → take (answerRecord rows .pieces * 6) (answerAfter (tableRead text table) answer (length work)) ≡ answerNumbers (solvedRows rows)
   pub work-after : workAfter (tableRead text table) (length answer) work ≡ replicate (length work) 0
   -- demands 2 and 3
   pub has-2 : answerRecord rows .outcome ≡ 2 → Demand2 rows
