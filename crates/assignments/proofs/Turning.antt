@@ -88,7 +88,7 @@ number-here k r xs h = go (isFresh r) (eqb k (r .fresh)) refl refl (sym (has-mor
     go false b e d q = inr q
 
 -- the row before
-variable-after : (xs : List AnswerRow) (s r : AnswerRow)
+pub variable-after : (xs : List AnswerRow) (s r : AnswerRow)
     → variableFine (xs ++ (s ∷ [])) r ≡ (eqb (r .variable) (s .variable) || eqb (r .variable) (suc (s .variable))) && ltb (r .variable) 64
 unfolding variableFine
 variable-after [] s r = refl
