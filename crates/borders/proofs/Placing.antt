@@ -15,7 +15,8 @@ use Rattle.laws.proofs.Bools.{not-both, one-most}
 use Rattle.answers.specs.Pairs.{Pair}
 use Rattle.answers.specs.inner.Classes.{rep, inClass}
 use Rattle.laws.specs.Lists.{tally}
-use Rattle.answers.specs.Answer.{begins, variableAt, fixedTo, unfixed, goesOn, lowest, appears, placeRow, widened, placed, rowsTo, answerRows, answerNumbers}
+use Rattle.answers.specs.Answer.{begins, variableAt, fixedTo, unfixed, goesOn, lowest, appears, placeRow, widened, placed, rowsTo, answerRows}
+use Rattle.answers.specs.inner.FourNumbers.{fourNumbers}
 use Rattle.answers.specs.declared.AnswerRow.{AnswerRow}
 use Rattle.laws.proofs.Bools.{same-test}
 use Rattle.laws.proofs.Numbers.{dec-eq}
@@ -43,19 +44,19 @@ pub record Going (n : ℕ) (ws c numbers old answer : List ℕ) (p : Progress) (
   pub rest : List AnswerRow
   pub none : i ≡ 0 → rest ≡ []
   pub last : 0 < i → rowsTo n ws (inClass c) i ≡ rowOf p ∷ rest
-  pub written : answer ≡ overwrite (answerNumbers (reverse rest)) old
+  pub written : answer ≡ overwrite (fourNumbers (reverse rest)) old
   pub narrow : p .width ≤ i
 
 -- with the last row written, the buffer has all of them
 row-ended : (n : ℕ) (ws c numbers old answer : List ℕ) (p : Progress) (i : ℕ) → Going n ws c numbers old answer p i
-    → rowWritten answer p ≡ overwrite (answerNumbers (reverse (rowsTo n ws (inClass c) i))) old
+    → rowWritten answer p ≡ overwrite (fourNumbers (reverse (rowsTo n ws (inClass c) i))) old
 unfolding rowsTo
 row-ended n ws c numbers old answer p zero k =
-    row-none answer p (k .rows) ∙ k .written ∙ ap (λ (r : List AnswerRow). overwrite (answerNumbers (reverse r)) old) (k .none refl)
+    row-none answer p (k .rows) ∙ k .written ∙ ap (λ (r : List AnswerRow). overwrite (fourNumbers (reverse r)) old) (k .none refl)
 row-ended n ws c numbers old answer p (suc i) k =
     let e = k .last (omega arith) in
     ap (λ (o : List ℕ). rowWritten o p) (k .written) ∙ row-next old p (k .rest) (k .rows ∙ ap length e)
-    ∙ ap (λ (r : List AnswerRow). overwrite (answerNumbers (reverse r)) old) (sym e)
+    ∙ ap (λ (r : List AnswerRow). overwrite (fourNumbers (reverse r)) old) (sym e)
 
 module _ (n : ℕ) (ws c : List ℕ) (seen : List Pair) (m after before : List ℕ) (B : Bordered n ws c seen m after before) (i : ℕ) (l : i < n) where
   abbrev C : ℕ → ℕ
@@ -212,7 +213,7 @@ abbrev pub noPlace : Progress
 noPlace = record { begun = 0; rows = 0; fresh = 0; variable = 0; kind = 0; width = 0; number = 0 }
 
 pub putting-first : (n : ℕ) (m c after before numbers old : List ℕ) → Putting n m c after before numbers old numbers old noPlace 0
-unfolding tally rowsTo answerNumbers overwrite
+unfolding tally rowsTo fourNumbers overwrite
 putting-first n m c after before numbers old = record {
   within = omega arith;
   numbers-len = refl;

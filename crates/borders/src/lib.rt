@@ -1,5 +1,5 @@
 // An answer's rows (document 01, "The solver's answer"), from the classes of its bits. The places where a variable begins are marked, and
-// the representatives whose places have different neighbours; then one pass over the places writes the rows.
+// the representatives whose places have different neighbours; then one pass over the places writes the rows, four numbers each.
 ghost use mathlib.Core.Path.{_≡_};
 ghost use mathlib.Core.Bool.{cond};
 ghost use Prim.Native.Nat.{suc, min, _≤_};
@@ -184,7 +184,7 @@ fn put_row(answer: &mut [u16], p: Progress)
         width: p.width,
         fresh: p.number,
     };
-    answer_table::put_row(answer, numbers::difference(p.rows, 1), row);
+    answer_table::put_four(answer, numbers::difference(p.rows, 1), row);
 }
 
 // Writes the last row, unless it goes on.

@@ -20,10 +20,14 @@ use Rattle.answers.specs.Pairs.{Pair, equationPairs}
 use Rattle.answers.specs.inner.Classes.{inClass}
 use Rattle.answers.specs.declared.AnswerRow.{AnswerRow}
 use Rattle.answers.specs.Answer.{appears, variableWidths, answerRows, answerNumbers, freshPieces, freeBits}
+use Rattle.answers.specs.inner.FourNumbers.{fourNumbers}
 use Rattle.answers.specs.Solve.{unsatisfiable, solvedRows, tiesTo, alwaysRecord, neverRecord, solvedRecord, answerRecord}
 use Rattle.answers.proofs.Tables.{tableClasses, classes-run, represent, conflict-most, apart-one, solved-rows, is-left, never-record, always-record, solved-record, all-ties, rows-few}
 use Rattle.answers.proofs.Theorems.{links-before}
 use Rattle.answers.proofs.Demands.{solved-sum, solved-appear}
+use Rattle.assignments.proofs.Theorems.{solved-form}
+use Rattle.homes.specs.inner.Homes.{Orderly, PutsHomes}
+use Rattle.homes.proofs.Forms.{orderly-written}
 use Rattle.borders.specs.inner.Rows.{RowsPut, PutsRows}
 use Rattle.borders.proofs.Answering.{bits-most}
 use Rattle.solver.specs.inner.Equations.{EquationsTaken, ClassesTaken}
@@ -84,14 +88,14 @@ module _ (table : List ℕ) (accepted : firstFault table ≡ Accepted) (links an
     pub classes-table : links ≡ tableClasses table accepted
     classes-table = F .settled whole-row ∙ sym (classes-run table accepted)
 
-    pub conclude-solved : ties ≢ 0 → (bits : ℕ) → bits ≡ n → (answer′ : List ℕ) (pieces fresh : ℕ)
-        → PutsRows table links answer answer′ pieces fresh → 16384 ≤ length answer → (r : Record)
+    pub conclude-solved : ties ≢ 0 → (bits : ℕ) → bits ≡ n → (answer₁ answer′ : List ℕ) (pieces fresh room : ℕ)
+        → PutsRows table links answer answer₁ pieces fresh → PutsHomes pieces answer₁ answer′ room → 4096 ≤ room → 24576 ≤ length answer → (r : Record)
         → r ≡ record { outcome = 2; pieces = pieces % 4294967296; fresh = fresh % 4294967296; free = (bits - ties) % 4294967296; ties = ties % 4294967296; row = 0 }
         → Answered t answer answer′ r
     unfolding answerOver
-    conclude-solved z bits w answer′ pieces fresh P room r e =
-        let put : RowsPut table (tableClasses table accepted) answer answer′ pieces fresh =
-        subst (λ (c : List ℕ). PutsRows table c answer answer′ pieces fresh) classes-table P _ accepted (represent table accepted) (apart-one table accepted some) room in
+    conclude-solved z bits w answer₁ answer′ pieces fresh room P H space long r e =
+        let put : RowsPut table (tableClasses table accepted) answer answer₁ pieces fresh =
+        subst (λ (c : List ℕ). PutsRows table c answer answer₁ pieces fresh) classes-table P _ accepted (represent table accepted) (apart-one table accepted some) (omega arith) in
         let rows : solvedRows t ≡ answerRows n (variableWidths t) (inClass (tableClasses table accepted)) = solved-rows table accepted some in
         let many : pieces ≡ length (solvedRows t) = put .pieces-are ∙ ap length (sym rows) in
         let new : fresh ≡ freshPieces (solvedRows t) = put .fresh-are ∙ sym (solved-appear table accepted some) in
@@ -99,8 +103,12 @@ module _ (table : List ℕ) (accepted : firstFault table ≡ Accepted) (links an
         let open' : bits - ties ≡ freeBits (solvedRows t) = omega (arith, solved-sum table accepted some, tied, w) in
         let a : answerRecord t ≡ solvedRecord (solvedRows t) ties =
         solved-record table accepted (sym (E .row-is) ∙ whole-row) (λ k. z (E .ties-are ∙ k)) ∙ ap (solvedRecord (solvedRows t)) (sym (E .ties-are)) in
+        let few : pieces ≤ 4096 = omega (arith, put .pieces-are, rows-few n (variableWidths t) (inClass (tableClasses table accepted)), few-bits) in
+        let written : answer₁ ≡ overwrite (fourNumbers (solvedRows t)) answer = put .answer-is ∙ ap (λ (x : List AnswerRow). overwrite (fourNumbers x) answer) (sym rows) in
+        let tidy : Orderly (solvedRows t) = orderly-written (solvedRows t) (solved-form table accepted (ap (λ (x : Record). x .outcome) a)) in
+        let homed : answer′ ≡ overwrite (answerNumbers (solvedRows t)) answer = H (solvedRows t) answer many tidy (omega arith) (omega arith) written in
         let b : r ≡ answerRecord t =
-        e ∙ same-record (kept-short pieces (omega (arith, put .pieces-are, rows-few n (variableWidths t) (inClass (tableClasses table accepted)), few-bits)) ∙ many)
+        e ∙ same-record (kept-short pieces (omega arith) ∙ many)
         (kept-short fresh (omega (arith, put .fresh-are, tally-most n (appears n (variableWidths t) (inClass (tableClasses table accepted))), few-bits)) ∙ new)
         (kept-short (bits - ties) (omega (arith, w, few-bits)) ∙ open') (kept-short ties (omega (arith, E .few))) ∙ sym a in
-        record { record-is = b; answer-is = rw a (put .answer-is ∙ ap (λ (x : List AnswerRow). overwrite (answerNumbers x) answer) (sym rows)) }
+        record { record-is = b; answer-is = rw a homed }

@@ -23,13 +23,13 @@ Ends table answer work r answer′ work′ =
     (r ≡ solveRecord table (length answer) (length work)) × ((answer′ ≡ answerAfter table answer (length work)) × (work′ ≡ workAfter table (length answer) work))
 
 -- refused for want of memory
-pub stop-answer : (table answer work : List ℕ) → length answer < 16384 → (r : Record) → r ≡ refusal 10 0 → Ends table answer work r answer work
+pub stop-answer : (table answer work : List ℕ) → length answer < 24576 → (r : Record) → r ≡ refusal 10 0 → Ends table answer work r answer work
 unfolding solveRecord stopAt answerAfter workAfter
-stop-answer table answer work l r e = rw (lt-ltb (length answer) 16384 l) (e, (refl, refl))
+stop-answer table answer work l r e = rw (lt-ltb (length answer) 24576 l) (e, (refl, refl))
 
-pub stop-work : (table answer work : List ℕ) → 16384 ≤ length answer → length work < 16384 → (r : Record) → r ≡ refusal 10 0 → Ends table answer work r answer work
+pub stop-work : (table answer work : List ℕ) → 24576 ≤ length answer → length work < 16384 → (r : Record) → r ≡ refusal 10 0 → Ends table answer work r answer work
 unfolding solveRecord stopAt answerAfter workAfter
-stop-work table answer work k l r e = rw (le-ltb (length answer) 16384 k, lt-ltb (length work) 16384 l) (e, (refl, refl))
+stop-work table answer work k l r e = rw (le-ltb (length answer) 24576 k, lt-ltb (length work) 16384 l) (e, (refl, refl))
 
 -- refused for a fault of the table
 fault-high : (f : Fault) → isAccepted f ≡ false → (eqb (faultNumber f) 2 ≡ false) × (ltb (faultNumber f) 3 ≡ false)
@@ -43,17 +43,17 @@ fault-high (Value r) h = (refl, refl)
 fault-high (Bounds r) h = (refl, refl)
 fault-high (Count r) h = (refl, refl)
 
-pub stop-fault : (table answer work : List ℕ) → 16384 ≤ length answer → 16384 ≤ length work → isAccepted (firstFault table) ≡ false
+pub stop-fault : (table answer work : List ℕ) → 24576 ≤ length answer → 16384 ≤ length work → isAccepted (firstFault table) ≡ false
     → (r : Record) → r ≡ faultRecord (firstFault table) → Ends table answer work r answer work
 unfolding solveRecord stopAt answerAfter workAfter
 stop-fault table answer work k l h r e =
     let f = fault-high (firstFault table) h in
-    rw (le-ltb (length answer) 16384 k, le-ltb (length work) 16384 l, h) (e, (rw (f .0) refl, rw (f .1) refl))
+    rw (le-ltb (length answer) 24576 k, le-ltb (length work) 16384 l, h) (e, (rw (f .0) refl, rw (f .1) refl))
 
 -- accepted
-pub stop-accepted : (table answer work : List ℕ) → 16384 ≤ length answer → 16384 ≤ length work → firstFault table ≡ Accepted
+pub stop-accepted : (table answer work : List ℕ) → 24576 ≤ length answer → 16384 ≤ length work → firstFault table ≡ Accepted
     → (r : Record) (answer′ work′ : List ℕ) → Answered (rowsOf table) answer answer′ r → work′ ≡ replicate (length work) 0 → Ends table answer work r answer′ work′
 unfolding solveRecord stopAt answerAfter workAfter answerOver
 stop-accepted table answer work k l h r answer′ work′ A e =
     let three = demand-3 table h .one-of-three in
-    rw (le-ltb (length answer) 16384 k, le-ltb (length work) 16384 l, h) (A .record-is, (A .answer-is, rw (lt-ltb (answerRecord (rowsOf table) .outcome) 3 (omega arith)) e))
+    rw (le-ltb (length answer) 24576 k, le-ltb (length work) 16384 l, h) (A .record-is, (A .answer-is, rw (lt-ltb (answerRecord (rowsOf table) .outcome) 3 (omega arith)) e))

@@ -1,6 +1,6 @@
 // The solver (document 01, "The solver's answer"). The bit pairs of each equation are read from the normal forms of its sides, where
 // these were written (crate sides); each pair joins the classes of its two bits (classes), until two different fixed bits meet; the
-// classes give the answer's rows (borders).
+// classes give the answer's rows (borders), and these their homes (homes).
 ghost use mathlib.Core.Path.{_≡_};
 ghost use mathlib.Core.Bool.{true};
 ghost use Prim.Native.Nat.{_%_, _≤_, suc};
@@ -202,16 +202,17 @@ pub fn table_classes(
     classes_many(table, widths, places, form, links)
 }
 
-// The record of the equations that were taken, and for outcome 2 the answer's rows.
+// The record of the equations that were taken, and for outcome 2 the answer's rows. The first rows of the fresh pieces are kept in `firsts`.
 fn conclude(
     table: &[u16],
     bits: usize,
     row: usize,
     ties: usize,
     links: &[u16],
+    firsts: &mut [u16],
     answer: &mut [u16],
 ) -> Record
-    ensures { λ r. ⌜ Concludes (now (table .entry)) bits row ties (now (links .entry)) (now (answer .entry)) (now (answer .exit)) r ⌝ }
+    ensures { λ r. ⌜ Concludes (now (table .entry)) bits row ties (now (links .entry)) (length (now (firsts .entry))) (now (answer .entry)) (now (answer .exit)) r ⌝ }
 {
     if row < table.len() / 4 {
         return Record {
@@ -227,6 +228,7 @@ fn conclude(
         return records::complete(0, numbers::short(bits));
     }
     let counts = borders::put_rows(table, links, answer);
+    homes::put_homes(answer, counts.pieces, firsts);
     Record {
         outcome: 2,
         pieces: numbers::short(counts.pieces),
@@ -250,7 +252,7 @@ fn answer_table(
     ensures { λ r. ⌜ (length (now (links .entry)) ≡ suc (suc bits) → AnswersTable (now (table .entry)) (now (widths .entry)) (now (places .entry)) bits (length (now (form .entry))) (now (answer .entry)) (now (answer .exit)) r) ⌝ }
 {
     let taken = table_classes(table, widths, places, form, links);
-    conclude(table, bits, taken.row, taken.ties, links, answer)
+    conclude(table, bits, taken.row, taken.ties, links, form, answer)
 }
 
 // The same for a small table, of at most 128 variable bits: its links are few, since each is set to 0 first.
@@ -313,7 +315,9 @@ fn solve_accepted(table: &[u16], widths: &[u16], answer: &mut [u16], work: &mut 
     answer_many(table, widths, &places[..], bits, work, answer)
 }
 
-// How many numbers the answer table and the work area have at least.
+// How many numbers the answer table has at least, and how many the work area.
+pub const ANSWER: usize = 24576;
+
 pub const MEMORY: usize = 16384;
 
 // Solves a table: the record, for outcome 2 the answer table, and a work area that is 0 again.
@@ -322,7 +326,7 @@ pub fn solve(table: &[u16], answer: &mut [u16], work: &mut [u16]) -> Record
     ensures answer { λ _. ⌜ now (answer .exit) ≡ answerAfter (now (table .entry)) (now (answer .entry)) (length (now (work .entry))) ⌝ }
     ensures work { λ _. ⌜ now (work .exit) ≡ workAfter (now (table .entry)) (length (now (answer .entry))) (now (work .entry)) ⌝ }
 {
-    if answer.len() < MEMORY {
+    if answer.len() < ANSWER {
         return records::refuse(10, 0);
     }
     if work.len() < MEMORY {

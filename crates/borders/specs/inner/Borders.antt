@@ -12,10 +12,11 @@ use Rattle.terms.specs.Faults.{firstFault}
 use Rattle.laws.specs.Buffers.{overwrite}
 use Rattle.answers.specs.Pairs.{Pair}
 use Rattle.answers.specs.inner.Classes.{rep, inClass, Represents}
-use Rattle.answers.specs.Answer.{begins, variableAt, variableWidths, implies, appears, answerRows, answerNumbers}
+use Rattle.answers.specs.Answer.{begins, variableAt, variableWidths, implies, appears, answerRows}
+use Rattle.answers.specs.inner.FourNumbers.{fourNumbers}
 use Rattle.laws.specs.Lists.{below, tally}
 use Rattle.answers.specs.declared.AnswerRow.{AnswerRow}
-use Rattle.answer_table.specs.inner.Rows.{answerRowPut}
+use Rattle.answer_table.specs.inner.Rows.{fourPut}
 use Rattle.borders.specs.declared.Progress.{Progress}
 use Rattle.borders.specs.inner.Rows.{PutsRows}
 
@@ -92,7 +93,7 @@ abbrev pub rowOf : Progress → AnswerRow
 rowOf p = record { variable = p .variable; kind = p .kind; width = p .width; fresh = p .number }
 
 unfoldable pub rowWritten : List ℕ → Progress → List ℕ
-rowWritten answer p = cond (eqb (p .rows) 0) answer (answerRowPut answer (p .rows - 1) (rowOf p))
+rowWritten answer p = cond (eqb (p .rows) 0) answer (fourPut answer (p .rows - 1) (rowOf p))
 
 -- The lists that the pass over the places reads: the n places of the variables ws, their classes, the places where a variable begins,
 -- and the representatives whose places have different neighbours after or before them.
@@ -110,7 +111,7 @@ pub record Bordered (n : ℕ) (ws classes : List ℕ) (seen : List Pair) (marks 
 pub record PlacesPut (n : ℕ) (ws classes answer answer′ : List ℕ) (pieces fresh : ℕ) : Type 0 where
   pub pieces-are : pieces ≡ length (answerRows n ws (inClass classes))
   pub fresh-are : fresh ≡ tally n (appears n ws (inClass classes))
-  pub answer-is : answer′ ≡ overwrite (answerNumbers (answerRows n ws (inClass classes))) answer
+  pub answer-is : answer′ ≡ overwrite (fourNumbers (answerRows n ws (inClass classes))) answer
 
 -- What the pass over the places promises, where `numbers` has room for a number for each place.
 abbrev pub PutsPlaces : ℕ → List ℕ → List ℕ → List ℕ → List ℕ → List ℕ → List ℕ → List ℕ → ℕ → ℕ → Type 0

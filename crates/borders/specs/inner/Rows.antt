@@ -10,13 +10,14 @@ use Rattle.laws.specs.Buffers.{overwrite}
 use Rattle.answers.specs.Pairs.{Pair}
 use Rattle.answers.specs.inner.Classes.{rep, inClass, Represents}
 use Rattle.laws.specs.Lists.{tally}
-use Rattle.answers.specs.Answer.{variableWidths, appears, answerRows, answerNumbers}
+use Rattle.answers.specs.Answer.{variableWidths, appears, answerRows}
+use Rattle.answers.specs.inner.FourNumbers.{fourNumbers}
 
 -- The rows of an accepted table whose classes are these were written: how many, how many fresh pieces, and the answer table.
 pub record RowsPut (table classes answer answer′ : List ℕ) (pieces fresh : ℕ) : Type 0 where
   pub pieces-are : pieces ≡ length (answerRows (bitsOf (rowsOf table)) (variableWidths (rowsOf table)) (inClass classes))
   pub fresh-are : fresh ≡ tally (bitsOf (rowsOf table)) (appears (bitsOf (rowsOf table)) (variableWidths (rowsOf table)) (inClass classes))
-  pub answer-is : answer′ ≡ overwrite (answerNumbers (answerRows (bitsOf (rowsOf table)) (variableWidths (rowsOf table)) (inClass classes))) answer
+  pub answer-is : answer′ ≡ overwrite (fourNumbers (answerRows (bitsOf (rowsOf table)) (variableWidths (rowsOf table)) (inClass classes))) answer
 
 -- What the writing of these rows promises, where the answer table has room.
 abbrev pub PutsRows : List ℕ → List ℕ → List ℕ → List ℕ → ℕ → ℕ → Type 0

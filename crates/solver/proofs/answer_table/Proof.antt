@@ -2,6 +2,7 @@
 use borrow.Author.Needs.{needs}
 use mathlib.Core.Path.{ap, _∙_}
 use Prim.Native.Nat.{ℕ, suc}
+use native.Mathlib.Omega.{arith}
 use Rattle.solver.proofs.answer_table.Statement.{statement}
 use Rattle.solver.proofs.answer_table.Tie as tie
 
@@ -23,7 +24,9 @@ same-length-3 c = search needs
 returns : tie.Need-returns
 returns c =
     λ linked accepted widths variables sources long bits form room.
-    c .before .before .conclude .ensures accepted bits (c .before .before .before .before .before .before .before .before .before .table-classes .ensures accepted widths variables sources long form (linked ∙ ap (λ (n : ℕ). suc (suc n)) bits)) room
+    let t = c .before .before .before .before .before .before .before .before .before .before .before .before .table-classes in
+    c .before .before .before .before .conclude .ensures accepted bits (t .ensures accepted widths variables sources long form (linked ∙ ap (λ (n : ℕ). suc (suc n)) bits))
+    (omega (arith, form, t .kept .1 .1 .1 .0)) room
 
 pub answer-table-spec : {M : Type 1} → statement M
 answer-table-spec =

@@ -30,10 +30,10 @@ pub record Answered (t : List Row) (answer answer′ : List ℕ) (r : Record) : 
   pub record-is : r ≡ answerRecord t
   pub answer-is : answer′ ≡ answerOver t answer
 
--- What is made of the equations that were taken.
-abbrev pub Concludes : List ℕ → ℕ → ℕ → ℕ → List ℕ → List ℕ → List ℕ → Record → Type 0
-Concludes table bits row ties links answer answer′ found =
-    firstFault table ≡ Accepted → bits ≡ bitsOf (rowsOf table) → ClassesTaken (rowsOf table) links row ties → 16384 ≤ length answer
+-- What is made of the equations that were taken, with room for the first row of each fresh piece.
+abbrev pub Concludes : List ℕ → ℕ → ℕ → ℕ → List ℕ → ℕ → List ℕ → List ℕ → Record → Type 0
+Concludes table bits row ties links firstsRoom answer answer′ found =
+    firstFault table ≡ Accepted → bits ≡ bitsOf (rowsOf table) → ClassesTaken (rowsOf table) links row ties → 4096 ≤ firstsRoom → 24576 ≤ length answer
     → Answered (rowsOf table) answer answer′ found
 
 -- The same, from the table's widths and the places of its variables, with room for the normal form of a side.
@@ -42,11 +42,11 @@ AnswersTable table widths places bits formRoom answer answer′ found =
     firstFault table ≡ Accepted → ((r : ℕ) → r < length (rowsOf table) → getD widths r 0 ≡ widthOf (rowsOf table) r)
     → ((r : ℕ) → r < length (rowsOf table) → getD places r 0 ≡ countKind 0 (take r (rowsOf table)))
     → ((v : ℕ) → v ≤ countKind 0 (rowsOf table) → getD places (512 + v) 0 ≡ sourceBefore (rowsOf table) v) → 577 ≤ length places
-    → bits ≡ bitsOf (rowsOf table) → 4096 ≤ formRoom → 16384 ≤ length answer
+    → bits ≡ bitsOf (rowsOf table) → 4096 ≤ formRoom → 24576 ≤ length answer
     → Answered (rowsOf table) answer answer′ found
 
 -- The same, from the table's widths, with room in the answer table and in the work area.
 abbrev pub SolvesAccepted : List ℕ → List ℕ → List ℕ → List ℕ → ℕ → Record → Type 0
 SolvesAccepted table widths answer answer′ workRoom found =
-    firstFault table ≡ Accepted → ((r : ℕ) → r < length (rowsOf table) → getD widths r 0 ≡ widthOf (rowsOf table) r) → 16384 ≤ length answer
+    firstFault table ≡ Accepted → ((r : ℕ) → r < length (rowsOf table) → getD widths r 0 ≡ widthOf (rowsOf table) r) → 24576 ≤ length answer
     → 16384 ≤ workRoom → Answered (rowsOf table) answer answer′ found
