@@ -6,3 +6,4 @@ pub mod Setting
 pub mod Testing
 pub mod Tables
 pub mod Forms
+pub mod Whole

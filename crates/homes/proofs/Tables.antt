@@ -49,7 +49,7 @@ module _ (rows : List AnswerRow) (old t : List ℕ) (s : Standing rows (homeRow 
   number-stands (suc (suc (suc (suc (suc (suc k)))))) h = absurd (omega arith)
 
 -- Rows that stand in a table with their homes are written to its beginning.
-standing-written : (rows : List AnswerRow) (old t : List ℕ) → Standing rows (homeRow rows) old t → length rows * 6 ≤ length old → t ≡ overwrite (answerNumbers rows) old
+pub standing-written : (rows : List AnswerRow) (old t : List ℕ) → Standing rows (homeRow rows) old t → length rows * 6 ≤ length old → t ≡ overwrite (answerNumbers rows) old
 standing-written rows old t s room =
     ext-getD 0 t (overwrite (answerNumbers rows) old) (s .len ∙ sym (overwrite-length (answerNumbers rows) old)) (λ x l. go x l (lt-or-le x (length rows * 6)))
   where

@@ -119,7 +119,7 @@ bits-behind rows f (x ∷ xs) r = ap (λ (t : List ℕ). rowBits rows f x ++ t) 
 
 -- the pass over the rows
 pub record Filling (answer fresh starts out₀ out : List ℕ) (at i : ℕ) : Type 0 where
-  pub within : i ≤ length answer / 4
+  pub within : i ≤ length answer / 6
   pub same-room : length out ≡ length out₀
   pub written : (bits free : ℕ) → Shaped (answerRowsOf answer) starts bits free → length fresh ≡ free → bits ≤ length out₀
       → Written (bitsOfRows (answerRowsOf answer) fresh (take i (answerRowsOf answer))) out₀ at out
@@ -132,7 +132,7 @@ module _ (answer fresh starts out₀ out : List ℕ) (at i : ℕ) (k : Filling a
   abbrev rows : List AnswerRow
   rows = answerRowsOf answer
 
-  pub filling-more : i < length answer / 4 → (r : AnswerRow) → r ≡ answerRowAt (answerRowsOf answer) i → (number start at′ : ℕ) (out′ : List ℕ) → number ≡ r .fresh → start ≡ getD starts number 0
+  pub filling-more : i < length answer / 6 → (r : AnswerRow) → r ≡ answerRowAt (answerRowsOf answer) i → (number start at′ : ℕ) (out′ : List ℕ) → number ≡ r .fresh → start ≡ getD starts number 0
       → Behind (bytesIn fresh (r .kind) start (r .width)) at out at′ out′ → length out′ ≡ length out → Filling answer fresh starts out₀ out′ at′ (i + 1)
   filling-more l r er number start at′ out′ en found put same = rw (add-one) (record {
     within = omega arith;
@@ -173,7 +173,7 @@ module _ (answer fresh starts out₀ out : List ℕ) (at i : ℕ) (k : Filling a
             s .bits-are,
           )
 
-  pub filling-done : length answer / 4 ≤ i → WritesRows answer fresh starts out₀ out
+  pub filling-done : length answer / 6 ≤ i → WritesRows answer fresh starts out₀ out
   unfolding instantiate
   filling-done l bits free s n room =
       k .written bits free s n room .numbers

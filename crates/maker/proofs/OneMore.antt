@@ -9,10 +9,10 @@ use lib.Dec.{eqb}
 use lib.ListN.{take}
 use borrow.Author.Tests.{le-ltb}
 use Rattle.answers.specs.declared.AnswerRow.{AnswerRow}
-use Rattle.answers.specs.Answer.{isFresh, freshNumbers, freshWidth, freshStart}
+use Rattle.answers.specs.Answer.{isFresh, freshNumbers, freshWidth, freshStart, widthIn}
 use Rattle.laws.specs.Lists.{member}
 use Rattle.laws.proofs.Numbers.{dec-eq, eqb-turn}
-use Rattle.assignments.specs.Form.{variableFine, neighboursFine, widthIn, patternBits}
+use Rattle.assignments.specs.Form.{variableFine, neighboursFine, patternBits}
 
 -- the last row alone counts for variables and neighbours
 pub variable-last : (before : List AnswerRow) (s r : AnswerRow) → variableFine (before ++ (s ∷ [])) r ≡ variableFine (s ∷ []) r

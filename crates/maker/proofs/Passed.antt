@@ -9,12 +9,12 @@ use lib.Dec.{eqb, ltb}
 use lib.ListN.{length, getD}
 use borrow.Author.Tests.{eqb-true, ne-eqb, lt-ltb, le-ltb}
 use Rattle.answers.specs.declared.AnswerRow.{AnswerRow}
-use Rattle.answers.specs.Answer.{isFresh, freshNumbers, freshWidth, freshStart}
+use Rattle.answers.specs.Answer.{isFresh, freshNumbers, freshWidth, freshStart, widthIn}
 use Rattle.laws.specs.Lists.{member}
 use Rattle.laws.proofs.Numbers.{lt-or-le}
 use Rattle.laws.proofs.Bools.{and-second}
 use Rattle.maker.specs.declared.Progress.{Progress}
-use Rattle.assignments.specs.Form.{variableFine, kindFine, widthFine, widthIn, variableWide, patternBits, patternWide, fillFine, neighboursFine, lowestUnseen, freshFine, rowFine}
+use Rattle.assignments.specs.Form.{variableFine, kindFine, widthFine, variableWide, patternBits, patternWide, fillFine, neighboursFine, lowestUnseen, freshFine, rowFine}
 use Rattle.maker.specs.inner.Making.{widthBefore, variableIn, widthsIn, fillIn, freshIn, fineIn}
 use Rattle.answers.specs.Answer.{answerRowAt}
 use Rattle.maker.proofs.OneMore.{neighbours-fresh}

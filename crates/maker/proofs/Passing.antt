@@ -11,13 +11,13 @@ use lib.ListN.{length, getD, set, length-append, List·getD-append}
 use lib.Seq.{getD-set-same, getD-set-other, getD-append-seam}
 use borrow.Author.Tests.{eqb-true, eq-eqb, ne-eqb, lt-ltb, le-ltb, ltb-true}
 use Rattle.answers.specs.declared.AnswerRow.{AnswerRow}
-use Rattle.answers.specs.Answer.{isFresh, freshNumbers, freshWidth, freshStart}
+use Rattle.answers.specs.Answer.{isFresh, freshNumbers, freshWidth, freshStart, widthIn}
 use Rattle.laws.specs.Lists.{member}
 use Rattle.laws.proofs.Numbers.{dec-eq}
 use Rattle.laws.proofs.Numbers.{lt-or-le}
 use Rattle.laws.proofs.Bools.{and-first, and-second, cond-most, not-and}
 use Rattle.maker.specs.declared.Progress.{Progress}
-use Rattle.assignments.specs.Form.{variableFine, widthIn, neighboursFine}
+use Rattle.assignments.specs.Form.{variableFine, neighboursFine}
 use Rattle.maker.specs.inner.Making.{widthBefore, isNew, variableIn, widthsIn, fillIn, freshIn, fineIn, advanced}
 use Rattle.answers.specs.Answer.{answerRowAt, noAnswerRow}
 use Rattle.laws.proofs.Numbers.{eqb-turn}

@@ -15,7 +15,9 @@ use Rattle.laws.proofs.Tallies.{distinct-is}
 use Rattle.maker.specs.declared.Progress.{Progress}
 use Rattle.answers.specs.Answer.{answerRowsOf}
 use Rattle.assignments.specs.Form.{rowsFine, hasForm}
-use Rattle.maker.specs.inner.Making.{fineIn, advanced, Shaped, ReadsForm}
+use Rattle.homes.specs.inner.Homes.{TestsHomes}
+use Rattle.homes.proofs.Whole.{homes-tested}
+use Rattle.maker.specs.inner.Making.{fineIn, advanced, Shaped, rowsForm, ReadsForm}
 use Rattle.answers.specs.Answer.{answerRowAt, noAnswerRow}
 use Rattle.maker.proofs.OneMore.{starts-rise}
 use Rattle.maker.proofs.Passed.{Passed, atFirst, passed-none, row-is}
@@ -51,7 +53,7 @@ pub record Going (rows : List AnswerRow) (widths starts : List ℕ) (p : Progres
 
 -- the pass over the rows, whatever they are
 pub record Reading (answer widths₀ starts₀ widths starts : List ℕ) (p : Progress) (i : ℕ) : Type 0 where
-  pub within : i ≤ length answer / 4
+  pub within : i ≤ length answer / 6
   pub widths-len : length widths ≡ length widths₀
   pub starts-len : length starts ≡ length starts₀
   pub going : 4096 ≤ length widths₀ → 4096 ≤ length starts₀ → Going (answerRowsOf answer) widths starts p i
@@ -68,7 +70,7 @@ module _ (answer widths₀ starts₀ widths starts : List ℕ) (p : Progress) (i
   abbrev rows : List AnswerRow
   rows = answerRowsOf answer
 
-  module _ (l : i < length answer / 4) (r : AnswerRow) (er : r ≡ answerRowAt (answerRowsOf answer) i) (number : ℕ) (en : number ≡ r .fresh) (w : ℕ) (found : w ≡ getD widths number 0) where
+  module _ (l : i < length answer / 6) (r : AnswerRow) (er : r ≡ answerRowAt (answerRowsOf answer) i) (number : ℕ) (en : number ≡ r .fresh) (w : ℕ) (found : w ≡ getD widths number 0) where
     ew : w ≡ getD widths (r .fresh) 0
     ew = found ∙ ap (λ (x : ℕ). getD widths x 0) en
 
@@ -105,22 +107,31 @@ module _ (answer widths₀ starts₀ widths starts : List ℕ) (p : Progress) (i
         }
 
     pub reading-bad : fineIn p r w ≡ false → ReadsForm answer widths₀ starts₀ starts (record { fine = false; bits = 0; free = 0 })
-    unfolding hasForm
+    unfolding rowsForm
     reading-bad bad room space =
         let g = k .going room space in
-        let e : hasForm answer ≡ false =
-        unfold hasForm in (ap (λ (t : Bool). eqb (length answer % 4) 0 && t) (g .same ∙ tested (g .passed) ∙ rw bad) ∙ and-false (eqb (length answer % 4) 0)) in
+        let e : rowsForm answer ≡ false =
+        unfold rowsForm in (ap (λ (t : Bool). eqb (length answer % 6) 0 && t) (g .same ∙ tested (g .passed) ∙ rw bad) ∙ and-false (eqb (length answer % 6) 0)) in
         record { fine-is = sym e; shaped = λ h. absurd (never (sym e ∙ h)) }
       where
         never : false ≡ true → ⊥
         never e = let z : _≡_ {A = ℕ} 0 1 = cc in omega arith
 
-  pub reading-done : length answer / 4 ≤ i → ReadsForm answer widths₀ starts₀ starts (record { fine = eqb (length answer % 4) 0; bits = p .bits; free = p .free })
-  unfolding hasForm rowsFine
+  pub reading-done : length answer / 6 ≤ i → ReadsForm answer widths₀ starts₀ starts (record { fine = eqb (length answer % 6) 0; bits = p .bits; free = p .free })
+  unfolding rowsForm rowsFine
   reading-done l room space =
       let g = k .going room space in
       let n = answer-length answer in
       record {
-        fine-is = sym (ap (λ (t : Bool). eqb (length answer % 4) 0 && t) (g .same ∙ rw (drop-of-length-le rows {i = i} (omega arith))) ∙ and-true (eqb (length answer % 4) 0));
+        fine-is = sym (ap (λ (t : Bool). eqb (length answer % 6) 0 && t) (g .same ∙ rw (drop-of-length-le rows {i = i} (omega arith))) ∙ and-true (eqb (length answer % 6) 0));
         shaped = λ h. rw (take-all i rows (omega arith)) at (shaped (take i rows) p widths starts (g .passed));
       }
+
+-- A table has the form if its rows have it and the test of their homes passes.
+pub form-bad : (answer : List ℕ) → rowsForm answer ≡ false → hasForm answer ≡ false
+unfolding hasForm rowsForm
+form-bad answer f = rw f
+
+pub form-tested : (answer : List ℕ) (room : ℕ) (b : Bool) → rowsForm answer ≡ true → TestsHomes answer room b → 4096 ≤ room → hasForm answer ≡ b
+unfolding hasForm rowsForm
+form-tested answer room b f k l = rw f (homes-tested answer room b f k l)

@@ -1,5 +1,6 @@
 // The pattern maker (document 01, "The solver's answer"). One pass tests the form of the answer table row by row and finds where the
-// bits of each fresh piece begin among the fresh bits; a second pass writes each row's bits to the pattern.
+// bits of each fresh piece begin among the fresh bits; then home and high bit of every row are tested (crate homes), and the last pass
+// writes each row's bits to the pattern.
 ghost use mathlib.Core.Path.{_≡_};
 ghost use mathlib.Core.Bool.{cond};
 ghost use lib.ListN.{length};
@@ -24,7 +25,7 @@ struct Progress {
     free: u16,
 }
 
-// Whether an answer table has the form; its bits and its fresh bits.
+// Whether the rows of an answer table have the form, home and high bit aside; their bits and their fresh bits.
 struct Found {
     fine: bool,
     bits: u16,
@@ -189,7 +190,7 @@ fn advance(p: Progress, r: AnswerRow) -> Progress
     }
 }
 
-// Tests the form of an answer table. `widths` has afterwards the width of each fresh piece, and `starts` where its bits begin among the
+// Tests the form of an answer table, home and high bit aside. `widths` has afterwards the width of each fresh piece, and `starts` where its bits begin among the
 // fresh bits. A row without a new fresh piece stores at the place of the next one, which stores again.
 fn read_form(answer: &[u16], widths: &mut [u16], starts: &mut [u16]) -> Found
     ensures { λ f. ⌜ ReadsForm (now (answer .entry)) (now (widths .entry)) (now (starts .entry)) (now (starts .exit)) f ⌝ }
@@ -283,6 +284,9 @@ pub fn make_pattern(answer: &[u16], fresh: &[u8], pattern: &mut [u8]) -> Record
     let found = read_form(answer, &mut widths[..], &mut starts[..]);
     let bits = numbers::wide(found.bits);
     if !found.fine {
+        return records::refuse(33, 0);
+    }
+    if !homes::homes_fine(answer, &mut widths[..]) {
         return records::refuse(33, 0);
     }
     if fresh.len() != numbers::wide(found.free) {

@@ -10,7 +10,7 @@ abbrev Inv-loop : tie.InvT-loop
 Inv-loop answer fresh starts out₀ at₀ i₀ out at i = Filling answer fresh starts out₀ out at i
 
 abbrev μ-loop : tie.MeasureT-loop
-μ-loop answer fresh starts out₀ at₀ i₀ out at i = length answer / 4 - i
+μ-loop answer fresh starts out₀ at₀ i₀ out at i = length answer / 6 - i
 
 loop-holds : tie.Need-loop-holds Inv-loop μ-loop
 loop-holds c = filling-first _ _ _ _

@@ -12,7 +12,7 @@ abbrev Inv-loop : tie.InvT-loop
 Inv-loop answer widths₀ starts₀ p₀ i₀ widths starts p i = Reading answer widths₀ starts₀ widths starts p i
 
 abbrev μ-loop : tie.MeasureT-loop
-μ-loop answer widths₀ starts₀ p₀ i₀ widths starts p i = length answer / 4 - i
+μ-loop answer widths₀ starts₀ p₀ i₀ widths starts p i = length answer / 6 - i
 
 loop-holds : tie.Need-loop-holds Inv-loop μ-loop
 loop-holds c = reading-first _ _ _

@@ -10,8 +10,8 @@ use Rattle.answers.specs.declared.AnswerRow.{AnswerRow}
 use Rattle.answers.specs.Answer.{isFresh, freshStart, freeBits, instantiate, answerRowAt}
 use Rattle.maker.specs.declared.Progress.{Progress}
 use Rattle.maker.specs.declared.Found.{Found}
-use Rattle.answers.specs.Answer.{answerRowsOf}
-use Rattle.assignments.specs.Form.{patternBits, hasForm}
+use Rattle.answers.specs.Answer.{answerRowLength, answerRowsOf}
+use Rattle.assignments.specs.Form.{patternBits, rowsFine}
 
 -- The width of variable v in the rows passed.
 unfoldable pub widthBefore : Progress → ℕ → ℕ
@@ -63,10 +63,14 @@ pub record Shaped (rows : List AnswerRow) (starts : List ℕ) (bits free : ℕ) 
   pub pieces-in : (j : ℕ) → j < length rows → isFresh (answerRowAt rows j) ≡ true
       → freshStart rows (answerRowAt rows j .fresh) + answerRowAt rows j .width ≤ freeBits rows
 
--- It was found whether a table has the form, and for one that has it, the counts and the starts.
+-- Whether a table has the form, home and high bit of its rows aside: it is whole rows, and these are fine.
+unfoldable pub rowsForm : List ℕ → Bool
+rowsForm answer = eqb (length answer % answerRowLength) 0 && rowsFine [] (answerRowsOf answer)
+
+-- It was found whether a table's rows have the form, and for one whose rows have it, the counts and the starts.
 pub record FormRead (answer starts : List ℕ) (found : Found) : Type 0 where
-  pub fine-is : found .fine ≡ hasForm answer
-  pub shaped : hasForm answer ≡ true → Shaped (answerRowsOf answer) starts (found .bits) (found .free)
+  pub fine-is : found .fine ≡ rowsForm answer
+  pub shaped : rowsForm answer ≡ true → Shaped (answerRowsOf answer) starts (found .bits) (found .free)
 
 -- What the test of the form promises, with room for as many fresh pieces as a pattern has bits.
 abbrev pub ReadsForm : List ℕ → List ℕ → List ℕ → List ℕ → Found → Type 0
