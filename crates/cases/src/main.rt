@@ -14,7 +14,7 @@ const TABLE: usize = 2048;
 
 // What is printed behind the record and the answer.
 fn print_table(table: &[u16], out: &mut [u8]) {
-    let mut answer = [0u16; solver::MEMORY];
+    let mut answer = [0u16; solver::ANSWER];
     let mut work = [0u16; solver::MEMORY];
     let found = solver::solve(table, &mut answer[..], &mut work[..]);
     let outcome = found.outcome;
@@ -31,7 +31,7 @@ fn print_table(table: &[u16], out: &mut [u8]) {
         return;
     }
     io::write_all(libc::STDOUT_FILENO, b"patterns\n");
-    let len = numbers::lesser(found.pieces as usize * answers::ROW, solver::MEMORY);
+    let len = numbers::lesser(found.pieces as usize * answers::ROW, solver::ANSWER);
     details::print_pattern(&answer[..len], 0, free, out);
     details::print_pattern(&answer[..len], 1, free, out);
 }

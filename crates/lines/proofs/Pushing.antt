@@ -9,9 +9,9 @@ use borrow.Author.Tests.{lt-ltb, le-ltb}
 use Rattle.laws.proofs.Buffers.{overwrite-more}
 use Rattle.sheets.specs.declared.Text.{Text}
 use Rattle.lines.specs.inner.Push.{pushed, pushAll, fourValues}
-use Rattle.sheets.specs.Print.{lineOf, field, answerValues}
+use Rattle.sheets.specs.Print.{lineOf, field}
 use Rattle.sheets.specs.Writing.{digits}
-use Rattle.sheets.proofs.Lengths.{answer-values-few}
+use Rattle.sheets.proofs.Lengths.{field-few, field-more}
 
 pub push-append : (t : Text) (xs ys : List ℕ) → pushAll t (xs ++ ys) ≡ pushAll (pushAll t xs) ys
 unfolding pushAll
@@ -80,4 +80,6 @@ push-both t m r xs ys e f = f ∙ ap (λ (x : Text). pushAll x ys) e ∙ sym (pu
 -- a line of four values has at most 80 bytes
 pub four-few : (a b c d : ℕ) → length (fourValues a b c d) ≤ 80
 unfolding fourValues
-four-few a b c d = unfold answerValues in answer-values-few (record { variable = a; kind = b; width = c; fresh = d })
+four-few a b c d =
+    let l : length (field a 32 ++ (field b 32 ++ (field c 32 ++ field d 10))) ≤ 44 = field-more _ _ 33 _ (field-more _ _ 22 _ (field-more _ _ 11 _ (field-few _ _))) in
+    omega (arith, l)

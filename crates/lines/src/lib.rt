@@ -4,7 +4,6 @@ ghost use mathlib.Core.List.{[]};
 ghost use Rattle.lines.specs.inner.Push.{pushed, pushAll, fourValues};
 ghost use Rattle.sheets.specs.Print.{field, lineOf, recordNames, recordValues, answerNames, answerValues};
 ghost use Rattle.sheets.specs.Writing.{digits};
-use answers::AnswerRow;
 use sheets::Text;
 use terms::Record;
 
@@ -87,7 +86,7 @@ pub fn record_values(r: Record) -> Text
 pub fn answer_names() -> Text
     ensures { λ r. ⌜ r ≡ lineOf answerNames ⌝ }
 {
-    put_bytes(empty(), b"variable kind width fresh\n")
+    put_bytes(empty(), b"variable kind width fresh home high\n")
 }
 
 // A line of four values.
@@ -101,8 +100,13 @@ pub fn four_values(a: u16, b: u16, c: u16, d: u16) -> Text
 }
 
 // The line of one row of the answer table.
-pub fn answer_values(row: AnswerRow) -> Text
-    ensures { λ t. ⌜ t ≡ lineOf (answerValues row) ⌝ }
+pub fn answer_values(variable: u16, kind: u16, width: u16, fresh: u16, home: u16, high: u16) -> Text
+    ensures { λ t. ⌜ t ≡ lineOf (answerValues variable kind width fresh home high) ⌝ }
 {
-    four_values(row.variable, row.kind, row.width, row.fresh)
+    let t1 = put_number(empty(), variable as u32, sheets::SPACE);
+    let t2 = put_number(t1, kind as u32, sheets::SPACE);
+    let t3 = put_number(t2, width as u32, sheets::SPACE);
+    let t4 = put_number(t3, fresh as u32, sheets::SPACE);
+    let t5 = put_number(t4, home as u32, sheets::SPACE);
+    put_number(t5, high as u32, sheets::NEWLINE)
 }

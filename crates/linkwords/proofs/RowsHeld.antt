@@ -36,13 +36,13 @@ module _ (t : List ℕ) (h : firstFault t ≡ Shape) where
   form-kept row old = rw (form-refused row (length old)) refl
 
   -- a solve tests the caller's memory first
-  solve-refused : (answerRoom workRoom : ℕ) → solveRecord t answerRoom workRoom ≡ cond (ltb answerRoom 16384 || ltb workRoom 16384) (refusal 10 0) (refusal 11 512)
+  solve-refused : (answerRoom workRoom : ℕ) → solveRecord t answerRoom workRoom ≡ cond (ltb answerRoom 24576 || ltb workRoom 16384) (refusal 10 0) (refusal 11 512)
   unfolding solveRecord stopAt
   solve-refused answerRoom workRoom = rw h refl
 
   answer-kept : (old : List ℕ) (workRoom : ℕ) → answerAfter t old workRoom ≡ old
   unfolding answerAfter
-  answer-kept old workRoom = rw (solve-refused (length old) workRoom) (either-way _ (ltb (length old) 16384 || ltb workRoom 16384))
+  answer-kept old workRoom = rw (solve-refused (length old) workRoom) (either-way _ (ltb (length old) 24576 || ltb workRoom 16384))
     where
       either-way : (new : List ℕ) (b : Bool) → cond (eqb ((cond b (refusal 10 0) (refusal 11 512)) .outcome) 2) new old ≡ old
       either-way new true = refl
@@ -50,7 +50,7 @@ module _ (t : List ℕ) (h : firstFault t ≡ Shape) where
 
   work-kept : (answerRoom : ℕ) (old : List ℕ) → workAfter t answerRoom old ≡ old
   unfolding workAfter
-  work-kept answerRoom old = rw (solve-refused answerRoom (length old)) (either-way _ (ltb answerRoom 16384 || ltb (length old) 16384))
+  work-kept answerRoom old = rw (solve-refused answerRoom (length old)) (either-way _ (ltb answerRoom 24576 || ltb (length old) 16384))
     where
       either-way : (new : List ℕ) (b : Bool) → cond (ltb ((cond b (refusal 10 0) (refusal 11 512)) .outcome) 3) new old ≡ old
       either-way new true = refl
@@ -71,7 +71,7 @@ module _ (rows : List Row) where
   form-after-of-all row old = all-or-over (λ t. formAfter t row old) old (λ t h. form-kept t h row old) rows
 
   pub solve-record-of-all : (a w : ℕ) → solveRecord (copied rows) a w ≡ solveRecord (rowNumbers rows) a w
-  solve-record-of-all a w = all-or-over (λ t. solveRecord t a w) (cond (ltb a 16384 || ltb w 16384) (refusal 10 0) (refusal 11 512)) (λ t h. solve-refused t h a w) rows
+  solve-record-of-all a w = all-or-over (λ t. solveRecord t a w) (cond (ltb a 24576 || ltb w 16384) (refusal 10 0) (refusal 11 512)) (λ t h. solve-refused t h a w) rows
 
   pub answer-after-of-all : (old : List ℕ) (w : ℕ) → answerAfter (copied rows) old w ≡ answerAfter (rowNumbers rows) old w
   answer-after-of-all old w = all-or-over (λ t. answerAfter t old w) old (λ t h. answer-kept t h old w) rows

@@ -13,7 +13,7 @@ use Rattle.pages.specs.AllPages.{line}
 -- document 01's sheet, whatever stands in the answer table behind its five rows
 pub worked-page : (rest : List ℕ)
     → pageText (record { outcome = 2; pieces = 5; fresh = 3; free = 4; ties = 4; row = 0 })
-    (0 ∷ 2 ∷ 1 ∷ 0 ∷ 0 ∷ 2 ∷ 2 ∷ 1 ∷ 0 ∷ 2 ∷ 2 ∷ 1 ∷ 0 ∷ 2 ∷ 2 ∷ 1 ∷ 0 ∷ 2 ∷ 1 ∷ 2 ∷ rest) 0
+    (0 ∷ 2 ∷ 1 ∷ 0 ∷ 0 ∷ 7 ∷ 0 ∷ 2 ∷ 2 ∷ 1 ∷ 0 ∷ 6 ∷ 0 ∷ 2 ∷ 2 ∷ 1 ∷ 0 ∷ 6 ∷ 0 ∷ 2 ∷ 2 ∷ 1 ∷ 0 ∷ 6 ∷ 0 ∷ 2 ∷ 1 ∷ 2 ∷ 0 ∷ 0 ∷ rest) 0
     ≡ joined
     (line "  variable      kind     width     fresh"
     ∷ line "         0         2         1         0"

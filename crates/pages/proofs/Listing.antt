@@ -25,7 +25,7 @@ count-read f k (suc n) zero d h = ap f (omega arith)
 count-read f k (suc n) (suc i) d h = count-read f (suc k) n i d (omega arith) ∙ ap f (omega arith)
 
 module _ (found : Record) (answer : List ℕ) where
-  pub pieces-length : length (pagePieces found answer) ≡ min (found .pieces) (length answer / 4)
+  pub pieces-length : length (pagePieces found answer) ≡ min (found .pieces) (length answer / 6)
   unfolding pagePieces
   pieces-length = length-take (found .pieces) (answerRowsOf answer) ∙ ap (min (found .pieces)) (answer-length answer)
 

@@ -21,15 +21,15 @@ use Rattle.pages.proofs.Bytes.{joined-append, lines-long, page-length}
 
 -- how many lines there are below the names, and how many pages
 module _ (found : Record) (answer : List ℕ) where
-  listed-length : length (listed found answer) ≡ listedCount found (length answer / 4)
+  listed-length : length (listed found answer) ≡ listedCount found (length answer / 6)
   unfolding listed listedCount
   listed-length = go (eqb (found .outcome) 2)
     where
-      go : (b : Bool) → length (cond b (map pieceLine (pagePieces found answer)) (outcomeLine (found .outcome) ∷ [])) ≡ cond b (min (found .pieces) (length answer / 4)) 1
+      go : (b : Bool) → length (cond b (map pieceLine (pagePieces found answer)) (outcomeLine (found .outcome) ∷ [])) ≡ cond b (min (found .pieces) (length answer / 6)) 1
       go true = length-map (pagePieces found answer) pieceLine ∙ pieces-length found answer
       go false = refl
 
-  pages-counted : pageCount found answer ≡ pagesOf (listedCount found (length answer / 4))
+  pages-counted : pageCount found answer ≡ pagesOf (listedCount found (length answer / 6))
   unfolding pageCount pagesOf
   pages-counted = ap (λ (n : ℕ). 1 + (n - 1) / onPage) listed-length
 
@@ -42,7 +42,7 @@ listed-small found rows h = go (eqb (found .outcome) 2)
     go false = omega arith
 
 -- line `line` of page k, where n lines are listed
-module _ (found : Record) (answer : List ℕ) (k line n pages : ℕ) (few : line < 60) (counted : n ≡ listedCount found (length answer / 4))
+module _ (found : Record) (answer : List ℕ) (k line n pages : ℕ) (few : line < 60) (counted : n ≡ listedCount found (length answer / 6))
     (there : pages ≡ pagesOf n) where
   all-pages : pages ≡ pageCount found answer
   all-pages = there ∙ ap pagesOf counted ∙ sym (pages-counted found answer)
@@ -53,7 +53,7 @@ module _ (found : Record) (answer : List ℕ) (k line n pages : ℕ) (few : line
   -- the place of a line below the names does not wrap
   pub place-fits : found .pieces ≤ 4294967295 → k < pages → k * 59 + (line - 1) < 4294967400
   unfolding pagesOf
-  place-fits h p = omega (arith, there, counted, listed-small found (length answer / 4) h)
+  place-fits h p = omega (arith, there, counted, listed-small found (length answer / 6) h)
 
   pub at-past : pages ≤ k → blankLine ≡ getD (pageLines found answer k) line []
   at-past p = sym (line-past found answer k line few (omega (arith, all-pages)))

@@ -31,7 +31,7 @@ module _ (text out : List ℕ) (room : 327920 ≤ length out) where
   whole l out′ len e p = rw (le-ltb (length out) 327920 room, e) (omega (arith, p .place), p .content)
 
   -- the record of the text, and the answer table that was lent for it
-  module _ (old : List ℕ) (lent : length old ≡ 16384) (r : Record) (found : r ≡ textRecord text (length old)) where
+  module _ (old : List ℕ) (lent : length old ≡ 24576) (r : Record) (found : r ≡ textRecord text (length old)) where
     is : r ≡ programRecord text
     is = found ∙ program-is text old lent
 
@@ -49,23 +49,23 @@ module _ (text out : List ℕ) (room : 327920 ≤ length out) where
         (put-there 160 out 0 (recordText r) out′ len (omega arith) p)
 
     -- outcome 2: as many rows as its pieces, and they have room
-    pub rows-fit : r .outcome ≡ 2 → r .pieces * 4 ≤ 16384
+    pub rows-fit : r .outcome ≡ 2 → r .pieces * 6 ≤ 24576
     rows-fit two = omega (arith, ap (λ (x : Record). x .pieces) is, pieces-fit text old lent (outcome-is 2 two))
 
     pub prints-answer : (answer out₁ out₂ : List ℕ) (b₁ b₂ : ℕ) → r .outcome ≡ 2 → answer ≡ textAnswer text old
         → PutIn 160 out 0 (recordText r) out₁ b₁
-        → PutIn ((length (take (r .pieces * 4) answer) / 4 + 1) * 80) out₁ b₁ (answerText (take (r .pieces * 4) answer)) out₂ b₂
+        → PutIn ((length (take (r .pieces * 6) answer) / 6 + 1) * 80) out₁ b₁ (answerText (take (r .pieces * 6) answer)) out₂ b₂
         → PrintIs text out out₂ b₂
     unfolding programText
     prints-answer answer out₁ out₂ b₁ b₂ two after p q =
-        let rows = take (r .pieces * 4) answer in
+        let rows = take (r .pieces * 6) answer in
         let taken : rows ≡ answerNumbers (solvedRows (sheetRows text)) =
-        ap₂ (λ (x : Record) (l : List ℕ). take (x .pieces * 4) l) is after ∙ answer-taken text old lent (outcome-is 2 two) in
+        ap₂ (λ (x : Record) (l : List ℕ). take (x .pieces * 6) l) is after ∙ answer-taken text old lent (outcome-is 2 two) in
         let first : Put out 0 (recordText r) out₁ b₁ = put-there 160 out 0 (recordText r) out₁ b₁ (omega arith) p in
         let kept : length out₁ ≡ length out = put-kept out out₁ 0 b₁ (recordText r) first in
         let few = record-few r in
         let second : Put out₁ b₁ (answerText rows) out₂ b₂ =
-        put-there ((length rows / 4 + 1) * 80) out₁ b₁ (answerText rows) out₂ b₂
-        (omega (arith, first .place, rows-fit two, length-take (r .pieces * 4) answer)) q in
+        put-there ((length rows / 6 + 1) * 80) out₁ b₁ (answerText rows) out₂ b₂
+        (omega (arith, first .place, rows-fit two, length-take (r .pieces * 6) answer)) q in
         whole (recordText r ++ answerText rows) out₂ b₂ (rw (← is, two, taken) refl)
         (both-put out out₁ out₂ 0 b₁ b₂ (recordText r) (answerText rows) (omega arith) first second)

@@ -31,7 +31,7 @@ pub fn put_print(text: &[u8], out: &mut [u8]) -> usize
     if out.len() < PRINT_ROOM {
         return 0;
     }
-    let mut answer = [0u16; solver::MEMORY];
+    let mut answer = [0u16; solver::ANSWER];
     let found = solve_text(text, &mut answer[..]);
     let behind = writer::put_record(found, out, 0);
     if found.outcome != 2 {

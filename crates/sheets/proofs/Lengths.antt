@@ -18,12 +18,12 @@ digits-few (suc most) n = go (ltb n 10) (digits-few most (n / 10))
     go true l = omega arith
     go false l = omega (arith, length-append (digits most (n / 10)) ((48 + n % 10) ∷ []))
 
-field-few : (n byte : ℕ) → length (field n byte) ≤ 11
+pub field-few : (n byte : ℕ) → length (field n byte) ≤ 11
 unfolding field
 field-few n byte = omega (arith, length-append (digits 10 n) (byte ∷ []), digits-few 10 n)
 
 -- a number before so many bytes
-field-more : (n byte k : ℕ) (ys : List ℕ) → length ys ≤ k → length (field n byte ++ ys) ≤ 11 + k
+pub field-more : (n byte k : ℕ) (ys : List ℕ) → length ys ≤ k → length (field n byte ++ ys) ≤ 11 + k
 field-more n byte k ys h = omega (arith, h, length-append (field n byte) ys, field-few n byte)
 
 pub answer-values-few : (v k w f h b : ℕ) → length (answerValues v k w f h b) ≤ 80

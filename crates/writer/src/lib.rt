@@ -65,8 +65,8 @@ pub fn put_record(found: Record, out: &mut [u8], at: usize) -> usize
 
 // Writes a line for each row of an answer table, if as many lines of 80 bytes fit.
 pub fn put_rows(answer: &[u16], out: &mut [u8], at: usize) -> usize
-    ensures place { λ r. ⌜ r ≡ behindIn (length (now (answer .entry)) / 4 * 80) (length (now (out .entry))) at (answerLines (now (answer .entry))) ⌝ }
-    ensures bytes { λ _. ⌜ now (out .exit) ≡ printedIn (length (now (answer .entry)) / 4 * 80) (now (out .entry)) at (answerLines (now (answer .entry))) ⌝ }
+    ensures place { λ r. ⌜ r ≡ behindIn (length (now (answer .entry)) / 6 * 80) (length (now (out .entry))) at (answerLines (now (answer .entry))) ⌝ }
+    ensures bytes { λ _. ⌜ now (out .exit) ≡ printedIn (length (now (answer .entry)) / 6 * 80) (now (out .entry)) at (answerLines (now (answer .entry))) ⌝ }
 {
     if !lines_fit(answer.len() / answers::ROW, out.len(), at) {
         return at;
@@ -74,7 +74,15 @@ pub fn put_rows(answer: &[u16], out: &mut [u8], at: usize) -> usize
     let mut behind = at;
     let mut i = 0;
     while i < answer.len() / answers::ROW {
-        let line = lines::answer_values(answer_table::row_at(answer, i));
+        let row = i * answers::ROW;
+        let line = lines::answer_values(
+            numbers::load(answer, row),
+            numbers::load(answer, row + 1),
+            numbers::load(answer, row + 2),
+            numbers::load(answer, row + 3),
+            numbers::load(answer, row + 4),
+            numbers::load(answer, row + 5),
+        );
         behind = put_line(line, out, behind);
         i += 1;
     }
@@ -83,8 +91,8 @@ pub fn put_rows(answer: &[u16], out: &mut [u8], at: usize) -> usize
 
 // Writes an answer table, its names and then its rows, if as many lines of 80 bytes fit.
 pub fn put_answer(answer: &[u16], out: &mut [u8], at: usize) -> usize
-    ensures place { λ r. ⌜ r ≡ behindIn ((length (now (answer .entry)) / 4 + 1) * 80) (length (now (out .entry))) at (answerText (now (answer .entry))) ⌝ }
-    ensures bytes { λ _. ⌜ now (out .exit) ≡ printedIn ((length (now (answer .entry)) / 4 + 1) * 80) (now (out .entry)) at (answerText (now (answer .entry))) ⌝ }
+    ensures place { λ r. ⌜ r ≡ behindIn ((length (now (answer .entry)) / 6 + 1) * 80) (length (now (out .entry))) at (answerText (now (answer .entry))) ⌝ }
+    ensures bytes { λ _. ⌜ now (out .exit) ≡ printedIn ((length (now (answer .entry)) / 6 + 1) * 80) (now (out .entry)) at (answerText (now (answer .entry))) ⌝ }
 {
     if !lines_fit(answer.len() / answers::ROW + 1, out.len(), at) {
         return at;

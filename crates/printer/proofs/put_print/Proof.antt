@@ -10,8 +10,8 @@ use borrow.Author.Needs.{needs}
 use Rattle.printer.proofs.put_print.Statement.{statement}
 use Rattle.printer.proofs.put_print.Tie as tie
 
-lent : length {A = ℕ} (replicate 16384 0) ≡ 16384
-lent = length-replicate {A = ℕ} 16384 0
+lent : length {A = ℕ} (replicate 24576 0) ≡ 24576
+lent = length-replicate {A = ℕ} 24576 0
 
 returns : tie.Need-returns
 returns c = prints-none _ _ (c .if1 .taken)
@@ -34,7 +34,7 @@ returns-2 c =
     let solve = put .before .before .before in
     let test = solve .before .before in
     let a = test .before .before .before .args in
-    prints-record (now (a .text)) (now (a .out)) (test .if1 .left) (replicate 16384 0) lent _ (solve .solve-text .ensures .0) _ _
+    prints-record (now (a .text)) (now (a .out)) (test .if1 .left) (replicate 24576 0) lent _ (solve .solve-text .ensures .0) _ _
     (λ z. omega (arith, z, c .if2 .taken)) (put .put-record .ensures)
 
 cast-len : tie.Need-cast-len
@@ -45,14 +45,14 @@ mul-len c = search needs
 
 -- the rows lie in the answer table
 within : (d : tie.After-struct-known2)
-    → d .before .before .before .before .before .before .before .before .solve-text .result .pieces * 4
+    → d .before .before .before .before .before .before .before .before .solve-text .result .pieces * 6
     ≤ length (d .before .before .before .before .before .before .before .before .solve-text .last .1 .0)
 within d =
     let solve = d .before .before .before .before .before .before .before .before in
     let test = solve .before .before in
     let a = test .before .before .before .args in
     let found = solve .solve-text .ensures .0 in
-    let fit = rows-fit (now (a .text)) (now (a .out)) (test .if1 .left) (replicate 16384 0) lent _ found (d .before .if2 .left) in
+    let fit = rows-fit (now (a .text)) (now (a .out)) (test .if1 .left) (replicate 24576 0) lent _ found (d .before .if2 .left) in
     omega (arith, fit, lent, solve .solve-text .kept .1 .0)
 
 array-share-prefix-answer : tie.Need-array-share-prefix-answer
@@ -75,7 +75,7 @@ returns-3 c =
     let solve = put .before .before .before in
     let test = solve .before .before in
     let a = test .before .before .before .args in
-    prints-answer (now (a .text)) (now (a .out)) (test .if1 .left) (replicate 16384 0) lent _ (solve .solve-text .ensures .0) _ _ _ _ _
+    prints-answer (now (a .text)) (now (a .out)) (test .if1 .left) (replicate 24576 0) lent _ (solve .solve-text .ensures .0) _ _ _ _ _
     (branch .if2 .left) (solve .solve-text .ensures .1) (put .put-record .ensures) (rows .put-answer .ensures)
 
 pub put-print-spec : {M : Type 1} → statement M
