@@ -6,7 +6,7 @@ use mathlib.Core.List.{List, [], _∷_, _++_, reverse, reverseAux, reverse-cons}
 use Prim.Native.Nat.{ℕ, suc, _+_, _≤_, _<_}
 use native.Mathlib.Omega.{arith}
 use lib.Dec.{eqb, ltb}
-use lib.ListN.{length, length-reverseAux}
+use lib.ListN.{length}
 use borrow.Author.Tests.{eqb-true, eq-eqb, lt-ltb}
 use Rattle.answers.specs.declared.AnswerRow.{AnswerRow}
 use Rattle.answers.specs.Answer.{isFresh, freshNumbers, freshWidth, widthIn}
@@ -148,24 +148,28 @@ pub record Below (m : ℕ) (rows : List AnswerRow) : Type 0 where
   pub there : (k : ℕ) → k < m → member k (freshNumbers rows) ≡ true
   pub only : (k : ℕ) → member k (freshNumbers rows) ≡ true → k < m
 
-lowest-unseen : (m : ℕ) (before : List AnswerRow) → Below m before → lowestUnseen (reverse before) ≡ m
+pub lowest-is : (m : ℕ) (rows : List AnswerRow) → Below m rows → lowestUnseen rows ≡ m
 unfolding lowestUnseen
-lowest-unseen m before b =
-    least-at (λ k. not (member k (freshNumbers (reverse before)))) 0 (length (reverse before)) m
+lowest-is m rows b =
+    least-at (λ k. not (member k (freshNumbers rows))) 0 (length rows) m
     (omega (
       arith,
-      length-reverseAux before [],
-      numbers-most before,
-      distinct-most (freshNumbers before),
-      distinct-is m (freshNumbers before) (b .only) (b .there),
+      numbers-most rows,
+      distinct-most (freshNumbers rows),
+      distinct-is m (freshNumbers rows) (b .only) (b .there),
     ))
-    (λ l. let z : 0 + m ≡ m = omega arith in ap (λ (k : ℕ). not (member k (freshNumbers (reverse before)))) z ∙ ap not (numbers-reverse m before ∙ out (member m (freshNumbers before)) refl))
-    (λ k a l. ap not (numbers-reverse k before ∙ b .there k (omega arith)))
+    (λ l. let z : 0 + m ≡ m = omega arith in ap (λ (k : ℕ). not (member k (freshNumbers rows))) z ∙ ap not (out (member m (freshNumbers rows)) refl))
+    (λ k a l. ap not (b .there k (omega arith)))
     ∙ omega arith
   where
-    out : (t : Bool) → member m (freshNumbers before) ≡ t → t ≡ false
-    out false e = refl
+    out : (t : Bool) → member m (freshNumbers rows) ≡ t → member m (freshNumbers rows) ≡ false
+    out false e = e
     out true e = absurd (omega (arith, b .only m e))
+
+lowest-unseen : (m : ℕ) (before : List AnswerRow) → Below m before → lowestUnseen (reverse before) ≡ m
+lowest-unseen m before b =
+    lowest-is m (reverse before)
+    (record { there = λ k l. numbers-reverse k before ∙ b .there k l; only = λ k h. b .only k (sym (numbers-reverse k before) ∙ h) })
 
 -- What makes a row fine behind those before it, which stand last first.
 pub record Behind (before : List AnswerRow) (r : AnswerRow) : Type 0 where

@@ -1,3 +1,4 @@
 pub mod Form
 pub mod Call
 pub mod Made
+pub mod Homes

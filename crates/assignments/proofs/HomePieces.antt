@@ -1,0 +1,207 @@
+-- In a table of the form the home of a row has its piece, and the first four numbers of each row decide the others. Assumes nothing.
+use mathlib.Core.Path.{_≡_, refl, sym, ap, ap₂, _∙_}
+use mathlib.Core.Logic.{_⊎_, inl, inr}
+use mathlib.Core.Bool.{Bool, true, false, _&&_, cond}
+use mathlib.Core.List.{List, [], _∷_, _++_}
+use Prim.Native.Nat.{ℕ, zero, suc, _+_, _-_, _*_, _%_, _≤_, _<_}
+use native.Mathlib.Omega.{arith}
+use lib.Dec.{eqb}
+use lib.ListN.{length, getD, take, drop, replicate, length-append, length-drop, length-replicate}
+use lib.Seq.{length-take-le, take-at, take-take, drop-drop, drop-append-add, drop-cons}
+use borrow.Author.Tests.{eq-eqb}
+use Rattle.laws.proofs.Bools.{and-parts}
+use Rattle.laws.proofs.Lists.{drop-take}
+use Rattle.laws.proofs.Numbers.{below-or-at}
+use Rattle.laws.proofs.Tallies.{distinct-is}
+use Rattle.terms.specs.Table.{extract}
+use Rattle.terms.proofs.Satisfies.{same-word}
+use Rattle.answers.specs.declared.AnswerRow.{AnswerRow}
+use Rattle.answers.specs.Answer.{noAnswerRow, answerRowAt, isFresh, freshNumbers, freshPieces, freshWidth, freshStart, freeBits, rowBits, bitsOfRows, instantiate, widthIn, highBit, homeRow, rowNumbers, answerNumbers, answerRowsOf}
+use Rattle.answers.proofs.AnswerNumbers.{number-at}
+use Rattle.answers.proofs.Homes.{home-le, first-places}
+use Rattle.assignments.specs.Form.{patternBits, rowsFine, homesFine, hasForm}
+use Rattle.assignments.specs.Homes.{variableStart, variableBits, bitsAt, homeAt, highAt, HomeHasPiece, FourDecide}
+use Rattle.assignments.proofs.VariableBits.{width-parts, row-start, variable-within}
+use Rattle.assignments.proofs.FormFacts.{Formed, formed-rows, number-in}
+
+-- The bits of rows, where each row has as many as it is wide.
+module _ (rows : List AnswerRow) (f : List ℕ) where
+  abbrev Sized : List AnswerRow → Type 0
+  Sized rs = (j : ℕ) → j < length rs → length (rowBits rows f (answerRowAt rs j)) ≡ answerRowAt rs j .width
+
+  bits-length : (rs : List AnswerRow) → Sized rs → length (bitsOfRows rows f rs) ≡ patternBits rs
+  unfolding bitsOfRows patternBits
+  bits-length [] h = refl
+  bits-length (r ∷ rs) h =
+      length-append (rowBits rows f r) (bitsOfRows rows f rs) ∙ omega (arith, h 0 (omega arith), bits-length rs (λ j l. h (suc j) (omega arith)))
+
+  bits-of : (rs : List AnswerRow) → Sized rs → (j : ℕ) → j < length rs
+      → take (answerRowAt rs j .width) (drop (patternBits (take j rs)) (bitsOfRows rows f rs)) ≡ rowBits rows f (answerRowAt rs j)
+  unfolding bitsOfRows patternBits
+  bits-of [] h j l = absurd (omega arith)
+  bits-of (r ∷ rs) h zero l = take-at (rowBits rows f r) (bitsOfRows rows f rs) (r .width) (h 0 (omega arith))
+  bits-of (r ∷ rs) h (suc j) l =
+      let e : r .width + patternBits (take j rs) ≡ length (rowBits rows f r) + patternBits (take j rs) = omega (arith, h 0 (omega arith)) in
+      ap (λ (n : ℕ). take (answerRowAt rs j .width) (drop n (rowBits rows f r ++ bitsOfRows rows f rs))) e
+      ∙ ap (take (answerRowAt rs j .width)) (drop-append-add (rowBits rows f r) (bitsOfRows rows f rs) (patternBits (take j rs)))
+      ∙ bits-of rs (λ i q. h (suc i) (omega arith)) j (omega arith)
+
+-- Rows of the form.
+module _ (rows : List AnswerRow) (F : Formed rows) (f : List ℕ) (enough : length f ≡ freeBits rows) where
+  abbrev at : ℕ → AnswerRow
+  at = answerRowAt rows
+
+  abbrev p : List ℕ
+  p = instantiate rows f
+
+  starts-rise : (k m : ℕ) → k < m → freshStart rows k + freshWidth rows k ≤ freshStart rows m
+  unfolding freshStart
+  starts-rise k zero l = absurd (omega arith)
+  starts-rise k (suc m) l = go (below-or-at k m l) (λ (q : k < m). starts-rise k m q)
+    where
+      go : (k < m) ⊎ (k ≡ m) → (k < m → freshStart rows k + freshWidth rows k ≤ freshStart rows m)
+          → freshStart rows k + freshWidth rows k ≤ freshStart rows m + freshWidth rows m
+      go (inl q) h = omega (arith, h q)
+      go (inr e) h = rw e (omega arith)
+
+  pieces-are : freshPieces rows ≡ F .seen
+  unfolding freshPieces
+  pieces-are = distinct-is (F .seen) (freshNumbers rows) (F .numbers .only) (F .numbers .there)
+
+  -- each row has as many bits as it is wide: those of a fresh piece are among the fresh bits
+  piece-within : (j : ℕ) → j < length rows → isFresh (at j) ≡ true → freshStart rows (at j .fresh) + at j .width ≤ length f
+  piece-within j l e =
+      let low : at j .fresh < F .seen = F .numbers .only (at j .fresh) (number-in rows j l e) in
+      let all : freeBits rows ≡ freshStart rows (freshPieces rows) = unfold freeBits in refl in
+      omega (arith, starts-rise (at j .fresh) (F .seen) low, F .widths j l e, ap (freshStart rows) pieces-are)
+
+  row-sized : Sized rows f rows
+  unfolding rowBits
+  row-sized j l = go (isFresh (at j)) refl
+    where
+      go : (b : Bool) → isFresh (at j) ≡ b
+          → length (cond b (take (at j .width) (drop (freshStart rows (at j .fresh)) f)) (replicate (at j .width) (at j .kind))) ≡ at j .width
+      go true e =
+          length-take-le (at j .width) (drop (freshStart rows (at j .fresh)) f)
+          (omega (arith, length-drop (freshStart rows (at j .fresh)) f, piece-within j l e))
+      go false e = length-replicate (at j .width) (at j .kind)
+
+  pattern-length : length p ≡ patternBits rows
+  unfolding instantiate
+  pattern-length = bits-length rows f rows row-sized
+
+  row-bits : (j : ℕ) → j < length rows → bitsAt rows j p ≡ rowBits rows f (at j)
+  unfolding instantiate bitsAt
+  row-bits j l = bits-of rows f rows row-sized j l
+
+  module _ (j : ℕ) (l : j < length rows) where
+    abbrev h : ℕ
+    h = homeRow rows j
+
+    home-in : h < length rows
+    home-in = omega (arith, home-le rows j)
+
+    -- the row and its home row have the same bits
+    same-width : at h .width ≡ at j .width
+    same-width = go (isFresh (at j)) refl
+      where
+        go : (b : Bool) → isFresh (at j) ≡ b → at h .width ≡ at j .width
+        go true e =
+            sym (F .widths h home-in (first-places rows .home-fresh j e))
+            ∙ ap (freshWidth rows) (first-places rows .home-number j e)
+            ∙ F .widths j l e
+        go false e = ap (λ (i : ℕ). at i .width) (first-places rows .fill-own j e)
+
+    same-bits : rowBits rows f (at j) ≡ rowBits rows f (at h)
+    same-bits = go (isFresh (at j)) refl
+      where
+        go : (b : Bool) → isFresh (at j) ≡ b → rowBits rows f (at j) ≡ rowBits rows f (at h)
+        go true e = unfold rowBits in rw (e, first-places rows .home-fresh j e, same-width, first-places rows .home-number j e)
+        go false e = ap (λ (i : ℕ). rowBits rows f (at i)) (sym (first-places rows .fill-own j e))
+
+    -- the home row within its variable: so many bits before it, and from it on
+    abbrev v : ℕ
+    v = at h .variable
+
+    abbrev before : ℕ
+    before = widthIn (take h rows) v
+
+    abbrev on : ℕ
+    on = widthIn (drop h rows) v
+
+    on-wide : at h .width ≤ on
+    on-wide =
+        let e : on ≡ widthIn (at h ∷ drop (suc h) rows) v = ap (λ (xs : List AnswerRow). widthIn xs v) (drop-cons rows h noAnswerRow home-in) in
+        let g : widthIn (at h ∷ drop (suc h) rows) v ≡ at h .width + widthIn (drop (suc h) rows) v = unfold widthIn in rw (eq-eqb v v refl) in
+        omega (arith, e, g)
+
+    high-on : highBit rows h + 1 ≡ on
+    high-on = let e : highBit rows h ≡ on - 1 = unfold highBit in refl in omega (arith, on-wide, F .wide h home-in)
+
+    variable-is : variableBits rows v p ≡ take (on + before) (drop (variableStart rows v) p)
+    unfolding variableBits
+    variable-is = let e : widthIn rows v ≡ on + before = omega (arith, width-parts rows (F .ordered) h home-in) in ap (λ (n : ℕ). take n (drop (variableStart rows v) p)) e
+
+    variable-length : length (variableBits rows v p) ≡ on + before
+    variable-length =
+        ap length variable-is
+        ∙ length-take-le (on + before) (drop (variableStart rows v) p)
+        (omega (
+          arith,
+          length-drop (variableStart rows v) p,
+          pattern-length,
+          variable-within rows (F .ordered) h home-in,
+          width-parts rows (F .ordered) h home-in,
+        ))
+
+    -- The bits of the row are those of its variable home from bit high on.
+    home-bits : bitsAt rows j p ≡ extract (variableBits rows v p) (highBit rows h) (highBit rows h + 1 - at j .width)
+    home-bits =
+        row-bits j l ∙ same-bits ∙ sym (row-bits h home-in) ∙ found ∙ sym cut
+      where
+        found : bitsAt rows h p ≡ take (at j .width) (drop (variableStart rows v + before) p)
+        found = unfold bitsAt in ap₂ (λ (w n : ℕ). take w (drop n p)) same-width (row-start rows (F .ordered) h home-in)
+
+        wide : highBit rows h + 1 - (highBit rows h + 1 - at j .width) ≡ at j .width
+        wide = omega (arith, high-on, on-wide, same-width)
+
+        skip : length (variableBits rows v p) - (highBit rows h + 1) ≡ before
+        skip = omega (arith, variable-length, high-on)
+
+        cut : extract (variableBits rows v p) (highBit rows h) (highBit rows h + 1 - at j .width) ≡ take (at j .width) (drop (variableStart rows v + before) p)
+        cut =
+            unfold extract in (ap₂ (λ (w n : ℕ). take w (drop n (variableBits rows v p))) wide skip
+            ∙ ap (λ (x : List ℕ). take (at j .width) (drop before x)) variable-is
+            ∙ ap (take (at j .width)) (drop-take before on (drop (variableStart rows v) p))
+            ∙ take-take (at j .width) on (drop before (drop (variableStart rows v) p)) (omega (arith, on-wide, same-width))
+            ∙ ap (take (at j .width)) (drop-drop before (variableStart rows v) p))
+
+-- What the form says of the numbers.
+record Parts (t : List ℕ) : Type 0 where
+  rows-fine : rowsFine [] (answerRowsOf t) ≡ true
+  numbers-are : answerNumbers (answerRowsOf t) ≡ t
+
+parts : (t : List ℕ) → hasForm t ≡ true → Parts t
+unfolding hasForm homesFine
+parts t h =
+    let a = and-parts (eqb (length t % 6) 0 && rowsFine [] (answerRowsOf t)) (homesFine t) h in
+    let b = and-parts (eqb (length t % 6) 0) (rowsFine [] (answerRowsOf t)) (a .0) in
+    record { rows-fine = b .1; numbers-are = same-word (answerNumbers (answerRowsOf t)) t (a .1) }
+
+-- The home has the piece.
+pub home-has-piece : HomeHasPiece
+home-has-piece t h f enough j l =
+    rw (home, high) (home-bits (answerRowsOf t) (formed-rows (answerRowsOf t) (parts t h .rows-fine)) f enough j l)
+  where
+    number : (i : ℕ) → i < 6 → getD t (j * 6 + i) 0 ≡ getD (rowNumbers (answerRowsOf t) j) i 0
+    number i q = ap (λ (x : List ℕ). getD x (j * 6 + i) 0) (sym (parts t h .numbers-are)) ∙ number-at (answerRowsOf t) j i l q
+
+    home : homeAt t j ≡ answerRowAt (answerRowsOf t) (homeRow (answerRowsOf t) j) .variable
+    home = number 4 (omega arith) ∙ (unfold rowNumbers in refl)
+
+    high : highAt t j ≡ highBit (answerRowsOf t) (homeRow (answerRowsOf t) j)
+    high = number 5 (omega arith) ∙ (unfold rowNumbers in refl)
+
+-- The first four numbers of each row decide the others.
+pub four-decide : FourDecide
+four-decide t u h k e = sym (parts t h .numbers-are) ∙ ap answerNumbers e ∙ parts u k .numbers-are

@@ -1,0 +1,103 @@
+-- Where the bits of a variable and of a row begin in a pattern, for rows whose variables do not fall. Assumes nothing.
+use mathlib.Core.Path.{_≡_, refl, sym, ap, _∙_}
+use mathlib.Core.Bool.{Bool, cond}
+use mathlib.Core.Logic.{_⊎_, inl, inr, _≢_}
+use mathlib.Core.List.{List, [], _∷_, _++_}
+use Prim.Native.Nat.{ℕ, zero, suc, _+_, _≤_, _<_}
+use native.Mathlib.Omega.{arith}
+use lib.Dec.{eqb, ltb}
+use lib.ListN.{length, take, drop, take-append-drop, length-take, length-drop}
+use lib.Seq.{getD-take, getD-drop}
+use borrow.Author.Tests.{eq-eqb, ne-eqb, lt-ltb, le-ltb}
+use Rattle.laws.proofs.Bools.{cond-most}
+use Rattle.laws.proofs.Numbers.{lt-or-le, dec-eq}
+use Rattle.answers.specs.declared.AnswerRow.{AnswerRow}
+use Rattle.answers.specs.Answer.{noAnswerRow, answerRowAt, widthIn}
+use Rattle.assignments.specs.Form.{patternBits}
+use Rattle.assignments.specs.Homes.{variableStart}
+
+-- sums over two parts of the rows
+pub width-append : (xs ys : List AnswerRow) (v : ℕ) → widthIn (xs ++ ys) v ≡ widthIn xs v + widthIn ys v
+unfolding widthIn
+width-append [] ys v = omega arith
+width-append (x ∷ xs) ys v = omega (arith, width-append xs ys v)
+
+start-append : (xs ys : List AnswerRow) (v : ℕ) → variableStart (xs ++ ys) v ≡ variableStart xs v + variableStart ys v
+unfolding variableStart
+start-append xs ys zero = refl
+start-append xs ys (suc v) = omega (arith, start-append xs ys v, width-append xs ys v)
+
+-- one row before others
+step : (a m w : ℕ) → cond (ltb a (suc m)) w 0 ≡ cond (ltb a m) w 0 + cond (eqb a m) w 0
+step a m w = go (lt-or-le a m) (dec-eq a m)
+  where
+    go : (a < m) ⊎ (m ≤ a) → (a ≡ m) ⊎ (a ≢ m) → cond (ltb a (suc m)) w 0 ≡ cond (ltb a m) w 0 + cond (eqb a m) w 0
+    go (inl l) d = rw (lt-ltb a (suc m) (omega arith), lt-ltb a m l, ne-eqb a m (omega arith)) (omega arith)
+    go (inr l) (inl e) = rw (lt-ltb a (suc m) (omega arith), le-ltb a m l, eq-eqb a m e) (omega arith)
+    go (inr l) (inr n) = rw (le-ltb a (suc m) (omega arith), le-ltb a m l, ne-eqb a m n) (omega arith)
+
+start-cons : (r : AnswerRow) (xs : List AnswerRow) (m : ℕ) → variableStart (r ∷ xs) m ≡ cond (ltb (r .variable) m) (r .width) 0 + variableStart xs m
+unfolding variableStart widthIn
+start-cons r xs zero = rw (le-ltb (r .variable) 0 (omega arith)) refl
+start-cons r xs (suc m) = omega (arith, start-cons r xs m, step (r .variable) m (r .width))
+
+start-empty : (m : ℕ) → variableStart [] m ≡ 0
+unfolding variableStart widthIn
+start-empty zero = refl
+start-empty (suc m) = omega (arith, start-empty m)
+
+-- the widths of the variables below m: of all the rows, of none of them, or of some
+start-all : (m : ℕ) (xs : List AnswerRow) → ((i : ℕ) → i < length xs → answerRowAt xs i .variable < m) → variableStart xs m ≡ patternBits xs
+unfolding patternBits
+start-all m [] h = start-empty m
+start-all m (x ∷ xs) h =
+    start-cons x xs m
+    ∙ ap (λ (b : Bool). cond b (x .width) 0 + variableStart xs m) (lt-ltb (x .variable) m (h 0 (omega arith)))
+    ∙ ap (λ (n : ℕ). x .width + n) (start-all m xs (λ i l. h (suc i) (omega arith)))
+
+start-none : (m : ℕ) (xs : List AnswerRow) → ((i : ℕ) → i < length xs → m ≤ answerRowAt xs i .variable) → variableStart xs m ≡ 0
+start-none m [] h = start-empty m
+start-none m (x ∷ xs) h =
+    start-cons x xs m
+    ∙ ap (λ (b : Bool). cond b (x .width) 0 + variableStart xs m) (le-ltb (x .variable) m (h 0 (omega arith)))
+    ∙ omega (arith, start-none m xs (λ i l. h (suc i) (omega arith)))
+
+pub start-most : (m : ℕ) (xs : List AnswerRow) → variableStart xs m ≤ patternBits xs
+unfolding patternBits
+start-most m [] = omega (arith, start-empty m)
+start-most m (x ∷ xs) = omega (arith, start-cons x xs m, cond-most (ltb (x .variable) m) (x .width), start-most m xs)
+
+-- Rows whose variables do not fall.
+abbrev pub Ordered : List AnswerRow → Type 0
+Ordered rows = (i j : ℕ) → i ≤ j → j < length rows → answerRowAt rows i .variable ≤ answerRowAt rows j .variable
+
+module _ (rows : List AnswerRow) (ordered : Ordered rows) (h : ℕ) (l : h < length rows) where
+  abbrev v : ℕ
+  v = answerRowAt rows h .variable
+
+  -- the widths of row h's variable before it and from it on
+  pub width-parts : widthIn rows (answerRowAt rows h .variable)
+      ≡ widthIn (take h rows) (answerRowAt rows h .variable) + widthIn (drop h rows) (answerRowAt rows h .variable)
+  width-parts = ap (λ (xs : List AnswerRow). widthIn xs v) (sym (take-append-drop h rows)) ∙ width-append (take h rows) (drop h rows) v
+
+  taken : (i : ℕ) → i < length (take h rows) → answerRowAt (take h rows) i .variable < suc v
+  taken i q =
+      let k : i < h = omega (arith, length-take h rows) in
+      omega (arith, ap (λ (r : AnswerRow). r .variable) (getD-take h rows i noAnswerRow k), ordered i h (omega arith) l)
+
+  left : (i : ℕ) → i < length (drop h rows) → v ≤ answerRowAt (drop h rows) i .variable
+  left i q =
+      omega (arith, ap (λ (r : AnswerRow). r .variable) (getD-drop h rows i noAnswerRow), ordered h (h + i) (omega arith) (omega (arith, length-drop h rows)))
+
+  -- the bits of its variable begin so much before its own
+  pub row-start : patternBits (take h rows) ≡ variableStart rows (answerRowAt rows h .variable) + widthIn (take h rows) (answerRowAt rows h .variable)
+  row-start =
+      let e : variableStart (take h rows) (suc v) ≡ variableStart (take h rows) v + widthIn (take h rows) v = unfold variableStart in refl in
+      let f : variableStart rows v ≡ variableStart (take h rows) v + variableStart (drop h rows) v =
+      ap (λ (xs : List AnswerRow). variableStart xs v) (sym (take-append-drop h rows)) ∙ start-append (take h rows) (drop h rows) v in
+      omega (arith, start-all (suc v) (take h rows) taken, start-none v (drop h rows) left)
+
+  pub variable-within : variableStart rows (answerRowAt rows h .variable) + widthIn rows (answerRowAt rows h .variable) ≤ patternBits rows
+  variable-within =
+      let e : variableStart rows (suc v) ≡ variableStart rows v + widthIn rows v = unfold variableStart in refl in
+      omega (arith, start-most (suc v) rows)
