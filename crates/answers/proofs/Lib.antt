@@ -20,6 +20,7 @@ pub mod Instantiating
 pub mod Variables
 pub mod Together
 pub mod Tables
+pub mod LowestPlaces
 pub mod Demands
 pub mod Lent
 pub mod RowSides

@@ -117,7 +117,7 @@ module _ (n : ℕ) (c : List ℕ) (seen : List Pair) (inv : Represents n c seen)
           let k : f (0 + (C i - 2)) ≡ true = ap f (omega arith) ∙ eq-eqb (C i) (C (C i - 2)) (sym (ap (rep c) s ∙ inv .root (suc (suc i)))) in
           least-at f 0 i (C i - 2) (omega (arith, inv .low (suc (suc i)))) k (λ m a b. lower m (omega arith)) ∙ omega arith
 
-  heads-are : (i : ℕ) → 2 ≤ C i → not (goesOn n ws (inClass c) i) ≡ heads n (begins ws) C i
+  pub heads-are : (i : ℕ) → 2 ≤ C i → not (goesOn n ws (inClass c) i) ≡ heads n (begins ws) C i
   unfolding heads goesOn
   heads-are zero l = sym (le-leb 2 (C 0) l)
   heads-are (suc i) l = ap not (goes-loose i l) ∙ rw (le-leb 2 (C (suc i)) l)

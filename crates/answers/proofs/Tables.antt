@@ -159,7 +159,7 @@ module _ (table : List ℕ) (accepted : firstFault table ≡ Accepted) where
     unfolding tableClasses
     apart-one = apart n qs satisfiable
 
-    same-relation : equalUnder n (satisfies t) ≡ inClass tableClasses
+    pub same-relation : equalUnder n (satisfies t) ≡ inClass tableClasses
     unfolding inClass
     same-relation =
         equal-same n (satisfies t) (λ p. satisfiesPairs p (reverse qs)) (λ p a. satisfies-is p a ∙ sym (satisfies-reverse p qs))

@@ -26,7 +26,7 @@ use Rattle.answers.proofs.Instantiating.{each-turn, width-found}
 use Rattle.answers.proofs.RowSides.{variable-low}
 use Rattle.assignments.specs.Form.{patternBits, rowsFine}
 use Rattle.assignments.proofs.Places.{Sized, placeIn, variable-first, place-first, Next, next-place, place-small}
-use Rattle.assignments.proofs.Turning.{FineBack, fine-rows, bits-reverse, numbers-reverse, number-here, Follows, Differs, Below, Behind, behind-fine}
+use Rattle.assignments.proofs.Turning.{FineBack, fine-rows, numbers-reverse, number-here, Follows, Differs, Below, Behind, behind-fine}
 use Rattle.laws.proofs.Bools.{clash}
 
 module _ (n : ℕ) (c : List ℕ) (seen : List Pair) (inv : Represents n c seen) (one : rep c 1 ≡ 1) (ws : List ℕ) (begin : begins ws 0 ≡ true) (last : begins ws n ≡ true)
@@ -322,7 +322,7 @@ module _ (n : ℕ) (c : List ℕ) (seen : List Pair) (inv : Represents n c seen)
       two false h = refl
       two true h = clash (begins ws n) last (ap (begins ws) e ∙ glued-e n (begins ws) C j h .open')
 
-  -- Each row of the answer is fine behind those before it, and their widths add up to the places.
+  -- Each row of the answer is fine behind those before it.
   pub answer-fine : rowsFine [] (answerRows n ws (inClass c)) ≡ true
   unfolding answerRows
   answer-fine = fine-rows (rowsTo n ws (inClass c) n) (go n refl)
@@ -335,13 +335,3 @@ module _ (n : ℕ) (c : List ℕ) (seen : List Pair) (inv : Represents n c seen)
           let K = known j l (F .row) (F .rest) (F .are) in
           let W = ended n c seen inv one ws begin last j (F .row) l (K .reaching) (open-end j e) in
           subst FineBack (sym (F .are)) (behind-fine (F .rest) (F .row) (row-behind j l (F .row) (F .rest) (F .last-row) W (K .whole)), F .fine)
-
-  pub answer-bits : patternBits (answerRows n ws (inClass c)) ≡ n
-  unfolding answerRows
-  answer-bits = bits-reverse (rowsTo n ws (inClass c) n) ∙ go n refl
-    where
-      go : (m : ℕ) → n ≡ m → patternBits (rowsTo n ws (inClass c) m) ≡ m
-      go zero e = unfold rowsTo patternBits in refl
-      go (suc j) e =
-          let F = formed j (omega arith) in
-          ap patternBits (F .are) ∙ unfold patternBits in omega (arith, F .last-row .in-all)

@@ -7,8 +7,7 @@ use Prim.Native.Nat.{ℕ, zero, suc, _+_, _-_, _*_, _%_, _≤_, _<_}
 use native.Mathlib.Omega.{arith}
 use lib.Dec.{eqb}
 use lib.ListN.{length, getD, take, drop, replicate, length-append, length-drop, length-replicate}
-use lib.Seq.{length-take-le, take-at, take-take, drop-drop, drop-append-add, drop-cons}
-use borrow.Author.Tests.{eq-eqb}
+use lib.Seq.{length-take-le, take-at, take-take, drop-drop, drop-append-add}
 use Rattle.laws.proofs.Bools.{and-parts}
 use Rattle.laws.proofs.Lists.{drop-take}
 use Rattle.laws.proofs.Numbers.{below-or-at}
@@ -16,12 +15,12 @@ use Rattle.laws.proofs.Tallies.{distinct-is}
 use Rattle.terms.specs.Table.{extract}
 use Rattle.terms.proofs.Satisfies.{same-word}
 use Rattle.answers.specs.declared.AnswerRow.{AnswerRow}
-use Rattle.answers.specs.Answer.{noAnswerRow, answerRowAt, isFresh, freshNumbers, freshPieces, freshWidth, freshStart, freeBits, rowBits, bitsOfRows, instantiate, widthIn, highBit, homeRow, rowNumbers, answerNumbers, answerRowsOf}
+use Rattle.answers.specs.Answer.{answerRowAt, isFresh, freshNumbers, freshPieces, freshWidth, freshStart, freeBits, rowBits, bitsOfRows, instantiate, widthIn, highBit, homeRow, rowNumbers, answerNumbers, answerRowsOf}
 use Rattle.answers.proofs.AnswerNumbers.{number-at}
 use Rattle.answers.proofs.Homes.{home-le, first-places}
 use Rattle.assignments.specs.Form.{patternBits, rowsFine, homesFine, hasForm}
 use Rattle.assignments.specs.Homes.{variableStart, variableBits, bitsAt, homeAt, highAt, HomeHasPiece, FourDecide}
-use Rattle.assignments.proofs.VariableBits.{width-parts, row-start, variable-within}
+use Rattle.assignments.proofs.VariableBits.{width-parts, on-wide, row-start, variable-within}
 use Rattle.assignments.proofs.FormFacts.{Formed, formed-rows, number-in}
 
 -- The bits of rows, where each row has as many as it is wide.
@@ -129,14 +128,11 @@ module _ (rows : List AnswerRow) (F : Formed rows) (f : List ℕ) (enough : leng
     abbrev on : ℕ
     on = widthIn (drop h rows) v
 
-    on-wide : at h .width ≤ on
-    on-wide =
-        let e : on ≡ widthIn (at h ∷ drop (suc h) rows) v = ap (λ (xs : List AnswerRow). widthIn xs v) (drop-cons rows h noAnswerRow home-in) in
-        let g : widthIn (at h ∷ drop (suc h) rows) v ≡ at h .width + widthIn (drop (suc h) rows) v = unfold widthIn in rw (eq-eqb v v refl) in
-        omega (arith, e, g)
+    on-here : at h .width ≤ on
+    on-here = on-wide rows (F .ordered) h home-in
 
     high-on : highBit rows h + 1 ≡ on
-    high-on = let e : highBit rows h ≡ on - 1 = unfold highBit in refl in omega (arith, on-wide, F .wide h home-in)
+    high-on = let e : highBit rows h ≡ on - 1 = unfold highBit in refl in omega (arith, on-here, F .wide h home-in)
 
     variable-is : variableBits rows v p ≡ take (on + before) (drop (variableStart rows v) p)
     unfolding variableBits
@@ -163,7 +159,7 @@ module _ (rows : List AnswerRow) (F : Formed rows) (f : List ℕ) (enough : leng
         found = unfold bitsAt in ap₂ (λ (w n : ℕ). take w (drop n p)) same-width (row-start rows (F .ordered) h home-in)
 
         wide : highBit rows h + 1 - (highBit rows h + 1 - at j .width) ≡ at j .width
-        wide = omega (arith, high-on, on-wide, same-width)
+        wide = omega (arith, high-on, on-here, same-width)
 
         skip : length (variableBits rows v p) - (highBit rows h + 1) ≡ before
         skip = omega (arith, variable-length, high-on)
@@ -173,7 +169,7 @@ module _ (rows : List AnswerRow) (F : Formed rows) (f : List ℕ) (enough : leng
             unfold extract in (ap₂ (λ (w n : ℕ). take w (drop n (variableBits rows v p))) wide skip
             ∙ ap (λ (x : List ℕ). take (at j .width) (drop before x)) variable-is
             ∙ ap (take (at j .width)) (drop-take before on (drop (variableStart rows v) p))
-            ∙ take-take (at j .width) on (drop before (drop (variableStart rows v) p)) (omega (arith, on-wide, same-width))
+            ∙ take-take (at j .width) on (drop before (drop (variableStart rows v) p)) (omega (arith, on-here, same-width))
             ∙ ap (take (at j .width)) (drop-drop before (variableStart rows v) p))
 
 -- What the form says of the numbers.

@@ -4,5 +4,7 @@ pub mod FineRows
 pub mod VariableBits
 pub mod FormFacts
 pub mod HomePieces
+pub mod RowPlaces
+pub mod HomePlaces
 pub mod Theorems
 pub mod PatternCall

@@ -23,7 +23,7 @@ use Rattle.laws.specs.Lists.{allBits, distinct}
 use Rattle.answers.specs.declared.AnswerRow.{AnswerRow}
 use Rattle.answers.specs.Answer.{variableWidths, begins, numbersFrom, answerNumbers, answerRowsOf, freshNumbers, freshPieces, freshStart, freeBits, bitsOfRows, instantiate}
 use Rattle.answers.specs.Solve.{unsatisfiable, pairsTogether, solvedRows, answerRecord}
-use Rattle.answers.specs.Pairs.{equationPairs}
+use Rattle.answers.specs.Pairs.{equationPairs, equalUnder}
 use Rattle.answers.proofs.AnswerNumbers.{numbers-length, rows-back}
 use Rattle.answers.proofs.Variables.{widths-sum, begins-first, begins-behind}
 use Rattle.answers.proofs.Tables.{tableClasses, represent, apart-one, solved-rows}
@@ -32,7 +32,8 @@ use Rattle.answers.proofs.OurSystem.{some-left}
 use Rattle.assignments.specs.Form.{patternBits, rowsFine, homesFine, hasForm}
 use Rattle.assignments.specs.Call.{wrongFresh, patternRecord, patternAfter}
 use Rattle.assignments.proofs.Places.{table-sized, table-variables, table-bits}
-use Rattle.assignments.proofs.FineRows.{answer-fine, answer-bits}
+use Rattle.assignments.proofs.FineRows.{answer-fine}
+use Rattle.assignments.proofs.RowPlaces.{all-bits}
 use Rattle.assignments.specs.Made.{MadeFromSolved, Makes, patternOf}
 
 -- Rows that are fine have the form as they are written.
@@ -62,7 +63,7 @@ module _ (table : List ℕ) (accepted : firstFault table ≡ Accepted) (solved :
   ending : begins ws (bitsOf t) ≡ true
   ending = ap (begins ws) (sym (widths-sum t)) ∙ begins-behind ws
 
-  rows-fine : rowsFine [] rows ≡ true
+  pub rows-fine : rowsFine [] (solvedRows (rowsOf table)) ≡ true
   rows-fine =
       ap (rowsFine []) (solved-rows table accepted some)
       ∙ answer-fine (bitsOf t) (tableClasses table accepted) (reverse (pairsTogether (equationPairs t))) (represent table accepted) (apart-one table accepted some) ws
@@ -74,10 +75,8 @@ module _ (table : List ℕ) (accepted : firstFault table ≡ Accepted) (solved :
 
   -- Its pattern has the table's variable bits.
   pub pattern-length : patternBits (solvedRows (rowsOf table)) ≡ bitsOf (rowsOf table)
-  pattern-length =
-      ap patternBits (solved-rows table accepted some)
-      ∙ answer-bits (bitsOf t) (tableClasses table accepted) (reverse (pairsTogether (equationPairs t))) (represent table accepted) (apart-one table accepted some) ws
-      (begins-first ws) ending (table-sized table accepted) (widths-sum t) (table-variables table accepted) (table-bits table accepted)
+  unfolding solvedRows
+  pattern-length = all-bits (bitsOf t) ws (equalUnder (bitsOf t) (satisfies t))
 
   free-is : answerRecord t .free ≡ freeBits rows
   free-is = demand-3 table accepted .solved-free solved

@@ -7,7 +7,7 @@ use Prim.Native.Nat.{ℕ, zero, suc, _+_, _≤_, _<_}
 use native.Mathlib.Omega.{arith}
 use lib.Dec.{eqb, ltb}
 use lib.ListN.{length, take, drop, take-append-drop, length-take, length-drop}
-use lib.Seq.{getD-take, getD-drop}
+use lib.Seq.{getD-take, getD-drop, drop-cons}
 use borrow.Author.Tests.{eq-eqb, ne-eqb, lt-ltb, le-ltb}
 use Rattle.laws.proofs.Bools.{cond-most}
 use Rattle.laws.proofs.Numbers.{lt-or-le, dec-eq}
@@ -79,6 +79,13 @@ module _ (rows : List AnswerRow) (ordered : Ordered rows) (h : ℕ) (l : h < len
   pub width-parts : widthIn rows (answerRowAt rows h .variable)
       ≡ widthIn (take h rows) (answerRowAt rows h .variable) + widthIn (drop h rows) (answerRowAt rows h .variable)
   width-parts = ap (λ (xs : List AnswerRow). widthIn xs v) (sym (take-append-drop h rows)) ∙ width-append (take h rows) (drop h rows) v
+
+  -- from it on at least its own
+  pub on-wide : answerRowAt rows h .width ≤ widthIn (drop h rows) (answerRowAt rows h .variable)
+  on-wide =
+      let e : widthIn (drop h rows) v ≡ widthIn (answerRowAt rows h ∷ drop (suc h) rows) v = ap (λ (xs : List AnswerRow). widthIn xs v) (drop-cons rows h noAnswerRow l) in
+      let g : widthIn (answerRowAt rows h ∷ drop (suc h) rows) v ≡ answerRowAt rows h .width + widthIn (drop (suc h) rows) v = unfold widthIn in rw (eq-eqb v v refl) in
+      omega (arith, e, g)
 
   taken : (i : ℕ) → i < length (take h rows) → answerRowAt (take h rows) i .variable < suc v
   taken i q =
