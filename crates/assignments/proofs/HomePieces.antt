@@ -17,7 +17,8 @@ use Rattle.terms.proofs.Satisfies.{same-word}
 use Rattle.answers.specs.declared.AnswerRow.{AnswerRow}
 use Rattle.answers.specs.Answer.{answerRowAt, isFresh, freshNumbers, freshPieces, freshWidth, freshStart, freeBits, rowBits, bitsOfRows, instantiate, widthIn, highBit, homeRow, rowNumbers, answerNumbers, answerRowsOf}
 use Rattle.answers.proofs.AnswerNumbers.{number-at}
-use Rattle.answers.proofs.Homes.{home-le, first-places}
+use Rattle.answers.specs.Homes.{WholePieces}
+use Rattle.answers.proofs.Homes.{home-le, same-width, same-bits}
 use Rattle.assignments.specs.Form.{patternBits, rowsFine, homesFine, hasForm}
 use Rattle.assignments.specs.Homes.{variableStart, variableBits, bitsAt, homeAt, highAt, HomeHasPiece, FourDecide}
 use Rattle.assignments.proofs.VariableBits.{width-parts, on-wide, row-start, variable-within}
@@ -85,6 +86,9 @@ module _ (rows : List AnswerRow) (F : Formed rows) (f : List ℕ) (enough : leng
           (omega (arith, length-drop (freshStart rows (at j .fresh)) f, piece-within j l e))
       go false e = length-replicate (at j .width) (at j .kind)
 
+  whole : WholePieces rows f
+  whole = record { one-width = F .widths; enough = row-sized; wide = F .wide }
+
   pattern-length : length p ≡ patternBits rows
   unfolding instantiate
   pattern-length = bits-length rows f rows row-sized
@@ -101,22 +105,11 @@ module _ (rows : List AnswerRow) (F : Formed rows) (f : List ℕ) (enough : leng
     home-in = omega (arith, home-le rows j)
 
     -- the row and its home row have the same bits
-    same-width : at h .width ≡ at j .width
-    same-width = go (isFresh (at j)) refl
-      where
-        go : (b : Bool) → isFresh (at j) ≡ b → at h .width ≡ at j .width
-        go true e =
-            sym (F .widths h home-in (first-places rows .home-fresh j e))
-            ∙ ap (freshWidth rows) (first-places rows .home-number j e)
-            ∙ F .widths j l e
-        go false e = ap (λ (i : ℕ). at i .width) (first-places rows .fill-own j e)
+    width-same : at h .width ≡ at j .width
+    width-same = same-width rows f whole j l
 
-    same-bits : rowBits rows f (at j) ≡ rowBits rows f (at h)
-    same-bits = go (isFresh (at j)) refl
-      where
-        go : (b : Bool) → isFresh (at j) ≡ b → rowBits rows f (at j) ≡ rowBits rows f (at h)
-        go true e = unfold rowBits in rw (e, first-places rows .home-fresh j e, same-width, first-places rows .home-number j e)
-        go false e = ap (λ (i : ℕ). rowBits rows f (at i)) (sym (first-places rows .fill-own j e))
+    bits-same : rowBits rows f (at j) ≡ rowBits rows f (at h)
+    bits-same = same-bits rows f whole j l
 
     -- the home row within its variable: so many bits before it, and from it on
     abbrev v : ℕ
@@ -153,13 +146,13 @@ module _ (rows : List AnswerRow) (F : Formed rows) (f : List ℕ) (enough : leng
     -- The bits of the row are those of its variable home from bit high on.
     home-bits : bitsAt rows j p ≡ extract (variableBits rows v p) (highBit rows h) (highBit rows h + 1 - at j .width)
     home-bits =
-        row-bits j l ∙ same-bits ∙ sym (row-bits h home-in) ∙ found ∙ sym cut
+        row-bits j l ∙ bits-same ∙ sym (row-bits h home-in) ∙ found ∙ sym cut
       where
         found : bitsAt rows h p ≡ take (at j .width) (drop (variableStart rows v + before) p)
-        found = unfold bitsAt in ap₂ (λ (w n : ℕ). take w (drop n p)) same-width (row-start rows (F .ordered) h home-in)
+        found = unfold bitsAt in ap₂ (λ (w n : ℕ). take w (drop n p)) width-same (row-start rows (F .ordered) h home-in)
 
         wide : highBit rows h + 1 - (highBit rows h + 1 - at j .width) ≡ at j .width
-        wide = omega (arith, high-on, on-here, same-width)
+        wide = omega (arith, high-on, on-here, width-same)
 
         skip : length (variableBits rows v p) - (highBit rows h + 1) ≡ before
         skip = omega (arith, variable-length, high-on)
@@ -169,7 +162,7 @@ module _ (rows : List AnswerRow) (F : Formed rows) (f : List ℕ) (enough : leng
             unfold extract in (ap₂ (λ (w n : ℕ). take w (drop n (variableBits rows v p))) wide skip
             ∙ ap (λ (x : List ℕ). take (at j .width) (drop before x)) variable-is
             ∙ ap (take (at j .width)) (drop-take before on (drop (variableStart rows v) p))
-            ∙ take-take (at j .width) on (drop before (drop (variableStart rows v) p)) (omega (arith, on-here, same-width))
+            ∙ take-take (at j .width) on (drop before (drop (variableStart rows v) p)) (omega (arith, on-here, width-same))
             ∙ ap (take (at j .width)) (drop-drop before (variableStart rows v) p))
 
 -- What the form says of the numbers.
