@@ -18,3 +18,4 @@ pub mod SheetsSolved
 pub mod FirstSheet
 pub mod Spellings
 pub mod ShortSides
+pub mod FirstPlaces

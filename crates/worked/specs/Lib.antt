@@ -3,3 +3,4 @@ pub mod EveryWidth
 pub mod FromSheet
 pub mod Spellings
 pub mod ShortSides
+pub mod FirstPlaces
