@@ -20,7 +20,7 @@
 #include "linkwords.h"
 
 static uint8_t sheet[LW_MAX_SHEET + 1]; /* one byte more, so that a longer sheet is refused */
-static uint16_t table[LW_TABLE_NUMBERS], answer[LW_SOLVER_NUMBERS], work[LW_SOLVER_NUMBERS];
+static uint16_t table[LW_TABLE_NUMBERS], answer[LW_ANSWER_NUMBERS], work[LW_WORK_NUMBERS];
 static uint8_t fresh[LW_MAX_VARIABLE_BITS], pattern[LW_MAX_VARIABLE_BITS];
 
 static int refused(const char *what, lw_record record)
@@ -29,14 +29,15 @@ static int refused(const char *what, lw_record record)
     return 2;
 }
 
-/* The answer of a table that every pattern meets: one fresh piece for each variable. */
+/* The answer of a table that every pattern meets: one fresh piece for each variable, and at home there. */
 static uint32_t free_answer(uint32_t rows)
 {
     uint16_t variables = 0;
     for (uint32_t r = 0; r < rows; r++)
         if (table[4 * r] == LW_VARIABLE) {
-            uint16_t *row = answer + 4 * variables;
-            row[0] = variables, row[1] = LW_FRESH, row[2] = table[4 * r + 1], row[3] = variables;
+            uint16_t *row = answer + LW_ANSWER_ROW_NUMBERS * variables, width = table[4 * r + 1];
+            row[0] = variables, row[1] = LW_FRESH, row[2] = width, row[3] = variables;
+            row[4] = variables, row[5] = (uint16_t)(width - 1);
             variables++;
         }
     return variables;
@@ -46,9 +47,10 @@ static void print_pattern(uint32_t rows)
 {
     size_t at = 0;
     for (uint32_t r = 0; r < rows; r++) {
-        if (r != 0 && answer[4 * r] != answer[4 * (r - 1)])
+        const uint16_t *row = answer + LW_ANSWER_ROW_NUMBERS * r;
+        if (r != 0 && row[0] != row[-LW_ANSWER_ROW_NUMBERS])
             putchar(' ');
-        for (uint16_t i = 0; i < answer[4 * r + 2]; i++)
+        for (uint16_t i = 0; i < row[2]; i++)
             putchar(pattern[at++] == 1 ? '1' : '0');
     }
     putchar('\n');
@@ -83,7 +85,7 @@ int main(int argc, char **argv)
     lw_record read = lw_read_sheet(sheet, len, table, LW_TABLE_NUMBERS);
     if (read.outcome != LW_ACCEPTED)
         return refused("sheet", read);
-    lw_record solved = lw_solve(table, 4 * read.pieces, answer, LW_SOLVER_NUMBERS, work, LW_SOLVER_NUMBERS);
+    lw_record solved = lw_solve(table, 4 * read.pieces, answer, LW_ANSWER_NUMBERS, work, LW_WORK_NUMBERS);
     if (solved.outcome > LW_SOLVED)
         return refused("table", solved);
     if (solved.outcome == LW_NEVER) {
@@ -94,7 +96,8 @@ int main(int argc, char **argv)
     uint32_t rows = solved.outcome == LW_SOLVED ? solved.pieces : free_answer(read.pieces);
     printf("2^%" PRIu32 " patterns\n", solved.free);
     for (unsigned long i = 0; i < most; i++) {
-        lw_record made = lw_make_pattern(answer, 4 * rows, fresh, solved.free, pattern, sizeof pattern);
+        lw_record made = lw_make_pattern(answer, LW_ANSWER_ROW_NUMBERS * rows, fresh, solved.free, pattern,
+                                         sizeof pattern);
         if (made.outcome != LW_ACCEPTED)
             return refused("answer", made);
         print_pattern(rows);

@@ -164,6 +164,15 @@ static bool same_piece(const places *p, size_t i, size_t j, size_t width)
     return true;
 }
 
+/* The number of a place's bit in its variable: as many bits of the variable are behind it. */
+static size_t bit_number(const findings *f, size_t place)
+{
+    size_t behind = 0;
+    while (neighbours(f, place + behind, place + behind + 1))
+        behind++;
+    return behind;
+}
+
 /* The answer table, and in the record pieces, fresh and free. */
 static void make_answer(const findings *f, enumeration *found)
 {
@@ -179,7 +188,8 @@ static void make_answer(const findings *f, enumeration *found)
     }
 
     for (size_t from = 0, to; from < f->bits; from = to + 1) {
-        uint16_t *row = found->answer + 4 * rows;
+        uint16_t *row = found->answer + 6 * rows;
+        size_t home = from; /* where its piece first appears; a fill names its own place */
         to = from; /* the last place of the row */
         while (goes_on(f, &p, to))
             to++;
@@ -190,16 +200,19 @@ static void make_answer(const findings *f, enumeration *found)
         row[3] = 0;
         if (!p.fixed[from]) {
             size_t same = 0; /* the first row with this piece */
-            while (same < rows && !(found->answer[4 * same + 1] == 2 && found->answer[4 * same + 2] == width &&
+            while (same < rows && !(found->answer[6 * same + 1] == 2 && found->answer[6 * same + 2] == width &&
                                     same_piece(&p, start[same], from, width)))
                 same++;
             if (same < rows) {
-                row[3] = found->answer[4 * same + 3];
+                row[3] = found->answer[6 * same + 3];
+                home = start[same];
             } else { /* its first appearance */
                 row[3] = (uint16_t)found->record.fresh++;
                 found->record.free += (uint32_t)width;
             }
         }
+        row[4] = (uint16_t)f->variable[home];
+        row[5] = (uint16_t)bit_number(f, home);
         start[rows++] = from;
     }
     found->record.pieces = rows;

@@ -19,7 +19,7 @@ typedef struct {
     size_t met;                      /* how many patterns meet the table */
     lw_record record;                /* what lw_solve yields */
     uint32_t row_ties;               /* for outcome 1: that row's ties, the pair that leaves no pattern too */
-    uint16_t answer[4 * ENUM_BITS];  /* for outcome 2: the answer table, 4 * record.pieces numbers */
+    uint16_t answer[6 * ENUM_BITS];  /* for outcome 2: the answer table, 6 * record.pieces numbers */
 } enumeration;
 
 /* Enumerates an accepted table of at most ENUM_BITS variable bits; facts are those of ref_check. Not reentrant. */

@@ -14,11 +14,11 @@
 #include "linkwords.h"
 
 static uint8_t sheet[LW_MAX_SHEET + 1]; /* one byte more, so that a longer sheet is refused */
-static uint16_t table[LW_TABLE_NUMBERS], answer[LW_SOLVER_NUMBERS], work[LW_SOLVER_NUMBERS];
+static uint16_t table[LW_TABLE_NUMBERS], answer[LW_ANSWER_NUMBERS], work[LW_WORK_NUMBERS];
 
 static bool print_page(lw_record record, size_t number)
 {
-    lw_page_bytes page = lw_page(record, answer, LW_SOLVER_NUMBERS, number);
+    lw_page_bytes page = lw_page(record, answer, LW_ANSWER_NUMBERS, number);
     return fwrite(page.bytes, 1, sizeof page.bytes, stdout) == sizeof page.bytes;
 }
 
@@ -37,7 +37,7 @@ int main(int argc, char **argv)
 
     lw_record record = lw_read_sheet(sheet, len, table, LW_TABLE_NUMBERS);
     if (record.outcome == LW_ACCEPTED)
-        record = lw_solve(table, 4 * record.pieces, answer, LW_SOLVER_NUMBERS, work, LW_SOLVER_NUMBERS);
+        record = lw_solve(table, 4 * record.pieces, answer, LW_ANSWER_NUMBERS, work, LW_WORK_NUMBERS);
 
     /* Page 0 is always there; of the others each has a piece. */
     size_t number = 0;

@@ -11,7 +11,7 @@ enum { LINES = 60, LINE = 41, PIECES = 59, SOLVED = 2 };
 /* There are as many pieces as the record says, or as whole rows lent if these are fewer. */
 static size_t piece_count(lw_record record, size_t answer_len)
 {
-    size_t rows = answer_len / 4;
+    size_t rows = answer_len / 6;
     return record.pieces < rows ? record.pieces : rows;
 }
 
@@ -31,7 +31,8 @@ static void print_line(char *line, size_t size, lw_record record, const uint16_t
     } else if (record.outcome != SOLVED && l == 1) {
         snprintf(line, size, "%10" PRIu32 "%30s\n", record.outcome, "");
     } else if (record.outcome == SOLVED && number * PIECES + l - 1 < piece_count(record, answer_len)) {
-        const uint16_t *row = answer + 4 * (number * PIECES + l - 1);
+        /* The first four of the row's six numbers. */
+        const uint16_t *row = answer + 6 * (number * PIECES + l - 1);
         snprintf(line, size, "%10u%10u%10u%10u\n", row[0], row[1], row[2], row[3]);
     } else {
         snprintf(line, size, "%40s\n", "");

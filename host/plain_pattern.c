@@ -11,13 +11,13 @@
 enum { FRESH = 2, NUMBERS = 65536 };
 
 typedef struct {
-    size_t variable, kind, width, fresh;
+    size_t variable, kind, width, fresh, home, high;
 } row_numbers;
 
 static row_numbers row_of(const uint16_t *answer, size_t r)
 {
-    const uint16_t *n = answer + 4 * r;
-    return (row_numbers){n[0], n[1], n[2], n[3]};
+    const uint16_t *n = answer + 6 * r;
+    return (row_numbers){n[0], n[1], n[2], n[3], n[4], n[5]};
 }
 
 /* Variables start at 0 and stay or rise by one, up to 63. */
@@ -145,12 +145,67 @@ static bool lowest_unseen(const uint16_t *answer, size_t rows)
     return true;
 }
 
+/*
+  Home and high are the variable and the high bit where the row's piece first
+  appears, a fill naming its own place. A variable's rows stand together, and a
+  row's bits in it are numbered from those behind them on.
+*/
+
+/* The first row of kind 2 with the fresh number of a row of kind 2. */
+static size_t first_row[NUMBERS];
+
+static void find_first_rows(const uint16_t *answer, size_t rows)
+{
+    for (size_t r = rows; r-- != 0;) /* so that the first is what stays */
+        if (row_of(answer, r).kind == FRESH)
+            first_row[row_of(answer, r).fresh] = r;
+}
+
+static size_t home_row(const uint16_t *answer, size_t r)
+{
+    return row_of(answer, r).kind == FRESH ? first_row[row_of(answer, r).fresh] : r;
+}
+
+static bool right_home(const uint16_t *answer, size_t rows)
+{
+    find_first_rows(answer, rows);
+    for (size_t r = 0; r < rows; r++)
+        if (row_of(answer, r).home != row_of(answer, home_row(answer, r)).variable)
+            return false;
+    return true;
+}
+
+/* The bits of the rows from this one on, up to the variable's last. */
+static size_t bits_from(const uint16_t *answer, size_t rows, size_t r)
+{
+    size_t bits = 0, variable = row_of(answer, r).variable;
+    for (; r < rows && row_of(answer, r).variable == variable; r++)
+        bits += row_of(answer, r).width;
+    return bits;
+}
+
+/* A piece that is not at home names what its home row names, and that row is tested too. */
+static bool right_high(const uint16_t *answer, size_t rows)
+{
+    size_t bits = 0; /* from the row on, in its variable */
+    find_first_rows(answer, rows);
+    for (size_t r = 0; r < rows; r++) {
+        row_numbers row = row_of(answer, r), home = row_of(answer, home_row(answer, r));
+        if (r == 0 || row_of(answer, r - 1).variable != row.variable)
+            bits = bits_from(answer, rows, r);
+        if (row.high != (home_row(answer, r) != r ? home.high : bits == 0 ? 0 : bits - 1))
+            return false;
+        bits -= row.width;
+    }
+    return true;
+}
+
 /* The widths, of all rows and of each fresh piece once. */
 
 size_t plain_pattern_bits(const uint16_t *answer, size_t answer_len)
 {
     size_t bits = 0;
-    for (size_t r = 0; r < answer_len / 4; r++)
+    for (size_t r = 0; r < answer_len / 6; r++)
         bits += row_of(answer, r).width;
     return bits;
 }
@@ -179,14 +234,14 @@ static size_t starts[NUMBERS];
 
 size_t plain_fresh_bits(const uint16_t *answer, size_t answer_len)
 {
-    return fresh_starts(answer, answer_len / 4, starts);
+    return fresh_starts(answer, answer_len / 6, starts);
 }
 
 unsigned plain_faults(const uint16_t *answer, size_t answer_len)
 {
-    size_t rows = answer_len / 4;
+    size_t rows = answer_len / 6;
     const bool holds[CLAUSES] = {
-        [WHOLE_ROWS] = answer_len % 4 == 0,
+        [WHOLE_ROWS] = answer_len % 6 == 0,
         [STARTS_AT_0] = starts_at_0(answer, rows),
         [STAYS_OR_RISES] = stays_or_rises(answer, rows),
         [UP_TO_63] = up_to_63(answer, rows),
@@ -198,6 +253,8 @@ unsigned plain_faults(const uint16_t *answer, size_t answer_len)
         [SEEN_WITH_WIDTH] = seen_with_width(answer, rows),
         [LOWEST_UNSEEN] = lowest_unseen(answer, rows),
         [ALL_UP_TO_4096] = plain_pattern_bits(answer, answer_len) <= 4096,
+        [RIGHT_HOME] = right_home(answer, rows),
+        [RIGHT_HIGH] = right_high(answer, rows),
     };
     unsigned faults = 0;
     for (unsigned i = 0; i < CLAUSES; i++)
@@ -220,8 +277,8 @@ lw_record plain_make_pattern(const uint16_t *answer, size_t answer_len, const ui
     if (pattern_len < bits)
         return (lw_record){.outcome = 32};
 
-    fresh_starts(answer, answer_len / 4, starts);
-    for (size_t r = 0; r < answer_len / 4; r++) {
+    fresh_starts(answer, answer_len / 6, starts);
+    for (size_t r = 0; r < answer_len / 6; r++) {
         row_numbers row = row_of(answer, r);
         for (size_t i = 0; i < row.width; i++)
             pattern[place++] = row.kind == FRESH ? fresh[starts[row.fresh] + i] : (uint8_t)row.kind;

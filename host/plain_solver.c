@@ -5,7 +5,7 @@
 #include <stdbool.h>
 #include <string.h>
 
-enum { VARIABLE = 0, FILL = 1, JOIN = 2, CUT = 3, EQUATION = 4, VALUE = 5 };
+enum { VARIABLE = 0, FILL = 1, JOIN = 2, CUT = 3, EQUATION = 4, VALUE = 5, VARIABLES = 64 };
 
 void plain_sources(const uint16_t *table, const ref_table *facts, uint16_t sources[][REF_WIDTH])
 {
@@ -100,12 +100,17 @@ static void note(uint16_t *beside, uint16_t other)
         *beside = MIXED;
 }
 
-/* Writes the answer table's rows; pieces, fresh and free go to the record. */
+/*
+  Writes the answer table's rows; pieces, fresh and free go to the record. A
+  class is its lowest bit, and a piece that appears again is tied to its first
+  appearance, so the class of a fresh piece's first bit is the home.
+*/
 static void make_answer(const uint16_t *class_of, const uint8_t *variable, size_t bits,
                         uint16_t *answer, lw_record *record)
 {
     static uint16_t next[PLAIN_SOURCES], before[PLAIN_SOURCES]; /* the class on the low and on the high side */
     static uint16_t number[PLAIN_SOURCES];                      /* of the fresh piece that begins with the class */
+    static size_t last_place[VARIABLES];                        /* of each variable: its bit 0 */
 
     for (size_t i = 0; i < PLAIN_SOURCES; i++)
         next[i] = before[i] = number[i] = UNKNOWN;
@@ -114,11 +119,13 @@ static void make_answer(const uint16_t *class_of, const uint8_t *variable, size_
         bool last = i + 1 == bits || variable[i + 1] != variable[i];
         note(&before[class_of[i]], first ? END : class_of[i - 1]);
         note(&next[class_of[i]], last ? END : class_of[i + 1]);
+        last_place[variable[i]] = i;
     }
 
     for (size_t from = 0, to; from < bits; from = to) {
-        uint16_t class = class_of[from], *row = answer + 4 * record->pieces++;
+        uint16_t class = class_of[from], *row = answer + 6 * record->pieces++;
         bool fixed = class < PLAIN_FIXED;
+        size_t home = fixed ? from : (size_t)class - PLAIN_FIXED;
         for (to = from + 1; to < bits && variable[to] == variable[from]; to++) /* the row's end */
             if (fixed ? class_of[to] != class
                       : class_of[to] < PLAIN_FIXED || next[class_of[to - 1]] != class_of[to] ||
@@ -132,6 +139,8 @@ static void make_answer(const uint16_t *class_of, const uint8_t *variable, size_
         row[1] = fixed ? class : 2;
         row[2] = (uint16_t)(to - from);
         row[3] = fixed ? 0 : number[class];
+        row[4] = variable[home];
+        row[5] = (uint16_t)(last_place[variable[home]] - home);
     }
 }
 

@@ -44,7 +44,7 @@ size_t plain_ties(const uint16_t *left, const uint16_t *right, size_t count, uin
 /*
   What lw_solve yields for an accepted table, whose facts are those of
   ref_check. For outcome 2, answer has the answer table's rows; there must be
-  room for 4 * bits numbers. Not reentrant.
+  room for 6 * bits numbers. Not reentrant.
 */
 lw_record plain_solve(const uint16_t *table, const ref_table *facts, uint16_t *answer);
 

@@ -37,10 +37,19 @@ static void print_values(lw_record r)
            r.outcome, r.pieces, r.fresh, r.free, r.ties, r.row);
 }
 
-static void print_rows(const uint16_t *numbers, size_t rows)
+/* The pieces of a normal form: kind, variable, high, low. */
+static void print_pieces(const uint16_t *n, size_t pieces)
 {
-    for (size_t i = 0; i < rows; i++, numbers += 4)
-        printf("%u %u %u %u\n", numbers[0], numbers[1], numbers[2], numbers[3]);
+    for (size_t i = 0; i < pieces; i++, n += 4)
+        printf("%u %u %u %u\n", n[0], n[1], n[2], n[3]);
+}
+
+/* The rows of an answer table. */
+static void print_answer(const uint16_t *n, size_t rows)
+{
+    printf("variable kind width fresh home high\n");
+    for (size_t i = 0; i < rows; i++, n += 6)
+        printf("%u %u %u %u %u %u\n", n[0], n[1], n[2], n[3], n[4], n[5]);
 }
 
 static void print_bits(const uint8_t *bits, size_t count)
@@ -59,7 +68,7 @@ static void print_forms(size_t numbers)
     for (size_t r = 0; r < numbers / 4; r++) {
         lw_record record = ref_normal_form(table, numbers, r, form, FORM_NUMBERS);
         print_values(record);
-        print_rows(form, record.pieces);
+        print_pieces(form, record.pieces);
     }
 }
 
@@ -88,7 +97,7 @@ static void print_patterns(void)
     for (size_t first = 0; first < 2; first++) {
         for (size_t i = 0; i < found.record.free; i++)
             fresh[i] = i % 2 == first;
-        lw_record record = plain_make_pattern(found.answer, 4 * found.record.pieces, fresh, found.record.free,
+        lw_record record = plain_make_pattern(found.answer, 6 * found.record.pieces, fresh, found.record.free,
                                               pattern, facts.bits);
         print_values(record);
         print_bits(pattern, record.free);
@@ -113,10 +122,8 @@ static bool print_sheet(size_t len, bool solve_only)
     print_values(record);
     if (record.outcome > SOLVED)
         return true;
-    if (record.outcome == SOLVED) {
-        printf("variable kind width fresh\n");
-        print_rows(found.answer, record.pieces);
-    }
+    if (record.outcome == SOLVED)
+        print_answer(found.answer, record.pieces);
     if (solve_only)
         return true;
     print_forms(numbers);

@@ -618,7 +618,7 @@ static inline classes classes_of(const uint16_t *answer, size_t rows)
     classes c = {0};
 
     for (size_t r = 0; r < rows; r++) {
-        const uint16_t *n = answer + 4 * r;
+        const uint16_t *n = answer + 6 * r;
         if (n[1] == LW_FRESH && !seen[n[3]]) {
             seen[n[3]] = true;
             first[n[3]] = c.bits;
@@ -670,7 +670,7 @@ static inline void note_answer(const enumeration *found, bool has[FEATURES])
 {
     for (size_t i = 0; i < found->record.pieces; i++)
         for (size_t j = 0; j < i; j++) {
-            const uint16_t *a = found->answer + 4 * i, *b = found->answer + 4 * j;
+            const uint16_t *a = found->answer + 6 * i, *b = found->answer + 6 * j;
             if (a[1] == LW_FRESH && b[1] == LW_FRESH && a[3] == b[3] && a[2] > 1) {
                 has[WIDE_TWICE] = true;
                 has[WIDE_TWICE_IN_ONE] |= a[0] == b[0];

@@ -16,7 +16,7 @@ enum { ROWS = 4096, LINE = LW_PAGE_BYTES / LW_PAGE_LINES };
 #define NAMES "  variable      kind     width     fresh\n"
 #define BLANK "                                        \n"
 
-static uint16_t numbers[4 * ROWS + 4];
+static uint16_t numbers[6 * ROWS + 6];
 
 /* The lines of a page that are written down here; blank lines follow. */
 static void check_lines(where at, lw_page_bytes page, const char *lines)
@@ -47,7 +47,7 @@ static void check_numbers(where at, lw_record record, const uint16_t *answer, si
 {
     static const size_t great[] = {
         (size_t)1 << 32, ((size_t)1 << 32) + 1, (size_t)1 << 63, SIZE_MAX, SIZE_MAX - 1,
-        SIZE_MAX / 59 - 1, SIZE_MAX / 59, SIZE_MAX / 59 + 1, SIZE_MAX / 60, SIZE_MAX / 41, SIZE_MAX / 4,
+        SIZE_MAX / 59 - 1, SIZE_MAX / 59, SIZE_MAX / 59 + 1, SIZE_MAX / 60, SIZE_MAX / 41, SIZE_MAX / 6, SIZE_MAX / 4,
     };
 
     for (size_t k = 0; k < plain_page_count(record, len) + 2; k++)
@@ -69,35 +69,39 @@ static void test_constants(void)
 /* Pages written down. */
 static void test_written(void)
 {
-    static const uint16_t answer[] = {0, 2, 1, 0, 0, 2, 2, 1, 0, 2, 2, 1, 0, 2, 2, 1, 0, 2, 1, 2};
-    static const uint16_t greatest[] = {65535, 65535, 65535, 65535, 0, 9, 10, 99, 100, 999, 1000, 9999, 10000, 1, 0, 7};
+    static const uint16_t answer[] = {
+        0, 2, 1, 0, 0, 7, 0, 2, 2, 1, 0, 6, 0, 2, 2, 1, 0, 6, 0, 2, 2, 1, 0, 6, 0, 2, 1, 2, 0, 0,
+    };
+    static const uint16_t greatest[] = { /* home and high are not printed, whatever they are */
+        65535, 65535, 65535, 65535, 65535, 65535, 0, 9, 10, 99, 7, 8, 100, 999, 1000, 9999, 0, 0, 10000, 1, 0, 7, 5, 65535,
+    };
     lw_record solved = {.outcome = LW_SOLVED, .pieces = 5, .fresh = 3, .free = 4, .ties = 4};
 
-    check_lines(HERE, lw_page(solved, answer, 20, 0),
+    check_lines(HERE, lw_page(solved, answer, 30, 0),
                 NAMES
                 "         0         2         1         0\n"
                 "         0         2         2         1\n"
                 "         0         2         2         1\n"
                 "         0         2         2         1\n"
                 "         0         2         1         2\n");
-    check_lines(HERE, lw_page(solved, answer, 20, 1), "");
-    check_lines(HERE, lw_page(solved, answer, 7, 0), NAMES "         0         2         1         0\n");
+    check_lines(HERE, lw_page(solved, answer, 30, 1), "");
+    check_lines(HERE, lw_page(solved, answer, 11, 0), NAMES "         0         2         1         0\n");
     check_lines(HERE, lw_page(solved, NULL, 0, 0), NAMES);
     check_lines(HERE, lw_page(solved, NULL, 0, 1), "");
-    check_lines(HERE, lw_page((lw_record){.outcome = LW_SOLVED}, answer, 20, 0), NAMES);
-    check_lines(HERE, lw_page((lw_record){.outcome = LW_SOLVED, .pieces = 4}, greatest, 16, 0),
+    check_lines(HERE, lw_page((lw_record){.outcome = LW_SOLVED}, answer, 30, 0), NAMES);
+    check_lines(HERE, lw_page((lw_record){.outcome = LW_SOLVED, .pieces = 4}, greatest, 24, 0),
                 NAMES
                 "     65535     65535     65535     65535\n"
                 "         0         9        10        99\n"
                 "       100       999      1000      9999\n"
                 "     10000         1         0         7\n");
-    check_lines(HERE, lw_page((lw_record){.outcome = LW_NEVER, .row = 6}, answer, 20, 0),
+    check_lines(HERE, lw_page((lw_record){.outcome = LW_NEVER, .row = 6}, answer, 30, 0),
                 NAMES "         1                              \n");
     check_lines(HERE, lw_page((lw_record){.outcome = 22, .row = 3}, NULL, 0, 0),
                 NAMES "        22                              \n");
     check_lines(HERE, lw_page((lw_record){.outcome = 4294967295}, NULL, 0, 0),
                 NAMES "4294967295                              \n");
-    check_lines(HERE, lw_page((lw_record){.outcome = 22, .pieces = 4096}, answer, 20, 1), "");
+    check_lines(HERE, lw_page((lw_record){.outcome = 22, .pieces = 4096}, answer, 30, 1), "");
 }
 
 /* Each number of pieces at the edge of a page, with as many rows lent, fewer and more, also not whole ones. */
@@ -107,13 +111,27 @@ static void test_pieces(void)
 
     for (size_t i = 0; i < COUNT(pieces); i++) {
         lw_record record = {.outcome = LW_SOLVED, .pieces = pieces[i], .fresh = 1, .free = 1, .ties = 1, .row = 1};
-        for (size_t more = 0; more < 4; more++) {
-            check_numbers(HERE, record, numbers, 4 * pieces[i] + more);
+        for (size_t more = 0; more < 6; more++) {
+            check_numbers(HERE, record, numbers, 6 * pieces[i] + more);
             if (pieces[i] != 0)
-                check_numbers(HERE, record, numbers, 4 * pieces[i] - 1 - more);
+                check_numbers(HERE, record, numbers, 6 * pieces[i] - 1 - more);
         }
         for (size_t j = 0; j < COUNT(pieces); j++)
-            check_numbers(HERE, record, numbers, 4 * pieces[j]);
+            check_numbers(HERE, record, numbers, 6 * pieces[j]);
+    }
+}
+
+/* A page is the same whatever home and high are. */
+static void test_homes(void)
+{
+    static uint16_t other[COUNT(numbers)];
+    lw_record record = {.outcome = LW_SOLVED, .pieces = ROWS};
+
+    for (size_t n = 0; n < COUNT(numbers); n++)
+        other[n] = (uint16_t)(n % 6 < 4 ? numbers[n] : random_number());
+    for (size_t k = 0; k < plain_page_count(record, COUNT(numbers)); k++) {
+        lw_page_bytes a = lw_page(record, numbers, COUNT(numbers), k), b = lw_page(record, other, COUNT(numbers), k);
+        check(memcmp(&a, &b, sizeof a) == 0, HERE, "page %zu is another by home or high", k);
     }
 }
 
@@ -154,7 +172,7 @@ static uint32_t random_field(void)
 
 static void test_random(unsigned long inputs)
 {
-    static uint16_t answer[4 * 300];
+    static uint16_t answer[6 * 300];
 
     for (unsigned long i = 0; i < inputs; i++) {
         size_t len = below(COUNT(answer) + 1);
@@ -179,6 +197,11 @@ static void all_pieces(void)
     test_all(test_pieces);
 }
 
+static void all_homes(void)
+{
+    test_all(test_homes);
+}
+
 static void all_outcomes(void)
 {
     test_all(test_outcomes);
@@ -190,6 +213,7 @@ const test_list tests = {
         {.name = "the header's constants", .run = test_constants},
         {.name = "pages written down", .run = test_written},
         {.name = "pieces at the edges of pages", .run = all_pieces},
+        {.name = "home and high", .run = all_homes},
         {.name = "outcomes", .run = all_outcomes},
         {.name = "NULL with length 0", .run = test_null},
         {.name = "random records and tables", .run_random = test_random},

@@ -30,16 +30,27 @@ void put(answer_table *a, size_t variable, size_t kind, size_t width, size_t fre
     a->len += 4;
 }
 
+void put_six(answer_table *a, size_t variable, size_t kind, size_t width, size_t fresh)
+{
+    put(a, variable, kind, width, fresh);
+    a->len += 2;
+}
+
+void close_rows(answer_table *a)
+{
+    set_homes(a->numbers, a->len / 6);
+}
+
 /* Calls and what they are compared with. */
 
 static const lw_record refused_33 = {.outcome = 33}, refused_34 = {.outcome = 34}, refused_32 = {.outcome = 32};
 
 void print_answer(const uint16_t *answer, size_t len)
 {
-    printf("  variable kind width fresh, %zu numbers:", len);
-    for (size_t i = 0; i < len && i < 96; i++)
-        printf("%s%u%s", i % 4 == 0 ? " (" : " ", answer[i], i % 4 == 3 ? ")" : "");
-    printf("%s\n", len > 96 ? " .." : "");
+    printf("  variable kind width fresh home high, %zu numbers:", len);
+    for (size_t i = 0; i < len && i < 144; i++)
+        printf("%s%u%s", i % 6 == 0 ? " (" : " ", answer[i], i % 6 == 5 ? ")" : "");
+    printf("%s\n", len > 144 ? " .." : "");
 }
 
 void call(where at, const char *name, const uint16_t *answer, size_t len, const uint8_t *fresh, size_t fresh_len,
@@ -105,12 +116,12 @@ static void refuse_fresh(where at, const uint16_t *answer, size_t len, const uin
 }
 
 /*
-  The answer table gives this pattern with these fresh bytes: in an output of
-  exactly its length and in longer ones, whatever stands there before. Other
-  fresh bytes are refused 34, a shorter output is refused 32.
+  The answer table, rows of six numbers, gives this pattern with these fresh
+  bytes: in an output of exactly its length and in longer ones, whatever stands
+  there before. Other fresh bytes are refused 34, a shorter output is refused 32.
 */
-static void accept(where at, const uint16_t *answer, size_t len, const uint8_t *fresh, size_t fresh_len,
-                   const uint8_t *pattern, size_t bits)
+static void accept_rows(where at, const uint16_t *answer, size_t len, const uint8_t *fresh, size_t fresh_len,
+                        const uint8_t *pattern, size_t bits)
 {
     static uint8_t content[LONG];
     static const uint8_t likes[] = {0, 1, 2, 255};
@@ -138,11 +149,12 @@ static void accept(where at, const uint16_t *answer, size_t len, const uint8_t *
 }
 
 /*
-  The answer table breaks these clauses of the form and no others. It is refused
-  33, with as many fresh bytes as it seems to have fresh bits and as much output
-  as it seems to need; and so it is with other fresh bytes and other outputs.
+  The answer table, rows of six numbers, breaks these clauses of the form and no
+  others. It is refused 33, with as many fresh bytes as it seems to have fresh
+  bits and as much output as it seems to need; and so it is with other fresh
+  bytes and other outputs.
 */
-static void refuse_form(where at, unsigned clauses, const uint16_t *answer, size_t len)
+static void refuse_rows(where at, unsigned clauses, const uint16_t *answer, size_t len)
 {
     size_t fresh = plain_fresh_bits(answer, len), bits = plain_pattern_bits(answer, len);
     unsigned faults = plain_faults(answer, len);
@@ -163,16 +175,38 @@ static void refuse_form(where at, unsigned clauses, const uint16_t *answer, size
         }
 }
 
-#define ACCEPT(...)        accept(HERE, __VA_ARGS__)
-#define REFUSE_FORM(...)   refuse_form(HERE, __VA_ARGS__)
 #define BROKEN(clause)     (1U << (clause))
+
+/* The same of answer tables that are written down by the first four numbers of their rows. */
+
+enum { MANY_ROWS = 65538 };
+static uint16_t six[6 * MANY_ROWS];
+
+static void accept(where at, const uint16_t *four, size_t len, const uint8_t *fresh, size_t fresh_len,
+                   const uint8_t *pattern, size_t bits)
+{
+    add_homes(four, len / 4, six);
+    accept_rows(at, six, len / 4 * 6, fresh, fresh_len, pattern, bits);
+}
+
+/* Where a high bit is no 16-bit number, it cannot be right. */
+static void refuse_form(where at, unsigned clauses, const uint16_t *four, size_t len)
+{
+    bool fits = add_homes(four, len / 4, six);
+    refuse_rows(at, fits ? clauses : clauses | BROKEN(RIGHT_HIGH), six, len / 4 * 6);
+}
+
+#define ACCEPT(...)        accept(HERE, __VA_ARGS__)
+#define ACCEPT_ROWS(...)   accept_rows(HERE, __VA_ARGS__)
+#define REFUSE_FORM(...)   refuse_form(HERE, __VA_ARGS__)
+#define REFUSE_ROWS(...)   refuse_rows(HERE, __VA_ARGS__)
 
 /* The header's numbers are those of the specification. */
 static void test_constants(void)
 {
     static const constant constants[] = {
         CONSTANT(LW_ACCEPTED, 0), CONSTANT(LW_FRESH, 2), CONSTANT(LW_REFUSED_OUTPUT, 32),
-        CONSTANT(LW_REFUSED_ANSWER, 33), CONSTANT(LW_REFUSED_FRESH, 34), CONSTANT(LW_ANSWER_ROW_NUMBERS, 4),
+        CONSTANT(LW_REFUSED_ANSWER, 33), CONSTANT(LW_REFUSED_FRESH, 34), CONSTANT(LW_ANSWER_ROW_NUMBERS, 6),
         CONSTANT(LW_MAX_WIDTH, 1024), CONSTANT(LW_MAX_VARIABLES, 64), CONSTANT(LW_MAX_VARIABLE_BITS, 4096),
     };
     check_constants(HERE, constants, COUNT(constants));
@@ -372,7 +406,7 @@ static void test_variables_and_kinds(void)
 static void test_widths(void)
 {
     static answer_table a;
-    static uint16_t many[4 * 65538];
+    static uint16_t many[4 * MANY_ROWS];
     unsigned variable = BROKEN(VARIABLE_UP_TO_1024), all = BROKEN(ALL_UP_TO_4096);
 
     /* A width of 0. */
@@ -447,15 +481,16 @@ static void test_widths(void)
         put(&a, ONES(v, v == 0 ? 1025 : 1024)); /* 65,537 in all */
     REFUSE_FORM(variable | all, ALL(a));
 
-    /* 65,536 numbers, and 2 to the 32 bits in 65,538 rows. */
-    for (size_t r = 0; r < 65538; r++)
+    /* 65,538 numbers, as many rows as that, and 2 to the 32 bits in them; and 65,536 bits in one variable. */
+    for (size_t r = 0; r < MANY_ROWS; r++)
         memcpy(many + 4 * r, (const uint16_t[]){0, r % 2, r < 65537 ? 65535 : 1, 0}, 8);
-    REFUSE_FORM(variable | all, many, 65536);
-    REFUSE_FORM(variable | all, many, 4 * 65538);
-    for (size_t r = 0; r < 65538; r++)
+    REFUSE_FORM(variable | all, many, 4 * 10923);
+    REFUSE_FORM(variable | all, many, 4 * MANY_ROWS);
+    for (size_t r = 0; r < MANY_ROWS; r++)
         many[4 * r + 2] = 1;
-    REFUSE_FORM(variable | all, many, 65536);
+    REFUSE_FORM(variable | all, many, 4 * 10923);
     REFUSE_FORM(variable | all, many, 4 * 65536);
+    REFUSE_FORM(variable | all, many, 4 * 65537);
 }
 
 /* Refusal 33: fills and fresh numbers. */
@@ -513,41 +548,173 @@ static void test_fills_and_fresh(void)
     }
 }
 
+/* Refusal 33: home and high. */
+
+/* Row r has this home and this high in place of its own, where they are others; then it has its own again. */
+static void change(where at, answer_table *a, size_t r, size_t home, size_t high)
+{
+    uint16_t *n = a->numbers + 6 * r, kept[] = {n[4], n[5]};
+    n[4] = (uint16_t)home, n[5] = (uint16_t)high;
+    unsigned wrong = (n[4] != kept[0] ? BROKEN(RIGHT_HOME) : 0) | (n[5] != kept[1] ? BROKEN(RIGHT_HIGH) : 0);
+    if (wrong != 0)
+        refuse_rows(at, wrong, ALL(*a));
+    n[4] = kept[0], n[5] = kept[1];
+}
+
+/* An answer table of the form, by the first four numbers of its rows: each row's home and high changed, in many ways. */
+static void refuse_changed(where at, const uint16_t *four, size_t len)
+{
+    static answer_table a;
+    size_t rows = len / 4;
+
+    a.len = 6 * rows;
+    add_homes(four, rows, a.numbers);
+    check(plain_faults(ALL(a)) == 0, at, "not of the form");
+    for (size_t r = 0; r < rows; r++) {
+        const uint16_t *n = a.numbers + 6 * r;
+        size_t home = n[4], high = n[5];
+        change(at, &a, r, home + 1, high);
+        change(at, &a, r, home - 1, high); /* 65,535 for 0 */
+        change(at, &a, r, home, high + 1);
+        change(at, &a, r, home, high - 1);
+        change(at, &a, r, home + 256, high);
+        change(at, &a, r, home, high + 1024);
+        change(at, &a, r, high, home);
+        change(at, &a, r, home, high + 1U - n[2]); /* its lowest bit */
+        for (size_t i = 0; i < rows; i++) {        /* taken from another row, from fills too; and a row's own place */
+            change(at, &a, r, a.numbers[6 * i + 4], a.numbers[6 * i + 5]);
+            change(at, &a, r, a.numbers[6 * i], high);
+            change(at, &a, r, a.numbers[6 * i], a.numbers[6 * i + 5]);
+        }
+    }
+}
+
+/* A table of the form whose last row is followed by a row of the same variable: all highs of the variable are wrong. */
+static void refuse_longer(where at, const uint16_t *four, size_t len)
+{
+    static answer_table a;
+    size_t rows = len / 4, fresh = 0;
+
+    a.len = 6 * rows;
+    add_homes(four, rows, a.numbers);
+    for (size_t r = 0; r < rows; r++)
+        fresh += four[4 * r + 1] == LW_FRESH && four[4 * r + 3] == fresh;
+    size_t last = four[4 * rows - 4], bit = four[4 * rows - 3] == 0;
+    put(&a, FRESH(last, 1, fresh));
+    a.numbers[a.len++] = (uint16_t)last, a.numbers[a.len++] = 0;
+    REFUSE_ROWS(BROKEN(RIGHT_HIGH), ALL(a));
+    a.len -= 6;
+    put(&a, last, bit, 3, 0);
+    a.numbers[a.len++] = (uint16_t)last, a.numbers[a.len++] = 2;
+    REFUSE_ROWS(BROKEN(RIGHT_HIGH), ALL(a));
+    a.len -= 6;
+    put(&a, FRESH(last + 1, 1, fresh)); /* but a row of the next variable does no harm */
+    a.numbers[a.len++] = (uint16_t)(last + 1), a.numbers[a.len++] = 0;
+    check(plain_faults(ALL(a)) == 0, at, "not of the form");
+    a.numbers[a.len - 1] = 1;
+    REFUSE_ROWS(BROKEN(RIGHT_HIGH), ALL(a));
+}
+
+static void test_homes(void)
+{
+    static const uint16_t one[] = {FRESH(0, 1, 0)}, again[] = {FRESH(0, 1, 0), FRESH(0, 1, 0)};
+    static const uint16_t twice[] = {FRESH(0, 3, 0), ONES(0, 2), FRESH(0, 3, 0)};
+    static const uint16_t case_1[] = {FRESH(0, 1, 0), FRESH(0, 2, 1), FRESH(0, 2, 1), FRESH(0, 2, 1), FRESH(0, 1, 2)};
+    static const uint16_t fill_first[] = {ONES(0, 2), FRESH(0, 3, 0), FRESH(1, 3, 0), ONES(1, 1), ZEROS(2, 4)};
+    static const uint16_t fills[] = {ZEROS(0, 2), ONES(0, 1), ZEROS(0, 2), ZEROS(1, 3), ONES(1, 2), ONES(2, 2)};
+    static const uint16_t three[] = {
+        FRESH(0, 2, 0), FRESH(0, 4, 1), ZEROS(0, 1), FRESH(1, 4, 1), FRESH(1, 1, 2), FRESH(2, 1, 2), FRESH(2, 2, 0),
+        FRESH(2, 4, 1), ONES(2, 3), FRESH(3, 5, 3),
+    };
+    static const struct { const uint16_t *four; size_t len; } tables[] = {
+        {one, COUNT(one)}, {again, COUNT(again)}, {twice, COUNT(twice)}, {case_1, COUNT(case_1)},
+        {fill_first, COUNT(fill_first)}, {fills, COUNT(fills)}, {three, COUNT(three)},
+    };
+    static answer_table a;
+
+    for (size_t i = 0; i < COUNT(tables); i++) {
+        refuse_changed(HERE, tables[i].four, tables[i].len);
+        refuse_longer(HERE, tables[i].four, tables[i].len);
+    }
+
+    /* Worked by hand: fine alone, and wrong where the variable goes on. */
+    ACCEPT_ROWS(ANSWER(FRESH_AT(0, 1, 0, 0, 0)), BYTES(1), BYTES(1));
+    REFUSE_ROWS(BROKEN(RIGHT_HIGH), ANSWER(FRESH_AT(0, 1, 0, 0, 0), ONES_AT(0, 1, 0)));
+    ACCEPT_ROWS(ANSWER(FRESH_AT(0, 1, 0, 0, 1), ONES_AT(0, 1, 0)), BYTES(0), BYTES(0, 1));
+
+    /* A second appearance names the first place, and not its own. */
+    ACCEPT_ROWS(ANSWER(FRESH_AT(0, 2, 0, 0, 3), FRESH_AT(0, 2, 0, 0, 3)), BYTES(1, 0), BYTES(1, 0, 1, 0));
+    REFUSE_ROWS(BROKEN(RIGHT_HIGH), ANSWER(FRESH_AT(0, 2, 0, 0, 3), FRESH_AT(0, 2, 0, 0, 1)));
+    ACCEPT_ROWS(ANSWER(FRESH_AT(0, 2, 0, 0, 1), FRESH_AT(1, 2, 0, 0, 1)), BYTES(1, 0), BYTES(1, 0, 1, 0));
+    REFUSE_ROWS(BROKEN(RIGHT_HOME), ANSWER(FRESH_AT(0, 2, 0, 0, 1), FRESH_AT(1, 2, 0, 1, 1)));
+
+    /* A fill names its own place, and not that of the first fill of its bit; nor is it the home of fresh piece 0. */
+    ACCEPT_ROWS(ANSWER(ONES_AT(0, 2, 1), ONES_AT(1, 2, 1)), NO_BITS, BYTES(1, 1, 1, 1));
+    REFUSE_ROWS(BROKEN(RIGHT_HOME), ANSWER(ONES_AT(0, 2, 1), ONES(1, 2), 0, 1));
+    ACCEPT_ROWS(ANSWER(ONES_AT(0, 1, 1), FRESH_AT(0, 1, 0, 0, 0)), BYTES(0), BYTES(1, 0));
+    REFUSE_ROWS(BROKEN(RIGHT_HIGH), ANSWER(ONES_AT(0, 1, 1), FRESH_AT(0, 1, 0, 0, 1)));
+    ACCEPT_ROWS(ANSWER(ONES_AT(0, 1, 0), FRESH_AT(1, 1, 0, 1, 0)), BYTES(0), BYTES(1, 0));
+    REFUSE_ROWS(BROKEN(RIGHT_HOME), ANSWER(ONES_AT(0, 1, 0), FRESH_AT(1, 1, 0, 0, 0)));
+
+    /* Home and high exchanged; high counted from the high end. */
+    REFUSE_ROWS(BROKEN(RIGHT_HOME) | BROKEN(RIGHT_HIGH), ANSWER(FRESH_AT(0, 3, 0, 2, 0)));
+    REFUSE_ROWS(BROKEN(RIGHT_HIGH), ANSWER(FRESH_AT(0, 3, 0, 0, 0), FRESH_AT(0, 2, 1, 0, 3)));
+
+    /* 4,096 rows of one bit: right up to some row, and wrong there, at both ends of the table and of each variable. */
+    for (size_t at = 0; at < BITS; at += at % 1024 < 2 || at % 1024 >= 1022 ? 1 : 255) {
+        a.len = 0;
+        for (size_t i = 0; i < BITS; i++)
+            put_six(&a, FRESH(i / 1024, 1, i % 2048));
+        close_rows(&a);
+        change(HERE, &a, at, a.numbers[6 * at + 4] + 1U, a.numbers[6 * at + 5]);
+        change(HERE, &a, at, a.numbers[6 * at + 4], a.numbers[6 * at + 5] + 1U);
+        change(HERE, &a, at, at / 1024, 1023 - at % 1024); /* its own place, where that is not home */
+    }
+}
+
 /* Refusal 33: numbers that are not whole rows, though the whole rows are of the form. */
 static void test_whole_rows(void)
 {
-    static const uint16_t rows[] = {FRESH(0, 1, 0), ZEROS(0, 2), FRESH(0, 1, 1), FRESH(0, 1, 0)};
     static answer_table a;
 
-    for (size_t len = 1; len < 16; len++)
-        if (len % 4 != 0)
-            REFUSE_FORM(BROKEN(WHOLE_ROWS), rows, len);
-    for (size_t more = 0; more < 4; more++) { /* behind 4,095 rows */
+    for (size_t rows = 0; rows < 5; rows++) { /* and so many numbers more, which are those of a row */
         a.len = 0;
-        for (size_t i = 0; i < BITS; i++)
-            put(&a, i / 1024, i % 2, 1, 0);
-        a.len -= more;
-        if (more != 0)
-            REFUSE_FORM(BROKEN(WHOLE_ROWS), ALL(a));
+        for (size_t i = 0; i <= rows; i++)
+            put_six(&a, ONES(i, 2));
+        close_rows(&a);
+        for (size_t more = 1; more < 6; more++)
+            REFUSE_ROWS(BROKEN(WHOLE_ROWS), a.numbers, 6 * rows + more);
     }
-    for (size_t more = 1; more < 4; more++) { /* behind 4,096 rows: 16,384 numbers and a few */
-        a.len = 0;
-        for (size_t i = 0; i < BITS + 1; i++)
-            put(&a, i / 1024, i % 2, 1, 0);
-        a.len -= 4 - more;
-        REFUSE_FORM(BROKEN(WHOLE_ROWS), ALL(a));
-    }
+    REFUSE_ROWS(BROKEN(WHOLE_ROWS), ANSWER(FRESH(0, 1, 0))); /* four numbers were a row */
+    REFUSE_ROWS(BROKEN(WHOLE_ROWS), ANSWER(ONES_AT(0, 1, 0), ONES(1, 1)));
+
+    /* Behind 4,095 rows, and behind 4,096: 24,576 numbers and a few. */
+    for (size_t rows = BITS; rows <= BITS + 1; rows++)
+        for (size_t less = 1; less < 6; less++) {
+            a.len = 0;
+            for (size_t i = 0; i < rows; i++)
+                put_six(&a, i / 1024, i % 2, 1, 0);
+            set_homes(a.numbers, rows - 1);
+            a.len -= less;
+            REFUSE_ROWS(BROKEN(WHOLE_ROWS), ALL(a));
+        }
 }
 
 /* 33 before 34 before 32, each alone and in pairs. */
 static void test_order(void)
 {
-    static const uint16_t good[] = {FRESH(0, 2, 0), ONES(1, 1), FRESH(1, 2, 0)};
-    static const uint16_t bad[][12] = {
-        {FRESH(1, 2, 0), ONES(1, 1), FRESH(1, 2, 0)}, {FRESH(0, 2, 0), ONES(2, 1), FRESH(2, 2, 0)},
-        {FRESH(0, 2, 0), 1, 3, 1, 0, FRESH(1, 2, 0)}, {FRESH(0, 2, 0), ONES(1, 0), FRESH(1, 2, 0)},
-        {FRESH(0, 2, 0), 1, 1, 1, 1, FRESH(1, 2, 0)}, {FRESH(0, 2, 0), ONES(1, 1), FRESH(1, 1, 0)},
-        {FRESH(0, 2, 0), ONES(1, 1), FRESH(1, 2, 2)}, {FRESH(0, 2, 0), ONES(1, 1), ONES(1, 2)},
+    static const uint16_t good[] = {FRESH_AT(0, 2, 0, 0, 1), ONES_AT(1, 1, 2), FRESH_AT(1, 2, 0, 0, 1)};
+    static const uint16_t bad[][18] = {
+        {FRESH_AT(1, 2, 0, 1, 4), ONES_AT(1, 1, 2), FRESH_AT(1, 2, 0, 1, 4)},
+        {FRESH_AT(0, 2, 0, 0, 1), ONES_AT(2, 1, 2), FRESH_AT(2, 2, 0, 0, 1)},
+        {FRESH_AT(0, 2, 0, 0, 1), 1, 3, 1, 0, 1, 2, FRESH_AT(1, 2, 0, 0, 1)},
+        {FRESH_AT(0, 2, 0, 0, 1), ONES_AT(1, 0, 1), FRESH_AT(1, 2, 0, 0, 1)},
+        {FRESH_AT(0, 2, 0, 0, 1), 1, 1, 1, 1, 1, 2, FRESH_AT(1, 2, 0, 0, 1)},
+        {FRESH_AT(0, 2, 0, 0, 1), ONES_AT(1, 1, 1), FRESH_AT(1, 1, 0, 0, 1)},
+        {FRESH_AT(0, 2, 0, 0, 1), ONES_AT(1, 1, 2), FRESH_AT(1, 2, 2, 1, 1)},
+        {FRESH_AT(0, 2, 0, 0, 1), ONES_AT(1, 1, 2), ONES_AT(1, 2, 1)},
+        {FRESH_AT(0, 2, 0, 0, 1), ONES_AT(1, 1, 2), FRESH_AT(1, 2, 0, 1, 1)},
+        {FRESH_AT(0, 2, 0, 0, 1), ONES_AT(1, 1, 0), FRESH_AT(1, 2, 0, 0, 1)},
     };
     static const struct { uint8_t bytes[3]; size_t len; bool right; } fresh[] = {
         {{1, 0, 0}, 2, true}, {{1, 0, 0}, 1, false}, {{1, 0, 0}, 3, false}, {{1, 0, 0}, 0, false},
@@ -560,7 +727,7 @@ static void test_order(void)
         for (size_t f = 0; f < COUNT(fresh); f++)
             for (size_t out = 0; out <= 7; out++) {
                 const uint16_t *answer = t < 2 ? good : bad[t - 2];
-                size_t len = t == 1 ? 11 : 12;
+                size_t len = t == 1 ? 17 : 18;
                 bool form = t == 0, room = out >= 5;
                 lw_record want = !form ? refused_33 : !fresh[f].right ? refused_34 : !room ? refused_32
                                                                       : (lw_record){.free = 5};
@@ -574,7 +741,7 @@ static void test_order(void)
 /* NULL with length 0 for each buffer. */
 static void test_null(void)
 {
-    static const uint16_t ones[] = {ONES(0, 2)}, piece[] = {FRESH(0, 2, 0)};
+    static const uint16_t ones[] = {ONES_AT(0, 2, 1)}, piece[] = {FRESH_AT(0, 2, 0, 0, 1)};
     static const uint8_t bits[] = {1, 0};
     uint8_t pattern[] = {9, 9, 9};
     lw_record nothing = {0};
@@ -584,14 +751,14 @@ static void test_null(void)
     check_record(HERE, "answer NULL, fresh bytes", lw_make_pattern(NULL, 0, bits, 2, pattern, 3), refused_34);
     check_record(HERE, "answer NULL, fresh bytes, pattern NULL", lw_make_pattern(NULL, 0, bits, 1, NULL, 0),
                  refused_34);
-    check_record(HERE, "fresh NULL, fresh bits", lw_make_pattern(piece, 4, NULL, 0, pattern, 3), refused_34);
-    check_record(HERE, "fresh NULL, pattern NULL", lw_make_pattern(piece, 4, NULL, 0, NULL, 0), refused_34);
-    check_record(HERE, "pattern NULL", lw_make_pattern(piece, 4, bits, 2, NULL, 0), refused_32);
-    check_record(HERE, "fill, both NULL", lw_make_pattern(ones, 4, NULL, 0, NULL, 0), refused_32);
-    check_record(HERE, "not whole rows, both NULL", lw_make_pattern(ones, 3, NULL, 0, NULL, 0), refused_33);
+    check_record(HERE, "fresh NULL, fresh bits", lw_make_pattern(piece, 6, NULL, 0, pattern, 3), refused_34);
+    check_record(HERE, "fresh NULL, pattern NULL", lw_make_pattern(piece, 6, NULL, 0, NULL, 0), refused_34);
+    check_record(HERE, "pattern NULL", lw_make_pattern(piece, 6, bits, 2, NULL, 0), refused_32);
+    check_record(HERE, "fill, both NULL", lw_make_pattern(ones, 6, NULL, 0, NULL, 0), refused_32);
+    check_record(HERE, "not whole rows, both NULL", lw_make_pattern(ones, 4, NULL, 0, NULL, 0), refused_33);
     check(pattern[0] == 9 && pattern[1] == 9 && pattern[2] == 9, HERE,
           "output written by a refusal or by an empty pattern");
-    check_record(HERE, "fill, fresh NULL", lw_make_pattern(ones, 4, NULL, 0, pattern, 3), (lw_record){.free = 2});
+    check_record(HERE, "fill, fresh NULL", lw_make_pattern(ones, 6, NULL, 0, pattern, 3), (lw_record){.free = 2});
     check(pattern[0] == 1 && pattern[1] == 1 && pattern[2] == 9, HERE, "output of a fill");
 }
 
@@ -605,6 +772,7 @@ const test_list tests = {
         {.name = "33: variables, kinds", .run = test_variables_and_kinds},
         {.name = "33: widths", .run = test_widths},
         {.name = "33: fills, fresh numbers", .run = test_fills_and_fresh},
+        {.name = "33: home, high", .run = test_homes},
         {.name = "33: not whole rows", .run = test_whole_rows},
         {.name = "the order 33, 34, 32", .run = test_order},
         {.name = "NULL with length 0", .run = test_null},

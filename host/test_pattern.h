@@ -14,11 +14,14 @@ enum {
 
 /* An answer table that grows; there is room for a few rows more than are allowed. */
 typedef struct {
-    uint16_t numbers[4 * (BITS + 8)];
+    uint16_t numbers[6 * (BITS + 8)];
     size_t len;
 } answer_table;
 
+/* Adds a row of four numbers, or a row of six by its first four; close_rows then puts home and high into all rows. */
 void put(answer_table *a, size_t variable, size_t kind, size_t width, size_t fresh);
+void put_six(answer_table *a, size_t variable, size_t kind, size_t width, size_t fresh);
+void close_rows(answer_table *a);
 
 void print_answer(const uint16_t *answer, size_t len);
 

@@ -35,7 +35,7 @@ static void add_right_side(answer_draft *d, size_t variable, size_t bits, size_t
         size_t width = 1 + below(bits < widest ? bits : widest), number = NONE_SEEN;
         if (one_in(fills)) {
             last = last == 2 ? below(2) : 1 - last;
-            put(&d->a, variable, last, width, 0);
+            put_six(&d->a, variable, last, width, 0);
         } else {
             if (one_in(again))
                 number = seen_piece(d, bits);
@@ -45,7 +45,7 @@ static void add_right_side(answer_draft *d, size_t variable, size_t bits, size_t
             }
             width = d->width[number];
             last = 2;
-            put(&d->a, FRESH(variable, width, number));
+            put_six(&d->a, FRESH(variable, width, number));
         }
         bits -= width;
         d->bits += width;
@@ -66,28 +66,57 @@ static void make_answer(answer_draft *d)
         size_t bits = each != 0 ? each : one_in(40) ? 1024 : 1 + below(most), room = BITS - d->bits;
         add_right_side(d, v, bits < room ? bits : room, widest, fills, again);
     }
+    close_rows(&d->a);
 }
 
-/* Changes one number, or the length by fewer than a row. */
-static void damage_answer(answer_table *a)
+/*
+  Changes one number, or the length by fewer than a row. Homes and highs are then
+  those of the changed rows in half of the tables, so that it alone is wrong.
+*/
+static void change_number(answer_table *a)
 {
-    size_t rows = a->len / 4, r, column;
+    size_t rows = a->len / 6, r, column;
     if (rows == 0 || one_in(16)) {
-        put(a, one_in(2) ? 0 : 63, below(3), 1, below(2)); /* one to three numbers of a row more */
-        a->len -= 1 + below(3);
+        put_six(a, one_in(2) ? 0 : 63, below(3), 1, below(2)); /* one to five numbers of a row more */
+        a->len -= 1 + below(5);
         return;
     }
     r = one_in(4) ? rows - 1 : one_in(4) ? 0 : below(rows);
-    column = below(4);
-    uint16_t *n = a->numbers + 4 * r + column;
+    column = below(6);
+    uint16_t *n = a->numbers + 6 * r + column;
     switch (below(6)) {
     case 0:  *n = (uint16_t)(*n + 1U); break;
     case 1:  *n = (uint16_t)(*n - 1U); break;
-    case 2:  *n = a->numbers[4 * below(rows) + column]; break;
+    case 2:  *n = a->numbers[6 * below(rows) + column]; break;
     case 3:  *n = (uint16_t)below(4); break;
     case 4:  *n = (uint16_t)(*n + 256 * (1 + below(255))); break;
     default: *n = (uint16_t)below(65536); break;
     }
+    if (column < 4 && one_in(2))
+        close_rows(a);
+}
+
+/* Takes a row's last two numbers, home and high, from another row, or exchanges them. */
+static void change_home(answer_table *a)
+{
+    size_t rows = a->len / 6;
+    if (rows == 0)
+        return;
+    uint16_t *n = a->numbers + 6 * below(rows), *other = a->numbers + 6 * below(rows), home = n[4];
+    if (one_in(4)) {
+        n[4] = n[5];
+        n[5] = home;
+    } else {
+        memcpy(n + 4, other + 4, 2 * sizeof *n);
+    }
+}
+
+static void damage_answer(answer_table *a)
+{
+    if (one_in(8))
+        change_home(a);
+    else
+        change_number(a);
 }
 
 /* What occurs in the answer tables that are accepted. */
@@ -110,12 +139,12 @@ static const char *const feature_names[FEATURES] = {
 static bool could_be_one(const uint16_t *answer, size_t rows, size_t first, size_t second)
 {
     for (size_t r = 0; r < rows; r++) {
-        const uint16_t *n = answer + 4 * r;
+        const uint16_t *n = answer + 6 * r, *next = n + 6, *before = n - 6;
         if (n[1] != LW_FRESH)
             continue;
-        if (n[3] == first && !(r + 1 < rows && n[4] == n[0] && n[5] == LW_FRESH && n[7] == second))
+        if (n[3] == first && !(r + 1 < rows && next[0] == n[0] && next[1] == LW_FRESH && next[3] == second))
             return false;
-        if (n[3] == second && !(r != 0 && n[-4] == n[0] && n[-3] == LW_FRESH && n[-1] == first))
+        if (n[3] == second && !(r != 0 && before[0] == n[0] && before[1] == LW_FRESH && before[3] == first))
             return false;
     }
     return true;
@@ -125,23 +154,23 @@ static void note_features(const uint16_t *answer, size_t rows, bool has[FEATURES
 {
     static size_t last_row[BITS]; /* of each fresh piece seen: its last row so far */
     size_t seen = 0, bits = 0, own = 0, fills = 0, of_width_1 = 0;
-    size_t variables = rows == 0 ? 0 : answer[4 * rows - 4] + 1U;
+    size_t variables = rows == 0 ? 0 : answer[6 * rows - 6] + 1U;
     bool old = false, compared = false;
 
     for (size_t r = 0; r < rows; r++) {
-        const uint16_t *n = answer + 4 * r;
-        bool stays = r != 0 && n[-4] == n[0], fresh = n[1] == LW_FRESH;
+        const uint16_t *n = answer + 6 * r, *above = r == 0 ? n : n - 6;
+        bool stays = r != 0 && above[0] == n[0], fresh = n[1] == LW_FRESH;
         bits += n[2];
         own = stays ? own + n[2] : n[2];
         of_width_1 += n[2] == 1;
         fills += !fresh;
         has[VARIABLE_63] |= n[0] == 63;
         has[FULL_VARIABLE] |= own == 1024;
-        has[FILLS_BESIDE] |= stays && !fresh && n[-3] != LW_FRESH;
-        has[FILLS_OVER_END] |= r != 0 && !stays && !fresh && n[-3] == n[1];
+        has[FILLS_BESIDE] |= stays && !fresh && above[1] != LW_FRESH;
+        has[FILLS_OVER_END] |= r != 0 && !stays && !fresh && above[1] == n[1];
         if (fresh && n[3] == seen) {
-            if (r != 0 && stays && n[-3] == LW_FRESH && !compared && rows < 200) {
-                has[COULD_BE_ONE] |= could_be_one(answer, rows, n[-1], n[3]);
+            if (r != 0 && stays && above[1] == LW_FRESH && !compared && rows < 200) {
+                has[COULD_BE_ONE] |= could_be_one(answer, rows, above[3], n[3]);
                 compared = true; /* one pair of a table is enough */
             }
             has[OLD_BEFORE_NEW] |= old;
@@ -150,8 +179,8 @@ static void note_features(const uint16_t *answer, size_t rows, bool has[FEATURES
             size_t before = last_row[n[3]];
             old = true;
             has[TWICE_IN_A_ROW] |= stays && before + 1 == r;
-            has[TWICE_IN_ONE] |= answer[4 * before] == n[0] && before + 1 != r;
-            has[TWICE_IN_TWO] |= answer[4 * before] != n[0];
+            has[TWICE_IN_ONE] |= answer[6 * before] == n[0] && before + 1 != r;
+            has[TWICE_IN_TWO] |= answer[6 * before] != n[0];
             has[WIDE_TWICE] |= n[2] > 1;
             last_row[n[3]] = r;
         }
@@ -169,7 +198,7 @@ static const char *const clause_names[CLAUSES] = {
     "not whole rows", "the first variable is not 0", "a variable falls, or rises by more than one",
     "a variable above 63", "a kind above 2", "a width of 0", "over 1024 in a variable", "a fill with a fresh number",
     "neighbouring fills of one bit", "a fresh number seen with another width", "a fresh number that skips one",
-    "over 4096 in all",
+    "over 4096 in all", "a wrong home", "a wrong high",
 };
 
 /* What occurs in the random calls. */
@@ -230,7 +259,7 @@ static void test_random_answer(unsigned long number, mix *m)
     switch (want.outcome) {
     case 0:
         m->accepted++;
-        note_features(d.a.numbers, d.a.len / 4, has);
+        note_features(d.a.numbers, d.a.len / 6, has);
         has[OUTPUT_EXACT] = pattern_len == bits;
         has[OUTPUT_LONGER] = pattern_len > bits;
         for (size_t i = 0; i < FEATURES; i++)

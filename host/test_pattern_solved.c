@@ -21,22 +21,22 @@ enum {
 /* A table that lw_solve has solved. */
 typedef struct {
     ref_table facts;
-    uint16_t answer[LW_SOLVER_NUMBERS];
+    uint16_t answer[LW_ANSWER_NUMBERS];
     lw_record record;
 } solved_table;
 
 /* Solves a table; whether the outcome is 2. The answer table is then of the form, and as wide as the pattern. */
 static bool solve(const char *name, const draft *d, solved_table *s)
 {
-    static uint16_t work[LW_SOLVER_NUMBERS];
+    static uint16_t work[LW_WORK_NUMBERS];
 
     lw_record accepted = ref_check(d->t.numbers, d->t.len, &s->facts);
     if (!check(accepted.outcome == 0, HERE, "%s: refused %u, row %u", name, accepted.outcome, accepted.row))
         return false;
-    s->record = lw_solve(d->t.numbers, d->t.len, s->answer, LW_SOLVER_NUMBERS, work, LW_SOLVER_NUMBERS);
+    s->record = lw_solve(d->t.numbers, d->t.len, s->answer, LW_ANSWER_NUMBERS, work, LW_WORK_NUMBERS);
     if (!check(s->record.outcome <= 2, HERE, "%s: refused %u", name, s->record.outcome) || s->record.outcome != 2)
         return false;
-    size_t len = 4 * (size_t)s->record.pieces;
+    size_t len = 6 * (size_t)s->record.pieces;
     return check(plain_faults(s->answer, len) == 0 && plain_fresh_bits(s->answer, len) == s->record.free &&
                  plain_pattern_bits(s->answer, len) == s->facts.bits, HERE,
                  "%s: the solver's answer table is not of the form", name);
@@ -46,7 +46,7 @@ static bool solve(const char *name, const draft *d, solved_table *s)
 static void test_filling(const char *name, const draft *d, const solved_table *s, const uint8_t *fresh,
                          uint8_t pattern[BITS])
 {
-    size_t len = 4 * (size_t)s->record.pieces, bits = s->facts.bits;
+    size_t len = 6 * (size_t)s->record.pieces, bits = s->facts.bits;
     lw_record want = plain_make_pattern(s->answer, len, fresh, s->record.free, pattern, bits);
 
     size_t output = bits + (one_in(4) ? below(20) : 0);
@@ -76,7 +76,7 @@ static void note_traits(const solved_table *s, unsigned long traits[TRAITS])
     size_t seen = 0;
 
     for (size_t r = 0; r < s->record.pieces; r++) {
-        const uint16_t *n = s->answer + 4 * r;
+        const uint16_t *n = s->answer + 6 * r;
         has[WITH_FILL] |= n[1] != LW_FRESH;
         if (n[1] != LW_FRESH)
             continue;

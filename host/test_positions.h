@@ -27,7 +27,7 @@ void add_fixed(table *t, size_t a, size_t high, size_t low, size_t value);
 typedef struct {
     size_t bits;
     lw_record record;
-    uint16_t answer[4 * WORD * WINDOW];
+    uint16_t answer[6 * WORD * WINDOW];
 } solved_table;
 
 void solve_plainly(const uint16_t *numbers, size_t len, solved_table *s);

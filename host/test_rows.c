@@ -16,6 +16,8 @@
 #include "random_table.h"
 #include "refused_tables.h"
 
+enum { ANSWER = LW_ANSWER_NUMBERS, WORK = LW_WORK_NUMBERS };
+
 static unsigned long outcomes[64];
 
 /* The records of a run of numbers; count of them. */
@@ -85,7 +87,7 @@ static void all_three(const uint16_t *numbers, size_t count, size_t bits)
         pattern[i] = one_in(20000) ? 2 : (uint8_t)below(2);
     value(numbers, count, row, pattern, len < sizeof pattern ? len : sizeof pattern, one_in(3) ? below(1024) : 1024);
     form(numbers, count, row, one_in(8) ? below(4096) : 4096 + below(3));
-    solve(numbers, count, one_in(8) ? below(16384) : 16384 + below(3), one_in(8) ? below(16384) : 16384 + below(3));
+    solve(numbers, count, one_in(8) ? below(ANSWER) : ANSWER + below(3), one_in(8) ? below(WORK) : WORK + below(3));
 }
 
 static void test_random(unsigned long tables)
@@ -120,8 +122,9 @@ static void test_long(void)
         value(numbers, counts[c], 512, one, bits, 3);
         form(numbers, counts[c], 0, 4096);
         form(numbers, counts[c], 512, 4096);
-        solve(numbers, counts[c], 16384, 16384);
-        solve(numbers, counts[c], 16384, 16383);
+        solve(numbers, counts[c], ANSWER, WORK);
+        solve(numbers, counts[c], ANSWER - 1, WORK);
+        solve(numbers, counts[c], ANSWER, WORK - 1);
     }
 }
 
@@ -132,13 +135,13 @@ static void refuse(where at, const uint16_t *numbers, size_t len, uint32_t numbe
         return;
     lw_record want = {.outcome = number, .row = row};
     guarded r = records(numbers, len / 4), value = guard(NULL, 1024), form = guard(NULL, 2 * 4096);
-    guarded answer = guard(NULL, 2 * 16384), work = guard(NULL, 2 * 16384);
+    guarded answer = guard(NULL, 2 * ANSWER), work = guard(NULL, 2 * WORK);
     const lw_row *rows = guarded_buffer(&r);
 
     check_record(at, "value", lw_value_rows(rows, len / 4, 0, NULL, 0, guarded_buffer(&value), 1024), want);
     check_record(at, "form", lw_normal_form_rows(rows, len / 4, 0, guarded_buffer(&form), 4096), want);
     check_record(at, "solve",
-                 lw_solve_rows(rows, len / 4, guarded_buffer(&answer), 16384, guarded_buffer(&work), 16384), want);
+                 lw_solve_rows(rows, len / 4, guarded_buffer(&answer), ANSWER, guarded_buffer(&work), WORK), want);
     guard_check(&value, at, "value of a refusal");
     guard_check(&form, at, "form of a refusal");
     guard_check(&answer, at, "answer of a refusal");
@@ -157,14 +160,14 @@ static void test_refusals(void)
 /* NULL with 0. */
 static void test_null(void)
 {
-    static uint16_t answer[16384], work[16384], out[4096];
+    static uint16_t answer[ANSWER], work[WORK], out[4096];
     lw_record row = {.outcome = LW_REFUSED_ROW}, memory = {.outcome = LW_REFUSED_MEMORY};
     lw_record always = {.outcome = LW_ALWAYS};
     check_record(HERE, "value", lw_value_rows(NULL, 0, 0, NULL, 0, NULL, 0), row);
     check_record(HERE, "form", lw_normal_form_rows(NULL, 0, 0, NULL, 0), row);
     check_record(HERE, "form", lw_normal_form_rows(NULL, 0, SIZE_MAX, out, 4096), row);
     check_record(HERE, "solve", lw_solve_rows(NULL, 0, NULL, 0, NULL, 0), memory);
-    check_record(HERE, "solve", lw_solve_rows(NULL, 0, answer, 16384, work, 16384), always);
+    check_record(HERE, "solve", lw_solve_rows(NULL, 0, answer, ANSWER, work, WORK), always);
 }
 
 /* A marker as a record: its value, its form, and a word that is equal to it. */
@@ -172,15 +175,15 @@ static void test_marker(void)
 {
     static const lw_row rows[] = {{LW_VARIABLE, 3, 0, 0}, {LW_VALUE, 6, 3, 0}, {LW_EQUATION, 0, 1, 0}};
     static const uint8_t pattern[] = {0, 0, 1}, bits[] = {1, 1, 0};
-    static const uint16_t pieces[] = {1, 0, 1, 0, 0, 0, 0, 0}, fills[] = {0, 1, 2, 0, 0, 0, 1, 0};
-    static uint16_t answer[16384], work[16384], out[4096];
+    static const uint16_t pieces[] = {1, 0, 1, 0, 0, 0, 0, 0}, fills[] = {0, 1, 2, 0, 0, 2, 0, 0, 1, 0, 0, 0};
+    static uint16_t answer[ANSWER], work[WORK], out[4096];
     uint8_t got[3];
 
     check_record(HERE, "value", lw_value_rows(rows, 3, 1, pattern, 3, got, 3), (lw_record){.free = 3});
     check(memcmp(got, bits, sizeof bits) == 0, HERE, "value %u %u %u", got[0], got[1], got[2]);
     check_record(HERE, "form", lw_normal_form_rows(rows, 3, 1, out, 4096), (lw_record){.pieces = 2, .free = 3});
     check(memcmp(out, pieces, sizeof pieces) == 0, HERE, "form");
-    check_record(HERE, "solve", lw_solve_rows(rows, 3, answer, 16384, work, 16384),
+    check_record(HERE, "solve", lw_solve_rows(rows, 3, answer, ANSWER, work, WORK),
                  (lw_record){.outcome = 2, .pieces = 2, .ties = 3});
     check(memcmp(answer, fills, sizeof fills) == 0, HERE, "answer");
 }
@@ -188,13 +191,13 @@ static void test_marker(void)
 /* Sides of unequal width as records, in either order: the narrower word has zeros at its high end. */
 static void test_short(void)
 {
-    static const uint16_t rows_of_answer[] = {0, 0, 2, 0, 0, 2, 3, 0, 1, 2, 3, 0};
-    static uint16_t answer[16384], work[16384];
+    static const uint16_t rows_of_answer[] = {0, 0, 2, 0, 0, 4, 0, 2, 3, 0, 0, 2, 1, 2, 3, 0, 0, 2};
+    static uint16_t answer[ANSWER], work[WORK];
 
     for (uint16_t left = 0; left < 2; left++) {
         const lw_row rows[] = {{LW_VARIABLE, 5, 0, 0}, {LW_VARIABLE, 3, 0, 0}, {LW_EQUATION, left, left ^ 1, 0}};
         memset(answer, 9, sizeof answer);
-        check_record(HERE, "solve", lw_solve_rows(rows, 3, answer, 16384, work, 16384),
+        check_record(HERE, "solve", lw_solve_rows(rows, 3, answer, ANSWER, work, WORK),
                      (lw_record){.outcome = 2, .pieces = 3, .fresh = 1, .free = 3, .ties = 5});
         check(memcmp(answer, rows_of_answer, sizeof rows_of_answer) == 0, HERE, "answer");
     }

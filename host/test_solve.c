@@ -25,7 +25,8 @@
 #include "reference.h"
 #include "small_table.h"
 
-enum { LEAST = 16384, LONGEST = LEAST + 8192, LARGE_TABLES = 2000 };
+/* Least numbers of an answer table and of a work area; and more than either. */
+enum { ANSWER_LEAST = 24576, WORK_LEAST = 16384, LONGEST = 32768, LARGE_TABLES = 2000 };
 
 #define NO_ANSWER NULL, 0
 
@@ -41,8 +42,8 @@ static const uint16_t zeros[LONGEST];
 static void print_answer(const char *name, const uint16_t *answer, size_t rows)
 {
     printf("  %s:", name);
-    for (size_t i = 0; i < rows && i < 16; i++)
-        printf(" (%u %u %u %u)", answer[4 * i], answer[4 * i + 1], answer[4 * i + 2], answer[4 * i + 3]);
+    for (size_t i = 0; i < rows && i < 16; i++, answer += 6)
+        printf(" (%u %u %u %u %u %u)", answer[0], answer[1], answer[2], answer[3], answer[4], answer[5]);
     printf("%s\n", rows > 16 ? " .." : "");
 }
 
@@ -51,15 +52,15 @@ static lw_part plain_right_side(const uint16_t *answer, size_t answer_len, size_
 {
     size_t first = 0, behind;
 
-    if (rows > answer_len / 4)
+    if (rows > answer_len / 6)
         return (lw_part){0, 0};
-    while (first < rows && answer[4 * first] != variable)
+    while (first < rows && answer[6 * first] != variable)
         first++;
     if (first == rows)
         return (lw_part){0, 0};
-    for (behind = first; behind < rows && answer[4 * behind] == variable; behind++)
+    for (behind = first; behind < rows && answer[6 * behind] == variable; behind++)
         ;
-    return (lw_part){4 * first, 4 * (behind - first)};
+    return (lw_part){6 * first, 6 * (behind - first)};
 }
 
 static bool check_part(where at, const char *name, lw_part got, lw_part want)
@@ -82,14 +83,14 @@ static void check_parts(where at, const uint16_t *numbers, size_t len, const uin
             each = each && part.start == want.start && part.len == want.len && part.start == covered && part.len != 0;
             covered += part.len;
         }
-    check(each && covered == 4 * rows, at, "the right sides cover %zu of %zu numbers", covered, 4 * rows);
+    check(each && covered == 6 * rows, at, "the right sides cover %zu of %zu numbers", covered, 6 * rows);
     check_part(at, "variable that there is not", lw_right_side(answer, answer_len, rows, variables),
                (lw_part){0, 0});
 }
 
 /*
   One call: the record; table unchanged; want_answer as the first
-  4 * want.pieces numbers of the answer table, and behind them what was there
+  6 * want.pieces numbers of the answer table, and behind them what was there
   before; each number of the work area 0 if the call is accepted, else what was
   there before. Where content is not NULL, both buffers have its numbers before
   the call.
@@ -101,14 +102,14 @@ static void call(where at, const char *name, const uint16_t *numbers, size_t len
     guarded t = guard(numbers, len * sizeof *numbers);
     guarded a = guard(content, answer_len * sizeof *content);
     guarded w = guard(content, work_len * sizeof *content);
-    static uint16_t start[4 * 16]; /* of the answer, to be printed */
+    static uint16_t start[6 * 16]; /* of the answer, to be printed */
 
     lw_record got = lw_solve(guarded_buffer(&t), len, guarded_buffer(&a), answer_len, guarded_buffer(&w), work_len);
     if (want.outcome == 2)
-        guard_expect(&a, want_answer, 4 * want.pieces * sizeof *want_answer);
+        guard_expect(&a, want_answer, 6 * want.pieces * sizeof *want_answer);
     if (want.outcome <= 2)
         guard_expect(&w, zeros, work_len * sizeof *zeros);
-    if (answer_len >= 4 * 16)
+    if (answer_len >= COUNT(start))
         memcpy(start, guarded_buffer(&a), sizeof start);
     check_record(at, name, got, want);
     if (want.outcome == 2 && got.outcome == 2)
@@ -128,10 +129,10 @@ static void call(where at, const char *name, const uint16_t *numbers, size_t len
 
 /* What a solve yields and writes, 10 to 17 and 40 by the reference and the rest by the plain solver. */
 static lw_record expected(const uint16_t *numbers, size_t len, size_t answer_len, size_t work_len,
-                          uint16_t answer[LEAST])
+                          uint16_t answer[ANSWER_LEAST])
 {
     static ref_table facts;
-    if (answer_len < LEAST || work_len < LEAST)
+    if (answer_len < ANSWER_LEAST || work_len < WORK_LEAST)
         return (lw_record){.outcome = 10};
     lw_record record = ref_check(numbers, len, &facts);
     return record.outcome != 0 ? record : plain_solve(numbers, &facts, answer);
@@ -139,7 +140,7 @@ static lw_record expected(const uint16_t *numbers, size_t len, size_t answer_len
 
 static bool same_answer(lw_record record, const uint16_t *a, const uint16_t *b)
 {
-    return record.outcome != 2 || memcmp(a, b, 4 * record.pieces * sizeof *a) == 0;
+    return record.outcome != 2 || memcmp(a, b, 6 * record.pieces * sizeof *a) == 0;
 }
 
 /* Enumeration and plain solver give this answer too, the enumeration if the table is small. */
@@ -147,7 +148,7 @@ static void check_others(where at, const char *name, const uint16_t *numbers, si
                          const uint16_t *want_answer)
 {
     static ref_table facts;
-    static uint16_t answer[LEAST];
+    static uint16_t answer[ANSWER_LEAST];
     static enumeration found;
 
     lw_record record = ref_check(numbers, len, &facts);
@@ -172,41 +173,51 @@ static void check_others(where at, const char *name, const uint16_t *numbers, si
 }
 
 /*
-  The table has this record and this answer: with buffers of exactly 16384
-  numbers and with longer ones, whatever stands there before.
+  The table has this record and this answer, rows of six numbers: with buffers of
+  exactly 24576 and 16384 numbers and with longer ones, whatever stands there
+  before.
 */
-static void accept(where at, const uint16_t *numbers, size_t len, lw_record want, const uint16_t *answer,
-                   size_t answer_len)
+static void accept_rows(where at, const uint16_t *numbers, size_t len, lw_record want, const uint16_t *answer,
+                        size_t answer_len)
 {
-    static uint16_t content[LEAST];
+    static uint16_t content[ANSWER_LEAST];
     static const uint16_t likes[] = {0, 1, 2, 65535};
 
-    check(answer_len == 4 * (size_t)want.pieces, at, "expected answer of %zu numbers, %u pieces",
+    check(answer_len == 6 * (size_t)want.pieces, at, "expected answer of %zu numbers, %u pieces",
           answer_len, want.pieces); /* a slip in what is expected is found too */
     check_others(at, "worked by hand", numbers, len, want, answer);
-    call(at, "accepted", numbers, len, NULL, LEAST, LEAST, want, answer);
-    call(at, "accepted, longer answer table", numbers, len, NULL, LEAST + 9, LEAST, want, answer);
-    call(at, "accepted, longer work area", numbers, len, NULL, LEAST, LEAST + 1, want, answer);
+    call(at, "accepted", numbers, len, NULL, ANSWER_LEAST, WORK_LEAST, want, answer);
+    call(at, "accepted, longer answer table", numbers, len, NULL, ANSWER_LEAST + 9, WORK_LEAST, want, answer);
+    call(at, "accepted, longer work area", numbers, len, NULL, ANSWER_LEAST, WORK_LEAST + 1, want, answer);
     call(at, "accepted, both longer", numbers, len, NULL, LONGEST, LONGEST, want, answer);
     for (size_t k = 0; k < COUNT(likes); k++) {
-        for (size_t i = 0; i < LEAST; i++)
+        for (size_t i = 0; i < ANSWER_LEAST; i++)
             content[i] = likes[k];
-        call(at, "accepted, buffers of like numbers", numbers, len, content, LEAST, LEAST, want, answer);
+        call(at, "accepted, buffers of like numbers", numbers, len, content, ANSWER_LEAST, WORK_LEAST, want, answer);
     }
+}
+
+/* The same, with an answer written down by the first four numbers of its rows. */
+static void accept(where at, const uint16_t *numbers, size_t len, lw_record want, const uint16_t *four, size_t four_len)
+{
+    static uint16_t six[ANSWER_LEAST];
+    add_homes(four, four_len / 4, six);
+    accept_rows(at, numbers, len, want, six, four_len / 4 * 6);
 }
 
 /* The table is refused; and if a buffer is too short, that is told instead. */
 static void refuse_table(where at, const uint16_t *numbers, size_t len, uint32_t number, uint32_t row)
 {
     lw_record want = {.outcome = number, .row = row}, memory = {.outcome = 10};
-    call(at, "refused", numbers, len, NULL, LEAST, LEAST, want, NULL);
-    call(at, "refused, longer buffers", numbers, len, NULL, LEAST + 9, LONGEST, want, NULL);
-    call(at, "refused, answer table too short", numbers, len, NULL, LEAST - 1, LEAST, memory, NULL);
-    call(at, "refused, work area too short", numbers, len, NULL, LEAST, LEAST - 1, memory, NULL);
+    call(at, "refused", numbers, len, NULL, ANSWER_LEAST, WORK_LEAST, want, NULL);
+    call(at, "refused, longer buffers", numbers, len, NULL, ANSWER_LEAST + 9, LONGEST, want, NULL);
+    call(at, "refused, answer table too short", numbers, len, NULL, ANSWER_LEAST - 1, WORK_LEAST, memory, NULL);
+    call(at, "refused, work area too short", numbers, len, NULL, ANSWER_LEAST, WORK_LEAST - 1, memory, NULL);
     call(at, "refused, both too short", numbers, len, NULL, 0, 0, memory, NULL);
 }
 
 #define ACCEPT(...)       accept(HERE, __VA_ARGS__)
+#define ACCEPT_ROWS(...)  accept_rows(HERE, __VA_ARGS__)
 #define REFUSE_TABLE(...) refuse_table(HERE, __VA_ARGS__)
 
 /* The header's numbers are those of the specification. */
@@ -214,7 +225,8 @@ static void test_constants(void)
 {
     static const constant constants[] = {
         CONSTANT(LW_ALWAYS, 0), CONSTANT(LW_NEVER, 1), CONSTANT(LW_SOLVED, 2), CONSTANT(LW_FRESH, 2),
-        CONSTANT(LW_REFUSED_MEMORY, 10), CONSTANT(LW_SOLVER_NUMBERS, 16384), CONSTANT(LW_ANSWER_ROW_NUMBERS, 4),
+        CONSTANT(LW_REFUSED_MEMORY, 10), CONSTANT(LW_ANSWER_NUMBERS, 24576), CONSTANT(LW_WORK_NUMBERS, 16384),
+        CONSTANT(LW_ANSWER_ROW_NUMBERS, 6),
     };
     check_constants(HERE, constants, COUNT(constants));
     check(sizeof(lw_part) == 2 * sizeof(size_t), HERE, "a part has %zu bytes", sizeof(lw_part));
@@ -249,19 +261,19 @@ static void test_worked(void)
 static void test_sheet(void)
 {
     static const char sheet[] = "kind a b c\n0 8 0 0\n3 0 6 3\n3 0 4 1\n4 1 2 0\n";
-    static const char want[] = "outcome pieces fresh free ties row\n2 5 3 4 4 0\nvariable kind width fresh\n"
-                               "0 2 1 0\n0 2 2 1\n0 2 2 1\n0 2 2 1\n0 2 1 2\n";
-    static uint16_t numbers[LW_TABLE_NUMBERS], answer[LEAST], work[LEAST];
+    static const char want[] = "outcome pieces fresh free ties row\n2 5 3 4 4 0\nvariable kind width fresh home high\n"
+                               "0 2 1 0 0 7\n0 2 2 1 0 6\n0 2 2 1 0 6\n0 2 2 1 0 6\n0 2 1 2 0 0\n";
+    static uint16_t numbers[LW_TABLE_NUMBERS], answer[ANSWER_LEAST], work[WORK_LEAST];
     char got[1024];
 
     lw_record read = lw_read_sheet((const uint8_t *)sheet, strlen(sheet), numbers, LW_TABLE_NUMBERS);
     check_record(HERE, "sheet", read, (lw_record){.pieces = 4});
-    lw_record r = lw_solve(numbers, 4 * (size_t)read.pieces, answer, LEAST, work, LEAST);
+    lw_record r = lw_solve(numbers, 4 * (size_t)read.pieces, answer, ANSWER_LEAST, work, WORK_LEAST);
     int n = snprintf(got, sizeof got, "outcome pieces fresh free ties row\n%u %u %u %u %u %u\n"
-                     "variable kind width fresh\n", r.outcome, r.pieces, r.fresh, r.free, r.ties, r.row);
-    for (size_t i = 0; i < r.pieces && i < 16; i++)
-        n += snprintf(got + n, sizeof got - (size_t)n, "%u %u %u %u\n", answer[4 * i], answer[4 * i + 1],
-                      answer[4 * i + 2], answer[4 * i + 3]);
+                     "variable kind width fresh home high\n", r.outcome, r.pieces, r.fresh, r.free, r.ties, r.row);
+    for (const uint16_t *row = answer; row < answer + 6 * r.pieces && row < answer + 6 * 16; row += 6)
+        n += snprintf(got + n, sizeof got - (size_t)n, "%u %u %u %u %u %u\n", row[0], row[1], row[2], row[3], row[4],
+                      row[5]);
     check(strcmp(got, want) == 0, HERE, "printed:\n%sexpected:\n%s", got, want);
 }
 
@@ -547,7 +559,7 @@ static void test_short_markers(void)
 /* Sides of unequal width up to 1024 bits, and as many as there may be. */
 static void test_short_limits(void)
 {
-    static uint16_t answer[LEAST];
+    static uint16_t answer[4 * 127];
     table t;
 
     ACCEPT_SHORT(TABLE(VARIABLE(1024), VARIABLE(1)), 0, 1, SOLVED(3, 1, 1, 1024),
@@ -564,9 +576,10 @@ static void test_short_limits(void)
     /* Each width against 1024, a variable's low bits with all of it: the bits above them are 0. */
     for (uint16_t w = 1; w < 1024; w++) {
         const uint16_t left = w % 2, numbers[] = {VARIABLE(1024), CUT(0, w - 1, 0), EQUATION(left, 1 - left)};
-        const uint16_t rows[] = {ZEROS(0, 1024 - w), FRESH(0, w, 0)};
+        const uint16_t rows[] = {ZEROS_AT(0, 1024 - w, 1023), FRESH_AT(0, w, 0, 0, w - 1)};
         check_others(HERE, "low bits", numbers, COUNT(numbers), SOLVED(2, 1, w, 1024U - w), rows);
-        call(HERE, "low bits", numbers, COUNT(numbers), NULL, LEAST, LEAST, SOLVED(2, 1, w, 1024U - w), rows);
+        call(HERE, "low bits", numbers, COUNT(numbers), NULL, ANSWER_LEAST, WORK_LEAST, SOLVED(2, 1, w, 1024U - w),
+             rows);
     }
 
     /* 4 words of 1024 bits, each of them 1 as a number: 8 fills. */
@@ -600,6 +613,102 @@ static void test_short_limits(void)
     ACCEPT(ALL(t), SOLVED(127, 1, 1, 64 * 65 / 2 - 1), answer, 4 * 127);
 }
 
+/* Home and high, in rows of six numbers. */
+static void test_homes(void)
+{
+    table t;
+    static uint16_t answer[6 * 4096];
+
+    /* The specification's sheet; and the sheet of the header's fills, the second of which names its own place. */
+    ACCEPT_ROWS(TABLE(VARIABLE(8), CUT(0, 6, 3), CUT(0, 4, 1), EQUATION(1, 2)), SOLVED(5, 3, 4, 4),
+                ANSWER(FRESH_AT(0, 1, 0, 0, 7), FRESH_AT(0, 2, 1, 0, 6), FRESH_AT(0, 2, 1, 0, 6),
+                       FRESH_AT(0, 2, 1, 0, 6), FRESH_AT(0, 1, 2, 0, 0)));
+    ACCEPT_ROWS(TABLE(VARIABLE(3), VARIABLE(3), FILL(0, 1), CUT(0, 1, 1), EQUATION(3, 2), CUT(1, 2, 2), EQUATION(5, 2)),
+                SOLVED(5, 3, 4, 2), ANSWER(FRESH_AT(0, 1, 0, 0, 2), ZEROS_AT(0, 1, 1), FRESH_AT(0, 1, 1, 0, 0),
+                                           ZEROS_AT(1, 1, 2), FRESH_AT(1, 2, 2, 1, 1)));
+
+    /* At home in an earlier variable: at its high end, in its middle, at its low end. */
+    ACCEPT_ROWS(TABLE(VARIABLE(4), VARIABLE(2), CUT(0, 3, 2), EQUATION(2, 1)), SOLVED(3, 2, 4, 2),
+                ANSWER(FRESH_AT(0, 2, 0, 0, 3), FRESH_AT(0, 2, 1, 0, 1), FRESH_AT(1, 2, 0, 0, 3)));
+    ACCEPT_ROWS(TABLE(VARIABLE(4), VARIABLE(2), CUT(0, 2, 1), EQUATION(2, 1)), SOLVED(4, 3, 4, 2),
+                ANSWER(FRESH_AT(0, 1, 0, 0, 3), FRESH_AT(0, 2, 1, 0, 2), FRESH_AT(0, 1, 2, 0, 0),
+                       FRESH_AT(1, 2, 1, 0, 2)));
+    ACCEPT_ROWS(TABLE(VARIABLE(4), VARIABLE(2), CUT(0, 1, 0), EQUATION(2, 1)), SOLVED(3, 2, 4, 2),
+                ANSWER(FRESH_AT(0, 2, 0, 0, 3), FRESH_AT(0, 2, 1, 0, 1), FRESH_AT(1, 2, 1, 0, 1)));
+
+    /* At home in the narrower word, which stands first; and in variable 1 of four. */
+    ACCEPT_ROWS(TABLE(VARIABLE(2), VARIABLE(4), CUT(1, 2, 1), EQUATION(0, 2)), SOLVED(4, 3, 4, 2),
+                ANSWER(FRESH_AT(0, 2, 0, 0, 1), FRESH_AT(1, 1, 1, 1, 3), FRESH_AT(1, 2, 0, 0, 1),
+                       FRESH_AT(1, 1, 2, 1, 0)));
+    ACCEPT_ROWS(TABLE(VARIABLE(5), VARIABLE(3), VARIABLE(2), VARIABLE(3), EQUATION(1, 3)), SOLVED(4, 3, 10, 3),
+                ANSWER(FRESH_AT(0, 5, 0, 0, 4), FRESH_AT(1, 3, 1, 1, 2), FRESH_AT(2, 2, 2, 2, 1),
+                       FRESH_AT(3, 3, 1, 1, 2)));
+
+    /* Several appearances, in one variable and in others; each names the first. */
+    ACCEPT_ROWS(TABLE(VARIABLE(6), VARIABLE(2), VARIABLE(4), JOIN(1, 1), JOIN(3, 1), JOIN(1, 1), EQUATION(0, 4),
+                      EQUATION(2, 5)), SOLVED(6, 1, 2, 10),
+                ANSWER(FRESH_AT(0, 2, 0, 0, 5), FRESH_AT(0, 2, 0, 0, 5), FRESH_AT(0, 2, 0, 0, 5),
+                       FRESH_AT(1, 2, 0, 0, 5), FRESH_AT(2, 2, 0, 0, 5), FRESH_AT(2, 2, 0, 0, 5)));
+
+    /* Halves exchanged: two pieces, the homes of both in variable 0. */
+    ACCEPT_ROWS(TABLE(VARIABLE(4), VARIABLE(4), CUT(0, 1, 0), CUT(0, 3, 2), JOIN(2, 3), EQUATION(1, 4)),
+                SOLVED(4, 2, 4, 4), ANSWER(FRESH_AT(0, 2, 0, 0, 3), FRESH_AT(0, 2, 1, 0, 1), FRESH_AT(1, 2, 1, 0, 1),
+                                           FRESH_AT(1, 2, 0, 0, 3)));
+
+    /* A fill before fresh piece 0, with fresh number 0 too, is not its home. */
+    ACCEPT_ROWS(TABLE(VARIABLE(4), VARIABLE(3), CUT(0, 3, 3), FILL(1, 1), CUT(0, 2, 0), EQUATION(2, 3), EQUATION(1, 4)),
+                SOLVED(3, 1, 3, 4), ANSWER(ONES_AT(0, 1, 3), FRESH_AT(0, 3, 0, 0, 2), FRESH_AT(1, 3, 0, 0, 2)));
+    ACCEPT_ROWS(TABLE(VARIABLE(2), VARIABLE(2), VARIABLE(2), FILL(0, 2), EQUATION(0, 3), EQUATION(1, 2)),
+                SOLVED(3, 1, 2, 4), ANSWER(ZEROS_AT(0, 2, 1), FRESH_AT(1, 2, 0, 1, 1), FRESH_AT(2, 2, 0, 1, 1)));
+
+    /* Fills of both bits, at both ends and in every variable: each its own place. */
+    ACCEPT_ROWS(TABLE(VARIABLE(5), VARIABLE(5), MARKER(0x12, 5), EQUATION(0, 2), EQUATION(0, 1)), SOLVED(8, 0, 0, 10),
+                ANSWER(ONES_AT(0, 1, 4), ZEROS_AT(0, 2, 3), ONES_AT(0, 1, 1), ZEROS_AT(0, 1, 0),
+                       ONES_AT(1, 1, 4), ZEROS_AT(1, 2, 3), ONES_AT(1, 1, 1), ZEROS_AT(1, 1, 0)));
+
+    /* One bit; and words of 1024 bits. */
+    ACCEPT_ROWS(TABLE(VARIABLE(1), FILL(1, 1), EQUATION(0, 1)), SOLVED(1, 0, 0, 1), ANSWER(ONES_AT(0, 1, 0)));
+    ACCEPT_ROWS(TABLE(VARIABLE(1), VARIABLE(1), EQUATION(0, 1)), SOLVED(2, 1, 1, 1),
+                ANSWER(FRESH_AT(0, 1, 0, 0, 0), FRESH_AT(1, 1, 0, 0, 0)));
+    ACCEPT_ROWS(TABLE(VARIABLE(1024), VARIABLE(1024), EQUATION(1, 0)), SOLVED(2, 1, 1024, 1024),
+                ANSWER(FRESH_AT(0, 1024, 0, 0, 1023), FRESH_AT(1, 1024, 0, 0, 1023)));
+    ACCEPT_ROWS(TABLE(VARIABLE(1024), VARIABLE(1), CUT(0, 0, 0), EQUATION(2, 1)), SOLVED(3, 2, 1024, 1),
+                ANSWER(FRESH_AT(0, 1023, 0, 0, 1023), FRESH_AT(0, 1, 1, 0, 0), FRESH_AT(1, 1, 1, 0, 0)));
+
+    /* 64 variables: the last two equal, so that a home is variable 62; and all of them equal to the first. */
+    t.len = 0;
+    for (size_t v = 0; v < 64; v++)
+        add(&t, VARIABLE(64));
+    add(&t, EQUATION(63, 62));
+    for (uint16_t v = 0; v < 64; v++) {
+        uint16_t home = v < 63 ? v : 62;
+        memcpy(answer + 6 * v, (const uint16_t[]){FRESH_AT(v, 64, home, home, 63)}, 12);
+    }
+    ACCEPT_ROWS(ALL(t), SOLVED(64, 63, 63 * 64, 64), answer, 6 * 64);
+    t.len -= 4;
+    for (size_t v = 1; v < 64; v++)
+        add(&t, EQUATION(v, v - 1));
+    for (uint16_t v = 0; v < 64; v++)
+        memcpy(answer + 6 * v, (const uint16_t[]){FRESH_AT(v, 64, 0, 0, 63)}, 12);
+    ACCEPT_ROWS(ALL(t), SOLVED(64, 1, 64, 63 * 64), answer, 6 * 64);
+
+    /* 4096 rows: each of four words is the one before it turned by a bit, and the first is the last turned so. */
+    t.len = 0;
+    for (size_t v = 0; v < 4; v++)
+        add(&t, VARIABLE(1024));
+    for (size_t v = 0; v < 4; v++) { /* from row 4 + 4 * v on */
+        add(&t, CUT(v, 1022, 0));
+        add(&t, CUT(v, 1023, 1023));
+        add(&t, JOIN(4 + 4 * v, 5 + 4 * v));
+        add(&t, EQUATION(6 + 4 * v, (v + 1) % 4));
+    }
+    for (uint16_t i = 0; i < 4096; i++) {
+        uint16_t number = (uint16_t)((i + i / 1024) % 4); /* turned by four bits in all */
+        memcpy(answer + 6 * i, (const uint16_t[]){FRESH_AT(i / 1024, 1, number, 0, 1023 - number)}, 12);
+    }
+    ACCEPT_ROWS(ALL(t), SOLVED(4096, 4, 4, 4092), answer, COUNT(answer));
+}
+
 /* Ties, and the row at which no pattern is left. */
 static void test_ties(void)
 {
@@ -627,10 +736,10 @@ static void test_ties(void)
 /* The largest answers and tables. */
 static void test_limits(void)
 {
-    static uint16_t answer[LEAST];
+    static uint16_t answer[4 * 4096];
     table t;
 
-    /* Four words of 1024 fixed bits 0 1 0 1 ..: 4096 fills, and the answer table of 16384 numbers is full. */
+    /* Four words of 1024 fixed bits 0 1 0 1 ..: 4096 fills, and the answer table of 24576 numbers is full. */
     t.len = 0;
     add(&t, FILL(0, 1));
     add(&t, FILL(1, 1));
@@ -643,7 +752,7 @@ static void test_limits(void)
         add(&t, EQUATION(12 + v, 11));
     for (uint16_t i = 0; i < 4096; i++)
         memcpy(answer + 4 * i, (const uint16_t[]){i / 1024, i % 2, 1, 0}, 8);
-    ACCEPT(ALL(t), SOLVED(4096, 0, 0, 4096), answer, LEAST);
+    ACCEPT(ALL(t), SOLVED(4096, 0, 0, 4096), answer, COUNT(answer));
 
     /* The same with the last bit of the last word both 0 and 1. */
     add(&t, CUT(15, 0, 0));
@@ -665,7 +774,7 @@ static void test_limits(void)
     add(&t, EQUATION(63, 129));
     for (uint16_t i = 0; i < 4096; i++)
         memcpy(answer + 4 * i, (const uint16_t[]){FRESH(i / 64, 1, 0)}, 8);
-    ACCEPT(ALL(t), SOLVED(4096, 1, 1, 4095), answer, LEAST);
+    ACCEPT(ALL(t), SOLVED(4096, 1, 1, 4095), answer, COUNT(answer));
 
     /*
       512 rows, 64 of them equations: in each of 64 words of 64 bits, bits 10 and
@@ -727,24 +836,26 @@ static void test_limits(void)
 /* Refusal 10, with tables good and bad. */
 static void test_memory(void)
 {
-    static const size_t lens[] = {0, 1, 4, 20, 2048, 4096, 8192, LEAST - 4, LEAST - 1, LEAST, LEAST + 1};
+    static const size_t answers[] = {0, 1, 6, 30, 4096, 16383, 16384, 24570, ANSWER_LEAST - 2, ANSWER_LEAST - 1,
+                                     ANSWER_LEAST, ANSWER_LEAST + 1};
+    static const size_t works[] = {0, 1, 4, 2048, 8192, WORK_LEAST - 4, WORK_LEAST - 1, WORK_LEAST, WORK_LEAST + 1,
+                                   ANSWER_LEAST};
     static const uint16_t good[] = {VARIABLE(8), CUT(0, 6, 3), CUT(0, 4, 1), EQUATION(1, 2)};
     static const uint16_t bad[] = {VARIABLE(8), 9, 9, 9, 9};
-    static uint16_t answer[LEAST];
-    size_t count = COUNT(lens);
+    static uint16_t answer[ANSWER_LEAST];
 
-    for (size_t i = 0; i < count; i++)
-        for (size_t j = 0; j < count; j++) {
-            lw_record want = expected(good, 16, lens[i], lens[j], answer);
-            check(want.outcome == (lens[i] < LEAST || lens[j] < LEAST ? 10 : 2), HERE, "expected %u", want.outcome);
-            call(HERE, "good table", good, 16, NULL, lens[i], lens[j], want, answer);
-            call(HERE, "no rows", NULL, 0, NULL, lens[i], lens[j],
-                 expected(NULL, 0, lens[i], lens[j], answer), answer);
+    for (size_t i = 0; i < COUNT(answers); i++)
+        for (size_t j = 0; j < COUNT(works); j++) {
+            size_t a = answers[i], w = works[j];
+            bool few = a < 24576 || w < 16384;
+            lw_record want = expected(good, 16, a, w, answer);
+            check(want.outcome == (few ? 10 : 2), HERE, "expected %u", want.outcome);
+            call(HERE, "good table", good, 16, NULL, a, w, want, answer);
+            call(HERE, "no rows", NULL, 0, NULL, a, w, expected(NULL, 0, a, w, answer), answer);
             for (size_t len = 7; len <= 8; len++) { /* refused 11, and 12 */
-                want = expected(bad, len, lens[i], lens[j], answer);
-                check(want.outcome == (lens[i] < LEAST || lens[j] < LEAST ? 10 : len == 7 ? 11 : 12), HERE,
-                      "expected %u", want.outcome);
-                call(HERE, "bad table", bad, len, NULL, lens[i], lens[j], want, answer);
+                want = expected(bad, len, a, w, answer);
+                check(want.outcome == (few ? 10 : len == 7 ? 11 : 12), HERE, "expected %u", want.outcome);
+                call(HERE, "bad table", bad, len, NULL, a, w, want, answer);
             }
         }
 }
@@ -768,30 +879,36 @@ static void test_table_refusals(void)
     REFUSE_TABLE(TABLE(FILL(0, 1), FILL(1, 1), EQUATION(0, 1), MARKER(2, 1)), 40, 3);
 }
 
+/* Whether all of so many numbers are this one. */
+static bool like(const uint16_t *numbers, size_t count, uint16_t number)
+{
+    size_t same = 0;
+    while (same < count && numbers[same] == number)
+        same++;
+    return same == count;
+}
+
 /* NULL with length 0 for each buffer. */
 static void test_null(void)
 {
     static const uint16_t fill[] = {FILL(1, 2)};
-    static uint16_t answer[LEAST], work[LEAST];
-    for (size_t i = 0; i < LEAST; i++)
-        answer[i] = work[i] = 9;
+    static uint16_t answer[ANSWER_LEAST], work[WORK_LEAST];
+    for (size_t i = 0; i < ANSWER_LEAST; i++)
+        answer[i] = 9;
+    for (size_t i = 0; i < WORK_LEAST; i++)
+        work[i] = 9;
 
 #define REFUSE_NULL(name, number, at, ...) \
     check_record(HERE, name, lw_solve(__VA_ARGS__), (lw_record){.outcome = (number), .row = (at)})
     REFUSE_NULL("all NULL", 10, 0, NULL, 0, NULL, 0, NULL, 0);
-    REFUSE_NULL("answer NULL", 10, 0, fill, 4, NULL, 0, work, LEAST);
-    REFUSE_NULL("work NULL", 10, 0, fill, 4, answer, LEAST, NULL, 0);
+    REFUSE_NULL("answer NULL", 10, 0, fill, 4, NULL, 0, work, WORK_LEAST);
+    REFUSE_NULL("work NULL", 10, 0, fill, 4, answer, ANSWER_LEAST, NULL, 0);
     REFUSE_NULL("both NULL, table refused", 10, 0, fill, 3, NULL, 0, NULL, 0);
-    REFUSE_NULL("table refused", 11, 512, fill, 3, answer, LEAST, work, LEAST);
+    REFUSE_NULL("table refused", 11, 512, fill, 3, answer, ANSWER_LEAST, work, WORK_LEAST);
 #undef REFUSE_NULL
-    size_t kept = 0, zero = 0;
-    for (size_t i = 0; i < LEAST; i++)
-        kept += answer[i] == 9 && work[i] == 9;
-    check(kept == LEAST, HERE, "a buffer written by a refusal");
-    check_record(HERE, "table NULL", lw_solve(NULL, 0, answer, LEAST, work, LEAST), ALWAYS(0));
-    for (size_t i = 0; i < LEAST; i++)
-        zero += answer[i] == 9 && work[i] == 0;
-    check(zero == LEAST, HERE, "buffers after a table of no rows");
+    check(like(answer, ANSWER_LEAST, 9) && like(work, WORK_LEAST, 9), HERE, "a buffer written by a refusal");
+    check_record(HERE, "table NULL", lw_solve(NULL, 0, answer, ANSWER_LEAST, work, WORK_LEAST), ALWAYS(0));
+    check(like(answer, ANSWER_LEAST, 9) && like(work, WORK_LEAST, 0), HERE, "buffers after a table of no rows");
     check_part(HERE, "answer NULL", lw_right_side(NULL, 0, 0, 0), (lw_part){0, 0});
     check_part(HERE, "answer NULL, a row in use", lw_right_side(NULL, 0, 1, 0), (lw_part){0, 0});
     check_part(HERE, "answer NULL, SIZE_MAX", lw_right_side(NULL, 0, SIZE_MAX, SIZE_MAX), (lw_part){0, 0});
@@ -813,58 +930,60 @@ static void part(where at, const uint16_t *numbers, size_t len, size_t rows, siz
 
 static void test_right_side(void)
 {
-    /* Rows of variables 0, 0, 1, 2, 2, 0, 65535, and three numbers more. */
+    /* Rows of variables 0, 0, 1, 2, 2, 0, 65535, and five numbers more; no home is looked at. */
     static const uint16_t rows[] = {
-        FRESH(0, 1, 0), ZEROS(0, 2), ONES(1, 3), FRESH(2, 1, 0), FRESH(2, 2, 1), FRESH(0, 1, 2), ONES(65535, 9),
-        0, 0, 0,
+        FRESH_AT(0, 1, 0, 0, 2), ZEROS_AT(0, 2, 1), ONES_AT(1, 3, 9), FRESH_AT(2, 1, 0, 7, 7), FRESH_AT(2, 2, 1, 2, 1),
+        FRESH_AT(0, 1, 2, 1, 0), ONES_AT(65535, 9, 65535), 0, 0, 0, 0, 0,
     };
-    PART(rows, 31, 7, 0, RUN(0, 8));
-    PART(rows, 31, 7, 1, RUN(8, 4));
-    PART(rows, 31, 7, 2, RUN(12, 8));
-    PART(rows, 31, 7, 3, EMPTY);
-    PART(rows, 31, 7, 65535, RUN(24, 4));
-    PART(rows, 31, 7, 65536, EMPTY);
-    PART(rows, 31, 7, SIZE_MAX, EMPTY);
-    PART(rows, 31, 6, 65535, EMPTY);  /* that row is not in use */
-    PART(rows, 31, 4, 2, RUN(12, 4)); /* nor is the second row of it */
-    PART(rows, 31, 1, 0, RUN(0, 4));
-    PART(rows, 31, 0, 0, EMPTY);
-    PART(rows, 31, 8, 0, EMPTY);      /* seven whole rows are lent */
-    PART(rows, 28, 7, 0, RUN(0, 8));
-    PART(rows, 27, 7, 0, EMPTY);
-    PART(rows, 27, 6, 0, RUN(0, 8));
-    PART(rows, 3, 0, 0, EMPTY);
-    PART(rows, 3, 1, 0, EMPTY);
-    PART(rows, 0, 0, 0, EMPTY);
-    static const size_t many[] = {SIZE_MAX, SIZE_MAX / 4, SIZE_MAX / 4 + 1, SIZE_MAX / 4 + 2, SIZE_MAX / 2 + 1,
-                                  (size_t)UINT32_MAX + 1, 65536};
+    PART(rows, 47, 7, 0, RUN(0, 12));
+    PART(rows, 47, 7, 1, RUN(12, 6));
+    PART(rows, 47, 7, 2, RUN(18, 12));
+    PART(rows, 47, 7, 3, EMPTY);
+    PART(rows, 47, 7, 65535, RUN(36, 6));
+    PART(rows, 47, 7, 65536, EMPTY);
+    PART(rows, 47, 7, SIZE_MAX, EMPTY);
+    PART(rows, 47, 6, 65535, EMPTY);  /* that row is not in use */
+    PART(rows, 47, 4, 2, RUN(18, 6)); /* nor is the second row of it */
+    PART(rows, 47, 1, 0, RUN(0, 6));
+    PART(rows, 47, 0, 0, EMPTY);
+    PART(rows, 47, 8, 0, EMPTY);      /* seven whole rows are lent */
+    PART(rows, 42, 7, 0, RUN(0, 12));
+    PART(rows, 41, 7, 0, EMPTY);
+    PART(rows, 41, 6, 0, RUN(0, 12));
+    PART(rows, 36, 7, 0, EMPTY);      /* nine rows of four, but six of six */
+    for (size_t len = 0; len < 6; len++) {
+        PART(rows, len, 0, 0, EMPTY);
+        PART(rows, len, 1, 0, EMPTY);
+    }
+    static const size_t many[] = {SIZE_MAX, SIZE_MAX / 6, SIZE_MAX / 6 + 1, SIZE_MAX / 6 + 2, SIZE_MAX / 4,
+                                  SIZE_MAX / 4 + 1, SIZE_MAX / 3 + 1, SIZE_MAX / 2 + 1, (size_t)UINT32_MAX + 1, 65536};
     for (size_t i = 0; i < COUNT(many); i++)
-        PART(rows, 31, many[i], 0, EMPTY);
+        PART(rows, 47, many[i], 0, EMPTY);
     static const size_t absent[] = {65536, 65537, 131071, (size_t)UINT32_MAX + 1, (size_t)UINT32_MAX + 3,
                                     SIZE_MAX - 65535, SIZE_MAX - 65534, SIZE_MAX};
     for (size_t i = 0; i < COUNT(absent); i++) /* not taken for their low 16 bits */
-        PART(rows, 31, 7, absent[i], EMPTY);
+        PART(rows, 47, 7, absent[i], EMPTY);
 }
 
 /* Random numbers of any kind, against the plain loop. */
 static void test_random_parts(void)
 {
-    static uint16_t numbers[4 * 600];
+    static uint16_t numbers[6 * 600];
     unsigned long empty = 0, whole = 0, longer = 0, rest = 0;
 
     for (unsigned long i = 0; i < 40000; i++) {
-        size_t len = one_in(4) ? below(4 * 600) : below(60), kinds = one_in(3) ? 2 : one_in(2) ? 64 : 65536;
+        size_t len = one_in(4) ? below(COUNT(numbers)) : below(90), kinds = one_in(3) ? 2 : one_in(2) ? 64 : 65536;
         uint16_t last = (uint16_t)below(kinds);
         for (size_t k = 0; k < len; k++) { /* often the variable of the row before */
-            numbers[k] = k % 4 == 0 && !one_in(4) ? last : (uint16_t)below(kinds);
-            if (k % 4 == 0)
+            numbers[k] = k % 6 == 0 && !one_in(4) ? last : (uint16_t)below(kinds);
+            if (k % 6 == 0)
                 last = numbers[k];
         }
-        size_t lent = len / 4, rows, variable;
+        size_t lent = len / 6, rows, variable;
         switch (below(8)) {
         case 0:  rows = 0; break;
         case 1:  rows = lent + 1 + below(3); break;
-        case 2:  rows = one_in(3) ? SIZE_MAX - below(2) : SIZE_MAX / 4 + below(3); break;
+        case 2:  rows = one_in(3) ? SIZE_MAX - below(2) : SIZE_MAX / 6 + below(3); break;
         case 3:  rows = below(lent + 1); break;
         default: rows = lent; break;
         }
@@ -872,15 +991,15 @@ static void test_random_parts(void)
         case 0:  variable = below(64); break;
         case 1:  variable = one_in(2) ? 63 : 65535; break;
         case 2:  variable = one_in(2) ? 65536 + below(kinds) : SIZE_MAX - below(65536); break;
-        default: variable = lent == 0 ? 0 : numbers[4 * below(lent)]; break;
+        default: variable = lent == 0 ? 0 : numbers[6 * below(lent)]; break;
         }
         lw_part want = plain_right_side(numbers, len, rows, variable);
         PART(numbers, len, rows, variable, want);
         if (want.len == 0)
             empty++;
-        else if (want.len == 4 * rows)
+        else if (want.len == 6 * rows)
             whole++;
-        else if (want.len > 4)
+        else if (want.len > 6)
             longer++;
         else
             rest++;
@@ -892,10 +1011,10 @@ static void test_random_parts(void)
 
 /* Small random tables. */
 
-/* Lengths of the answer table and of the work area: at least 16384. */
-static size_t some_length(void)
+/* A length of the answer table or of the work area: at least so many numbers. */
+static size_t some_length(size_t least)
 {
-    return LEAST + (one_in(2) ? 0 : one_in(8) ? below(LONGEST - LEAST) : below(70));
+    return least + (one_in(2) ? 0 : one_in(8) ? below(LONGEST - least) : below(70));
 }
 
 /* Sides of unequal width in half of the tables. */
@@ -904,15 +1023,42 @@ static extent some_extent(void)
     return one_in(2) ? WITH_SHORT_SIDES : one_in(2) ? WITH_MARKERS : EQUAL_SIDES;
 }
 
+/* Homes that occur in them. */
+enum { EARLIER_VARIABLE, SAME_VARIABLE, AGAIN_AND_AGAIN, NOT_AT_0, FILL_IN_FRONT, BIT_ELSEWHERE, HOMES };
+
+static const char *const home_names[HOMES] = {
+    "a piece at home in an earlier variable", "a piece at home higher up in its variable",
+    "a piece that appears three times", "a piece that comes again, at home after variable 0",
+    "a fill before fresh piece 0", "a fill of a bit that a fill before it has",
+};
+
+static void note_homes(const uint16_t *answer, size_t rows, bool has[HOMES])
+{
+    size_t appeared[ENUM_BITS] = {0}, fills[2] = {0};
+    for (size_t r = 0; r < rows; r++) {
+        const uint16_t *n = answer + 6 * r;
+        if (n[1] != LW_FRESH) {
+            has[BIT_ELSEWHERE] |= fills[n[1]]++ != 0;
+            continue;
+        }
+        has[FILL_IN_FRONT] |= n[3] == 0 && appeared[0] == 0 && fills[0] + fills[1] != 0;
+        if (appeared[n[3]]++ == 0)
+            continue;
+        has[n[4] < n[0] ? EARLIER_VARIABLE : SAME_VARIABLE] = true;
+        has[AGAIN_AND_AGAIN] |= appeared[n[3]] > 2;
+        has[NOT_AT_0] |= n[4] != 0;
+    }
+}
+
 /* The library and the plain solver against the enumeration, on one small table. */
 static void test_small_table(unsigned long number, unsigned long outcomes[3], unsigned long features[FEATURES],
-                             unsigned long met[ENUM_BITS + 1])
+                             unsigned long homes[HOMES], unsigned long met[ENUM_BITS + 1])
 {
     static sketch s;
     static ref_table facts;
     static enumeration found;
-    static uint16_t answer[LEAST];
-    bool has[FEATURES] = {false};
+    static uint16_t answer[ANSWER_LEAST];
+    bool has[FEATURES] = {false}, has_home[HOMES] = {false};
     char name[64];
 
     make_small(&s, some_extent());
@@ -937,7 +1083,7 @@ static void test_small_table(unsigned long number, unsigned long outcomes[3], un
         print_answer("enumeration", found.answer, want.pieces);
     }
 
-    size_t answer_len = some_length(), work_len = some_length();
+    size_t answer_len = some_length(ANSWER_LEAST), work_len = some_length(WORK_LEAST);
     call(HERE, name, ALL(s.d.t), NULL, answer_len, work_len, want, found.answer);
     outcomes[want.outcome]++;
     if (want.outcome == 2)
@@ -945,14 +1091,17 @@ static void test_small_table(unsigned long number, unsigned long outcomes[3], un
     note_features(&s.d, &facts, &found, has);
     for (int i = 0; i < FEATURES; i++)
         features[i] += has[i];
+    note_homes(found.answer, want.pieces, has_home);
+    for (int i = 0; i < HOMES; i++)
+        homes[i] += has_home[i];
 }
 
 static void test_small(unsigned long tables)
 {
-    unsigned long outcomes[3] = {0}, features[FEATURES] = {0}, met[ENUM_BITS + 1] = {0};
+    unsigned long outcomes[3] = {0}, features[FEATURES] = {0}, homes[HOMES] = {0}, met[ENUM_BITS + 1] = {0};
 
     for (unsigned long i = 0; i < tables; i++)
-        test_small_table(i, outcomes, features, met);
+        test_small_table(i, outcomes, features, homes, met);
     printf("%lu small tables: always %lu, never %lu, solved %lu\n  solved with free", tables, outcomes[0], outcomes[1],
            outcomes[2]);
     for (size_t i = 0; i <= ENUM_BITS; i++)
@@ -963,6 +1112,10 @@ static void test_small(unsigned long tables)
         check(5 * outcomes[i] >= tables, HERE, "outcome %zu is rare", i);
     for (int i = 0; i < FEATURES; i++)
         check(features[i] != 0, HERE, "no small table has this: %s", feature_names[i]);
+    for (int i = 0; i < HOMES; i++) {
+        printf("    %-50s %lu\n", home_names[i], homes[i]);
+        check(homes[i] != 0, HERE, "no answer of a small table has this: %s", home_names[i]);
+    }
 }
 
 /* Damaged tables. */
@@ -986,7 +1139,7 @@ static uint32_t test_damaged_table(unsigned long number)
 {
     static sketch s;
     static draft any;
-    static uint16_t answer[LEAST];
+    static uint16_t answer[ANSWER_LEAST];
     draft *d = &any;
     char name[64];
 
@@ -1004,11 +1157,11 @@ static uint32_t test_damaged_table(unsigned long number)
         size_t at = below(4 * d->rows);
         d->t.numbers[at] = (uint16_t)below(one_in(2) ? 20 : 65536);
     }
-    size_t answer_len = some_length(), work_len = some_length(), too_short = one_in(2) ? LEAST - 1 : below(LEAST);
+    size_t answer_len = some_length(ANSWER_LEAST), work_len = some_length(WORK_LEAST);
     if (one_in(32))
-        answer_len = too_short;
+        answer_len = one_in(2) ? ANSWER_LEAST - 1 : below(ANSWER_LEAST);
     if (one_in(32))
-        work_len = too_short;
+        work_len = one_in(2) ? WORK_LEAST - 1 : below(WORK_LEAST);
 
     lw_record want = expected(d->t.numbers, d->t.len, answer_len, work_len, answer);
     snprintf(name, sizeof name, "damaged table %lu", number);
@@ -1057,13 +1210,14 @@ static void note_widths(size_t left, size_t right, bool has[SHORTS])
 static void test_large(void)
 {
     static plan p;
-    static uint16_t answer[LEAST];
+    static uint16_t answer[ANSWER_LEAST];
     unsigned long outcomes[3] = {0}, full = 0, wide = 0, chained = 0, early = 0, many = 0, bits_full = 0, marked = 0;
     unsigned long shorter[SHORTS] = {0};
     char name[64];
 
     for (unsigned long i = 0; i < LARGE_TABLES; i++) {
-        size_t answer_len = some_length(), work_len = some_length(), widest = 0, last = 0, cuts = 0, longest = 0;
+        size_t answer_len = some_length(ANSWER_LEAST), work_len = some_length(WORK_LEAST);
+        size_t widest = 0, last = 0, cuts = 0, longest = 0;
         bool marker = false, has[SHORTS] = {false};
         make_large(&p);
         lw_record want = expected(ALL(p.d.t), answer_len, work_len, answer);
@@ -1193,18 +1347,18 @@ static void make_pieced(draft *d, bool has[PIECED])
 static void test_pieced(void)
 {
     static draft d;
-    static uint16_t answer[LEAST];
+    static uint16_t answer[ANSWER_LEAST];
     unsigned long outcomes[3] = {0}, seen[PIECED] = {0};
     char name[64];
 
     for (unsigned long i = 0; i < PIECED_TABLES; i++) {
         bool has[PIECED] = {false};
         make_pieced(&d, has);
-        lw_record want = expected(ALL(d.t), LEAST, LEAST, answer);
+        lw_record want = expected(ALL(d.t), ANSWER_LEAST, WORK_LEAST, answer);
         snprintf(name, sizeof name, "table of many pieces %lu", i);
         if (!check(want.outcome <= 2, HERE, "%s: refused %u, row %u", name, want.outcome, want.row))
             continue;
-        call(HERE, name, ALL(d.t), NULL, LEAST, LEAST, want, answer);
+        call(HERE, name, ALL(d.t), NULL, ANSWER_LEAST, WORK_LEAST, want, answer);
         outcomes[want.outcome]++;
         for (int k = 0; k < PIECED; k++)
             seen[k] += has[k];
@@ -1230,6 +1384,7 @@ const test_list tests = {
         {.name = "sides of unequal width", .run = test_short},
         {.name = "markers of another width", .run = test_short_markers},
         {.name = "unequal sides up to 1024 bits", .run = test_short_limits},
+        {.name = "home and high", .run = test_homes},
         {.name = "ties, and never", .run = test_ties},
         {.name = "largest answers and tables", .run = test_limits},
         {.name = "refusal 10", .run = test_memory},

@@ -31,7 +31,7 @@ typedef struct {
     uint16_t form[LW_FORM_NUMBERS];
     uint8_t sheet[LW_MAX_SHEET + 1];
     size_t sheet_len;
-    uint16_t answer[LW_SOLVER_NUMBERS], work[LW_SOLVER_NUMBERS];
+    uint16_t answer[LW_ANSWER_NUMBERS], work[LW_WORK_NUMBERS];
     size_t answer_len, work_len, rows_in_use, variable;
     lw_record record;
     size_t number; /* of a page */
@@ -402,7 +402,7 @@ static void too_long_run(call *c)
 
 static void all_rows(call *c)
 {
-    c->rows_in_use = LW_SOLVER_NUMBERS / 4;
+    c->rows_in_use = LW_ANSWER_NUMBERS / LW_ANSWER_ROW_NUMBERS;
 }
 
 static void no_such_variable(call *c)
@@ -413,16 +413,17 @@ static void no_such_variable(call *c)
 
 static void too_many_rows(call *c)
 {
-    c->rows_in_use = LW_SOLVER_NUMBERS / 4 + 1;
+    c->rows_in_use = LW_ANSWER_NUMBERS / LW_ANSWER_ROW_NUMBERS + 1;
 }
 
 /* Answer tables of which a pattern is made, with fresh bits that are all 0. */
 
-static void answer_row(call *c, size_t variable, size_t kind, size_t width, size_t fresh)
+static void answer_row(call *c, size_t variable, size_t kind, size_t width, size_t fresh, size_t home, size_t high)
 {
     uint16_t *n = c->answer + c->answer_len;
     n[0] = (uint16_t)variable, n[1] = (uint16_t)kind, n[2] = (uint16_t)width, n[3] = (uint16_t)fresh;
-    c->answer_len += 4;
+    n[4] = (uint16_t)home, n[5] = (uint16_t)high;
+    c->answer_len += LW_ANSWER_ROW_NUMBERS;
 }
 
 static void no_rows(call *c)
@@ -432,13 +433,13 @@ static void no_rows(call *c)
 
 static void one_bit(call *c)
 {
-    answer_row(c, 0, LW_FRESH, 1, 0);
+    answer_row(c, 0, LW_FRESH, 1, 0, 0, 0);
     c->pattern_len = c->fresh_len = 1;
 }
 
 static void one_fill(call *c)
 {
-    answer_row(c, 0, 1, 1024, 0);
+    answer_row(c, 0, 1, 1024, 0, 0, 1023);
     c->pattern_len = 1024;
 }
 
@@ -446,7 +447,7 @@ static void one_fill(call *c)
 static void fresh_rows(call *c)
 {
     for (size_t i = 0; i < 4096; i++)
-        answer_row(c, i / 1024, LW_FRESH, 1, i);
+        answer_row(c, i / 1024, LW_FRESH, 1, i, i / 1024, 1023 - i % 1024);
     c->pattern_len = c->fresh_len = 4096;
 }
 
@@ -454,7 +455,7 @@ static void fresh_rows(call *c)
 static void one_piece(call *c)
 {
     for (size_t i = 0; i < 4096; i++)
-        answer_row(c, i / 1024, LW_FRESH, 1, 0);
+        answer_row(c, i / 1024, LW_FRESH, 1, 0, 0, 1023);
     c->pattern_len = 4096;
     c->fresh_len = 1;
 }
@@ -463,7 +464,7 @@ static void one_piece(call *c)
 static void fill_rows(call *c)
 {
     for (size_t i = 0; i < 4096; i++)
-        answer_row(c, i / 1024, i % 2, 1, 0);
+        answer_row(c, i / 1024, i % 2, 1, 0, i / 1024, 1023 - i % 1024);
     c->pattern_len = 4096;
 }
 
@@ -471,7 +472,7 @@ static void fill_rows(call *c)
 static void wide_rows(call *c)
 {
     for (size_t v = 0; v < 64; v++)
-        answer_row(c, v, LW_FRESH, 64, v);
+        answer_row(c, v, LW_FRESH, 64, v, v, 63);
     c->pattern_len = c->fresh_len = 4096;
 }
 
@@ -481,11 +482,23 @@ static void no_whole_answer_row(call *c)
     c->answer_len--;
 }
 
-/* Refused at its last row. */
+/* Refused at its last row: for its fresh number, its home and its high. */
 static void bad_answer_row(call *c)
 {
     fresh_rows(c);
-    c->answer[4 * 4095 + 3] = 4096;
+    c->answer[6 * 4095 + 3] = 4096;
+}
+
+static void bad_home(call *c)
+{
+    fresh_rows(c);
+    c->answer[6 * 4095 + 4] = 2;
+}
+
+static void bad_high(call *c)
+{
+    fresh_rows(c);
+    c->answer[6 * 4095 + 5] = 1;
 }
 
 static void few_fresh_bits(call *c)
@@ -670,7 +683,7 @@ static const test searches[] = {
     {"refused 42", too_long_run, LW_REFUSED_RUN, 0},
 };
 static const test parts[] = {
-    {"4096 rows of one variable", all_rows, 0, LW_SOLVER_NUMBERS},
+    {"4096 rows of one variable", all_rows, 0, LW_ANSWER_NUMBERS},
     {"no such variable", no_such_variable, 0, 0},
     {"too many rows", too_many_rows, 0, 0},
 };
@@ -684,6 +697,8 @@ static const test patterns[] = {
     {"64 variables of 64 bits", wide_rows, LW_ACCEPTED, 4096},
     {"refused 33, not whole rows", no_whole_answer_row, LW_REFUSED_ANSWER, 0},
     {"refused 33 at row 4095", bad_answer_row, LW_REFUSED_ANSWER, 0},
+    {"refused 33, the last home wrong", bad_home, LW_REFUSED_ANSWER, 0},
+    {"refused 33, the last high wrong", bad_high, LW_REFUSED_ANSWER, 0},
     {"refused 34, fresh bits too few", few_fresh_bits, LW_REFUSED_FRESH, 0},
     {"refused 34, the last byte above 1", bad_fresh_bit, LW_REFUSED_FRESH, 0},
     {"refused 32", short_pattern, LW_REFUSED_OUTPUT, 0},
@@ -767,13 +782,13 @@ static void note_page_bytes(call *c, lw_page_bytes page)
 #define ROWS  c->rows, c->row_count
 #define VALUE c->row, c->pattern, c->pattern_len, c->value, sizeof c->value
 #define FORM  c->row, c->form, LW_FORM_NUMBERS
-#define SOLVE c->answer, LW_SOLVER_NUMBERS, c->work, c->work_len
+#define SOLVE c->answer, LW_ANSWER_NUMBERS, c->work, c->work_len
 
 RUN(lw_value, record, TABLE, VALUE)
 RUN(lw_normal_form, record, TABLE, FORM)
 RUN(lw_read_sheet, record, c->sheet, c->sheet_len, TABLE)
 RUN(lw_solve, record, TABLE, SOLVE)
-RUN(lw_right_side, part, c->answer, LW_SOLVER_NUMBERS, c->rows_in_use, c->variable)
+RUN(lw_right_side, part, c->answer, LW_ANSWER_NUMBERS, c->rows_in_use, c->variable)
 RUN(lw_make_pattern, record, c->answer, c->answer_len, c->fresh, c->fresh_len, c->pattern, c->pattern_len)
 RUN(lw_marker_positions, record, TABLE, c->words, c->words_len, c->list, COUNT(c->list))
 RUN(lw_page, page_bytes, c->record, c->answer, c->answer_len, c->number)
@@ -854,7 +869,7 @@ static size_t measure(void (*run)(call *), call *c, unsigned char filling)
 static void make(call *c, const test *t)
 {
     memset(c, 0, sizeof *c);
-    c->work_len = LW_SOLVER_NUMBERS;
+    c->work_len = LW_WORK_NUMBERS;
     t->make(c);
     memcpy(c->rows, c->table, sizeof c->table);
     c->row_count = c->table_len % 4 == 0 ? c->table_len / 4 : LW_MAX_ROWS + 1; /* for no whole rows one too many */

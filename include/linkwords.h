@@ -114,25 +114,33 @@
   few and as long as they can be.
 
   An answer table is a solved system as numbers: the right sides, variable 0
-  first, each from its high end on. A row of it is four 16-bit numbers, in this
+  first, each from its high end on. A row of it is six 16-bit numbers, in this
   order:
 
-     variable    kind         width  fresh
-     its number  0 or 1       width  0          fill, all bits are kind
-     its number  2 LW_FRESH   width  its number fresh piece
+     variable    kind         width  fresh       home  high
+     its number  0 or 1       width  0           its own place
+     its number  2 LW_FRESH   width  its number  the piece's first place
 
-  The fresh pieces are numbered from 0 in the order in which they first appear;
-  a fresh piece that stands at several places has one number and one width. A
-  variable that no equation bears on is one fresh piece.
+  A row of kind 0 or 1 is a fill, all of whose bits are kind. The fresh pieces
+  are numbered from 0 in the order in which they first appear; a fresh piece
+  that stands at several places has one number and one width. A variable that no
+  equation bears on is one fresh piece.
+
+  Home and high say where a piece stands first: home is the variable, and high
+  the number of the highest bit that it takes there. Of a fresh piece this is
+  the place of the first row of kind 2 with its fresh number, so that a first
+  appearance names its own place, and each later one the same. A fill names its
+  own place, also where the same fixed bit stands elsewhere before it. So the
+  bits of a row are the bits high down to high - width + 1 of variable home.
 
   The sheet that stands under Sheets has this answer table, in which fresh piece
-  1 stands three times:
+  1 stands three times, first at bits 6 and 5:
 
-     0 2 1 0
-     0 2 2 1
-     0 2 2 1
-     0 2 2 1
-     0 2 1 2
+     0 2 1 0 0 7
+     0 2 2 1 0 6
+     0 2 2 1 0 6
+     0 2 2 1 0 6
+     0 2 1 2 0 0
 
   So the variable is s t t t u, with any words s, t and u of one, two and one
   bits: 16 patterns meet the table.
@@ -219,9 +227,10 @@
   in all. A line has four columns of 10 characters. What stands in a column
   stands at its right end, with blanks (byte 32) before it, and numbers are
   decimal without leading zeros. Line one has the names variable, kind, width
-  and fresh; each line below it has one row of the answer table, a piece, 59 of
-  them on a page, and lines that are left are blanks. The first lines of page 0
-  of the answer table above are
+  and fresh; each line below it has these four numbers of one row of the answer
+  table, a piece, 59 of them on a page, and lines that are left are blanks. Home
+  and high are not printed. The first lines of page 0 of the answer table above
+  are
 
        variable      kind     width     fresh
               0         2         1         0
@@ -268,9 +277,9 @@
   Lengths count elements, not bytes: 16-bit numbers for a table, for a normal
   form, for an answer table, for a work area and for a run, 32-bit numbers for a
   list of starts, bytes for a pattern, for a value, for fresh bits and for a
-  sheet. A table of R rows has length 4 * R, and so has an answer table of R
-  rows. The calls whose names end in _rows take the table as an array of row
-  structs instead, and the number of rows.
+  sheet. A table of R rows has length 4 * R, and an answer table of R rows has
+  length 6 * R. The calls whose names end in _rows take the table as an array of
+  row structs instead, and the number of rows.
 
   Each pointer is to as many elements as its length says, aligned for their
   type. The buffers of one call must not overlap. A pointer may be NULL where
@@ -300,8 +309,8 @@ extern "C" {
   The version of the library, as text and as a number that grows from version to
   version: major * 1000000 + minor * 1000 + patch.
 */
-#define LW_VERSION_TEXT "0.16.0"
-#define LW_VERSION      16000
+#define LW_VERSION_TEXT "0.17.0"
+#define LW_VERSION      17000
 
 /* constants */
 
@@ -322,10 +331,11 @@ extern "C" {
 /* Limits. */
 #define LW_ROW_NUMBERS          4 /* numbers of a row: kind, a, b, c */
 #define LW_PIECE_NUMBERS        4 /* of a piece: kind, variable, high, low */
-#define LW_ANSWER_ROW_NUMBERS   4 /* of an answer table's row: variable, kind, width, fresh */
+#define LW_ANSWER_ROW_NUMBERS   6 /* of an answer table's row: variable, kind, width, fresh, home, high */
 #define LW_FORM_NUMBERS      4096 /* least output of a normal form */
 #define LW_TABLE_NUMBERS     2048 /* least output of a sheet's reading */
-#define LW_SOLVER_NUMBERS   16384 /* least answer table and least work area of a solve */
+#define LW_ANSWER_NUMBERS   24576 /* least answer table of a solve */
+#define LW_WORK_NUMBERS     16384 /* least work area of a solve */
 #define LW_MAX_SHEET        16384 /* bytes of a sheet */
 #define LW_MAX_ROWS           512
 #define LW_MAX_WIDTH         1024
@@ -344,7 +354,7 @@ extern "C" {
 #define LW_SOLVED   2 /* every other table */
 
 /* Refusals. */
-#define LW_REFUSED_MEMORY    10 /* answer table or work area below 16384 numbers */
+#define LW_REFUSED_MEMORY    10 /* answer table below 24576 numbers, or work area below 16384 */
 #define LW_REFUSED_TABLE     11 /* length no multiple of 4, or over 512 rows */
 #define LW_REFUSED_KIND      12 /* kind above 5 */
 #define LW_REFUSED_UNUSED    13 /* a column that the kind does not use is not 0 */
@@ -538,10 +548,10 @@ lw_record lw_solve(const uint16_t *table, size_t table_len,
                   the answer table, which is at least 1 and at most 4096; fresh
                   is the number of fresh pieces; free is the number of their
                   bits, each fresh piece once; ties is the number of ties of all
-                  equations; row is 0. The first 4 * pieces numbers of answer
+                  equations; row is 0. The first 6 * pieces numbers of answer
                   are then the rows of the answer table (see Solved systems),
-                  each as variable, kind, width and fresh number; the numbers of
-                  answer that follow keep their content.
+                  each as variable, kind, width, fresh number, home and high;
+                  the numbers of answer that follow keep their content.
 
      After LW_ALWAYS and LW_SOLVED, free plus ties is the number of the table's
      variable bits, and the patterns that meet the table are 2 to the free.
@@ -556,9 +566,10 @@ lw_record lw_solve(const uint16_t *table, size_t table_len,
      would need no answer table; then the table.
 
      outcome                 cause                               field row
-     10 LW_REFUSED_MEMORY    answer_len or work_len is below     0
-                             LW_SOLVER_NUMBERS (16384), however
-                             small the table is
+     10 LW_REFUSED_MEMORY    answer_len is below                 0
+                             LW_ANSWER_NUMBERS (24576), or
+                             work_len is below LW_WORK_NUMBERS
+                             (16384), however small the table is
      11 to 17, 40            the table is refused: see Refusals  512, or
                              of a term table above               that row
 
@@ -574,16 +585,16 @@ lw_part lw_right_side(const uint16_t *answer, size_t answer_len,
 
      The part that is yielded is the run from the first row of that variable
      through the rows of it that follow directly: len numbers of answer, from
-     answer[start] on. Both start and len are multiples of 4. Rows of the same
+     answer[start] on. Both start and len are multiples of 6. Rows of the same
      variable behind another variable's row do not belong to it; after lw_solve
      there are none.
 
      The part is empty, start 0 and len 0, if none of the rows in use is of that
      variable (always so for a variable above 65535), or if rows_in_use is more
-     than the whole rows of answer, that is answer_len / 4 rounded down.
+     than the whole rows of answer, that is answer_len / 6 rounded down.
 
-     Nothing is asked of the numbers in answer, and there is no refusal. The
-     answer table is only read.
+     Nothing is asked of the numbers in answer, home and high among them, and
+     there is no refusal. The answer table is only read.
 */
 
 lw_record lw_make_pattern(const uint16_t *answer, size_t answer_len,
@@ -591,13 +602,13 @@ lw_record lw_make_pattern(const uint16_t *answer, size_t answer_len,
                           uint8_t *pattern, size_t pattern_len);
 /*
      Writes the pattern that an answer table gives with the fresh bits. After
-     lw_solve with outcome LW_SOLVED, the answer table is the first 4 * pieces
+     lw_solve with outcome LW_SOLVED, the answer table is the first 6 * pieces
      numbers of its buffer, the fresh bits are free in number, and the pattern
      meets the table: every choice of fresh bits gives one, and no two of them
      the same. After LW_ALWAYS there is no answer table, and any bits are a
      pattern.
 
-     All of answer is rows in use: answer_len is 4 times their number. Nothing is
+     All of answer is rows in use: answer_len is 6 times their number. Nothing is
      asked of where they come from, but they have this form:
 
        - The variable of the first row is 0. That of each other row is that of
@@ -610,6 +621,10 @@ lw_record lw_make_pattern(const uint16_t *answer, size_t answer_len,
        - The fresh number of a fresh piece is that of an earlier row which is a
          fresh piece, and then the two have the same width; or it is the lowest
          number which is not that of an earlier fresh piece.
+       - The home and high of a fill are its own variable, and the widths of
+         that variable's rows from its own on, added up, less 1. Those of a
+         fresh piece are these two numbers of the first row of kind 2 with its
+         fresh number.
 
      So fresh pieces need not be as few or as long as they can be: two that
      always follow each other may be two. An answer table of no rows has this
@@ -626,7 +641,7 @@ lw_record lw_make_pattern(const uint16_t *answer, size_t answer_len,
      and nothing is written to pattern.
 
      outcome                 cause                               field row
-     33 LW_REFUSED_ANSWER    answer_len is no multiple of 4, or  0
+     33 LW_REFUSED_ANSWER    answer_len is no multiple of 6, or  0
                              the rows are not of the form above
      34 LW_REFUSED_FRESH     fresh_len is not the number of      0
                              fresh bits, that is the widths of
@@ -694,11 +709,12 @@ lw_page_bytes lw_page(lw_record record, const uint16_t *answer, size_t answer_le
 
      If the field outcome is LW_SOLVED, the pieces are the rows of answer, in
      their order: as many as the field pieces says, or as many as there are
-     whole rows, that is answer_len / 4 rounded down, if these are fewer. Page k
+     whole rows, that is answer_len / 6 rounded down, if these are fewer. Page k
      has the names, and below them pieces 59 * k to 59 * k + 58, as many of them
-     as there are, and then blank lines. There are as many pages as the pieces
-     need: 1 for 0 to 59 pieces, 2 for 60 to 118, and so on. So page 0 is always
-     there; without a piece it has the names and 59 blank lines.
+     as there are, and then blank lines. Of a row its first four numbers are
+     printed. There are as many pages as the pieces need: 1 for 0 to 59 pieces, 2
+     for 60 to 118, and so on. So page 0 is always there; without a piece it has
+     the names and 59 blank lines.
 
      With any other outcome there is one page: the names, then a line with that
      number in the first column and blanks in the other three, and 58 blank
