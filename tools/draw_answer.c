@@ -8,12 +8,12 @@
   more than 32 bits takes a line for each 32 of them, counted from the low end.
 
   A fill is grey and shows its bit in each place. A fresh piece has one colour
-  wherever it stands, and its number is written on it. A piece that goes on in
-  the next line sticks out of both lines. The colours are those of M. Okabe and
-  K. Ito, which can be told apart with any colour vision. There are seven: fresh
-  piece 7 has the first of them again, under stripes, piece 14 under dots and
-  piece 21 under bars. From piece 28 on all of it comes again, and the number
-  alone tells.
+  wherever it stands, and its number is written on it; the ring around it is
+  dashed where the piece is not at home. A piece that goes on in the next line
+  sticks out of both lines. The colours are those of M. Okabe and K. Ito, which
+  can be told apart with any colour vision. There are seven: fresh piece 7 has
+  the first of them again, under stripes, piece 14 under dots and piece 21 under
+  bars. From piece 28 on all of it comes again, and the number alone tells.
 
   For outcome 0 (always) each variable is drawn as one piece that is free. For
   outcome 1 (never) and for a refusal the picture says so, with the row.
@@ -33,7 +33,7 @@
 #include "linkwords.h"
 
 static uint8_t sheet[LW_MAX_SHEET + 1]; /* one byte more, so that a longer sheet is refused */
-static uint16_t table[LW_TABLE_NUMBERS], answer[LW_SOLVER_NUMBERS], work[LW_SOLVER_NUMBERS];
+static uint16_t table[LW_TABLE_NUMBERS], answer[LW_ANSWER_NUMBERS], work[LW_WORK_NUMBERS];
 
 /* ---- where things stand */
 
@@ -130,6 +130,7 @@ static const char style[] =
     ".box { stroke: #333 }\n"
     ".cells { stroke: #333; stroke-opacity: 0.35 }\n"
     ".badge { fill: #fff; stroke: #333 }\n"
+    ".again { stroke-dasharray: 3 3 }\n"
     ".cross { stroke: #fff; stroke-width: 3; stroke-linecap: round }\n"
     "</style>\n";
 
@@ -207,11 +208,17 @@ static void end_picture(void)
 
 enum { FREE = 3 }; /* a kind beside 0, 1 and LW_FRESH: a whole variable that is free */
 
-/* A piece of a variable: its bits, and kind and number as in an answer table. */
+/* A piece of a variable: its bits, and kind and number as in an answer table, and where it is at home. */
 typedef struct {
     const word *of;
-    unsigned high, low, kind, number;
+    unsigned high, low, kind, number, home, home_high;
 } piece;
+
+/* Whether a piece is a fresh piece that stood before. */
+static bool stands_again(const piece *p)
+{
+    return p->kind == LW_FRESH && (p->home != (unsigned)(p->of - words) || p->home_high != p->high);
+}
 
 /* On bits high to low of a piece, in their middle: its number, or that it is free. */
 static void draw_badge(const piece *p, unsigned high, unsigned low)
@@ -223,8 +230,8 @@ static void draw_badge(const piece *p, unsigned high, unsigned low)
     if (p->kind == LW_FRESH)
         snprintf(text, sizeof text, "%u", p->number);
     size_t length = strlen(text);
-    printf("<rect class=\"badge\" x=\"%u\" y=\"%u\" width=\"%u\" height=\"20\" rx=\"10\"/>\n",
-           middle - widths[length] / 2, y - 10, widths[length]);
+    printf("<rect class=\"badge%s\" x=\"%u\" y=\"%u\" width=\"%u\" height=\"20\" rx=\"10\"/>\n",
+           stands_again(p) ? " again" : "", middle - widths[length] / 2, y - 10, widths[length]);
     begin_text(length > 2 ? "number long" : "number", middle, length > 2 ? y + 4 : y + 5);
     printf("%s</text>\n", text);
 }
@@ -279,6 +286,8 @@ static void draw_piece(const piece *p)
         printf("<g><title>variable %u, bits %u to %u: ", variable, p->high, p->low);
     if (p->kind == FREE)
         printf("free</title>\n");
+    else if (stands_again(p))
+        printf("fresh piece %u, at home in variable %u from bit %u</title>\n", p->number, p->home, p->home_high);
     else if (p->kind == LW_FRESH)
         printf("fresh piece %u</title>\n", p->number);
     else
@@ -318,8 +327,8 @@ static unsigned notes_of(lw_record r, const char *note[4])
     bool goes_on = false;
 
     for (uint32_t i = 0; i < r.pieces; i++) {
-        const uint16_t *n = answer + 4 * i;
-        if (i == 0 || n[0] != n[-4])
+        const uint16_t *n = answer + LW_ANSWER_ROW_NUMBERS * i;
+        if (i == 0 || n[0] != n[-LW_ANSWER_ROW_NUMBERS])
             left = words[n[0]].width;
         goes_on = goes_on || (left - 1) / LINE_BITS != (left - n[2]) / LINE_BITS;
         left -= n[2];
@@ -330,7 +339,7 @@ static unsigned notes_of(lw_record r, const char *note[4])
     if (fresh != 0)
         note[notes++] = "The bits of a fresh piece, in colour with its number, may be chosen.";
     if (fresh != r.fresh)
-        note[notes++] = "Where a number stands again, they are the same bits.";
+        note[notes++] = "Where a number stands again, in a dashed ring, they are the bits of its first place.";
     if (goes_on)
         note[notes++] = "A piece that sticks out of its line goes on in the next.";
     return notes;
@@ -343,11 +352,12 @@ static void draw_solved(lw_record r)
 
     begin_picture(r, picture_width(), bottom + notes * NOTE + MARGIN);
     for (unsigned v = 0; v < variables; v++) {
-        lw_part side = lw_right_side(answer, LW_SOLVER_NUMBERS, r.pieces, v);
+        lw_part side = lw_right_side(answer, LW_ANSWER_NUMBERS, r.pieces, v);
         unsigned left = words[v].width;
         draw_word(words + v);
-        for (const uint16_t *n = answer + side.start; n < answer + side.start + side.len; n += 4) {
-            draw_piece(&(piece){.of = words + v, .high = left - 1, .low = left - n[2], .kind = n[1], .number = n[3]});
+        for (const uint16_t *n = answer + side.start; n < answer + side.start + side.len; n += LW_ANSWER_ROW_NUMBERS) {
+            draw_piece(&(piece){.of = words + v, .high = left - 1, .low = left - n[2], .kind = n[1], .number = n[3],
+                                .home = n[4], .home_high = n[5]});
             left -= n[2];
         }
     }
@@ -480,7 +490,7 @@ int main(int argc, char **argv)
     lw_record r = lw_read_sheet(sheet, len, table, LW_TABLE_NUMBERS);
     if (r.outcome == LW_ACCEPTED) {
         uint32_t rows = r.pieces;
-        r = lw_solve(table, 4 * rows, answer, LW_SOLVER_NUMBERS, work, LW_SOLVER_NUMBERS);
+        r = lw_solve(table, 4 * rows, answer, LW_ANSWER_NUMBERS, work, LW_WORK_NUMBERS);
         if (r.outcome == LW_ALWAYS || r.outcome == LW_SOLVED)
             lay_out(rows);
         if (r.outcome == LW_ALWAYS)

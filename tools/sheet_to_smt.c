@@ -18,7 +18,8 @@
 
     - whether some pattern meets the table, and whether some does not;
     - for outcome 2, of each row of the answer whether its bits can differ from
-      the fill, or from the first appearance of its fresh piece: they cannot;
+      the fill, or from the bits where home and high say that its fresh piece
+      first appears: they cannot;
     - whether all fresh bits can be as given, for as many givings that of each
       two fresh bits one has 0 where the other has 1 in some of them: they can.
 
@@ -35,7 +36,7 @@
 #include "linkwords.h"
 
 static uint8_t sheet[LW_MAX_SHEET + 1];
-static uint16_t table[LW_TABLE_NUMBERS], answer[LW_SOLVER_NUMBERS], work[LW_SOLVER_NUMBERS];
+static uint16_t table[LW_TABLE_NUMBERS], answer[LW_ANSWER_NUMBERS], work[LW_WORK_NUMBERS];
 
 static unsigned width[LW_MAX_ROWS];          /* of each row; 0 for an equation */
 static unsigned variable_width[64], variables;
@@ -124,17 +125,19 @@ static void end_question(bool possible)
     printf(")\n(echo \"%s\")\n(check-sat)\n(pop 1)\n", possible ? "sat" : "unsat");
 }
 
+enum { NUMBERS = LW_ANSWER_ROW_NUMBERS, ANSWER_ROWS = LW_ANSWER_NUMBERS / NUMBERS };
+
 /* Of each row of the answer: its low bit in its variable. Of each fresh piece: the row of its first appearance. */
-static unsigned low[LW_SOLVER_NUMBERS / 4];
-static uint32_t first[LW_SOLVER_NUMBERS / 4], seen;
+static unsigned low[ANSWER_ROWS];
+static uint32_t first[ANSWER_ROWS], seen;
 
 static void lay_out(uint32_t rows)
 {
     unsigned left = 0; /* bits of the variable below the rows before */
 
     for (uint32_t i = 0; i < rows; i++) {
-        const uint16_t *n = answer + 4 * i;
-        if (i == 0 || n[0] != n[-4])
+        const uint16_t *n = answer + NUMBERS * i;
+        if (i == 0 || n[0] != n[-NUMBERS])
             left = variable_width[n[0]];
         left -= n[2];
         low[i] = left;
@@ -146,22 +149,28 @@ static void lay_out(uint32_t rows)
 /* The part of a variable that a row of the answer stands for. */
 static void print_part(uint32_t i)
 {
-    printf("((_ extract %u %u) v%u)", low[i] + answer[4 * i + 2] - 1, low[i], answer[4 * i]);
+    const uint16_t *n = answer + NUMBERS * i;
+    printf("((_ extract %u %u) v%u)", low[i] + n[2] - 1, low[i], n[0]);
 }
 
-/* Fixed and equal bits: they cannot be otherwise. */
+/* The part of a variable where a row's piece is at home, by the row itself. */
+static void print_home(uint32_t i)
+{
+    const uint16_t *n = answer + NUMBERS * i;
+    printf("((_ extract %d %d) v%u)", n[5], n[5] + 1 - n[2], n[4]);
+}
+
+/* Fixed and equal bits: they cannot be otherwise. A piece at its first appearance is that of its home. */
 static void ask_rows(uint32_t rows)
 {
     for (uint32_t i = 0; i < rows; i++) {
-        const uint16_t *n = answer + 4 * i;
-        if (n[1] == LW_FRESH && first[n[3]] == i)
-            continue;
+        const uint16_t *n = answer + NUMBERS * i;
         begin_question();
         printf("(distinct ");
         print_part(i);
         putchar(' ');
         if (n[1] == LW_FRESH)
-            print_part(first[n[3]]);
+            print_home(i);
         else
             print_fill(n[1], n[2]);
         putchar(')');
@@ -180,7 +189,7 @@ static void ask_fresh(uint32_t k, unsigned other)
         printf(" (= ");
         print_part(first[piece]);
         printf(" #b");
-        for (unsigned i = 0; i < answer[4 * first[piece] + 2]; i++)
+        for (unsigned i = 0; i < answer[NUMBERS * first[piece] + 2]; i++)
             putchar(((number++ >> k & 1) ^ other) == 1 ? '1' : '0');
         putchar(')');
     }
@@ -213,7 +222,7 @@ int main(int argc, char **argv)
     lw_record read = lw_read_sheet(sheet, len, table, LW_TABLE_NUMBERS);
     if (read.outcome != LW_ACCEPTED)
         return 1;
-    lw_record solved = lw_solve(table, 4 * read.pieces, answer, LW_SOLVER_NUMBERS, work, LW_SOLVER_NUMBERS);
+    lw_record solved = lw_solve(table, 4 * read.pieces, answer, LW_ANSWER_NUMBERS, work, LW_WORK_NUMBERS);
     if (solved.outcome > LW_SOLVED)
         return 1;
 
