@@ -30,12 +30,12 @@ double median(samples *s)
 
 /* Tables. */
 
-static uint16_t answer[LW_SOLVER_NUMBERS], work[LW_SOLVER_NUMBERS];
-static uint16_t plain_answer[LW_SOLVER_NUMBERS], parent[PLAIN_SOURCES];
+static uint16_t answer[LW_ANSWER_NUMBERS], work[LW_WORK_NUMBERS];
+static uint16_t plain_answer[LW_ANSWER_NUMBERS], parent[PLAIN_SOURCES];
 
 static lw_record solve(const subject *in, size_t rows)
 {
-    return lw_solve(in->d.t.numbers, 4 * rows, answer, LW_SOLVER_NUMBERS, work, LW_SOLVER_NUMBERS);
+    return lw_solve(in->d.t.numbers, 4 * rows, answer, LW_ANSWER_NUMBERS, work, LW_WORK_NUMBERS);
 }
 
 /* All of it by the solver in C: the check of the table and the answer. */
@@ -78,7 +78,8 @@ bool prepare(subject *in)
     in->record = solve(in, in->d.rows);
     if (in->record.outcome != (in->d.rows == 0 ? LW_ALWAYS : LW_SOLVED) ||
         memcmp(&in->record, &want, sizeof want) != 0 ||
-        memcmp(answer, plain_answer, 4 * want.pieces * sizeof *answer) != 0 || ties(in) != want.ties) {
+        memcmp(answer, plain_answer, LW_ANSWER_ROW_NUMBERS * want.pieces * sizeof *answer) != 0 ||
+        ties(in) != want.ties) {
         fprintf(stderr, "%s %zu: %zu pairs, outcome %u, ties %u and %zu: not the answer of the plain solver\n",
                 in->name, in->size, in->pairs, in->record.outcome, in->record.ties, ties(in));
         return false;
@@ -185,7 +186,7 @@ static double page_time(__typeof__(lw_page) *make, lw_record record, size_t numb
 {
     double start = seconds();
     for (size_t i = 0; i < PAGE_CALLS; i++)
-        sink += make(record, answer, LW_SOLVER_NUMBERS, number).bytes[i];
+        sink += make(record, answer, LW_ANSWER_NUMBERS, number).bytes[i];
     return (seconds() - start) / PAGE_CALLS;
 }
 
@@ -193,8 +194,8 @@ bool measure_pages(const subject *of, page_subject *in, size_t count, size_t rou
 {
     lw_record record = solve(of, of->d.rows);
     for (size_t k = 0; k < count; k++) {
-        lw_page_bytes page = lw_page(record, answer, LW_SOLVER_NUMBERS, in[k].number);
-        lw_page_bytes plain_one = plain_page(record, answer, LW_SOLVER_NUMBERS, in[k].number);
+        lw_page_bytes page = lw_page(record, answer, LW_ANSWER_NUMBERS, in[k].number);
+        lw_page_bytes plain_one = plain_page(record, answer, LW_ANSWER_NUMBERS, in[k].number);
         if (memcmp(&page, &plain_one, sizeof page) != 0) {
             fprintf(stderr, "%s: not that of the plain page maker\n", in[k].name);
             return false;

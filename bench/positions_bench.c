@@ -137,8 +137,8 @@ static size_t plain(const layout *in)
 
 static uint32_t solve(const layout *in)
 {
-    static uint16_t answer[LW_SOLVER_NUMBERS], work[LW_SOLVER_NUMBERS];
-    return lw_solve(in->d.t.numbers, in->d.t.len, answer, LW_SOLVER_NUMBERS, work, LW_SOLVER_NUMBERS).ties;
+    static uint16_t answer[LW_ANSWER_NUMBERS], work[LW_WORK_NUMBERS];
+    return lw_solve(in->d.t.numbers, in->d.t.len, answer, LW_ANSWER_NUMBERS, work, LW_WORK_NUMBERS).ties;
 }
 
 static bool same_lists(const layout *in, size_t found, const char *name)

@@ -11,8 +11,12 @@
   there. Nothing of it is the library's: the readers and the makers are those of
   reference.h, enumerate.h and plain_pattern.h.
 
+  64 variables have too many patterns to be enumerated. A table of so many is
+  solved by plain_solver.h, which test_solve.c compares with the enumeration.
+
   The exit status is 1 if a sheet cannot be read, if its table is accepted and
-  has more variable bits than can be enumerated, or if nothing can be written.
+  has more variable bits than can be enumerated but not 64 variables, or if
+  nothing can be written.
 */
 
 #include <inttypes.h>
@@ -22,14 +26,16 @@
 
 #include "enumerate.h"
 #include "plain_pattern.h"
+#include "plain_solver.h"
 #include "reference.h"
 
-enum { FORM_NUMBERS = 4096, SHEET_BYTES = 16384, NEVER = 1, SOLVED = 2 };
+enum { FORM_NUMBERS = 4096, SHEET_BYTES = 16384, VARIABLE = 0, VARIABLES = 64, NEVER = 1, SOLVED = 2 };
 
 static uint8_t sheet[SHEET_BYTES + 1];
 static uint16_t table[4 * REF_ROWS];
 static ref_table facts;
-static enumeration found;
+static lw_record solved;                  /* the table's record, */
+static uint16_t answer[6 * PLAIN_BITS];   /* and its answer table */
 
 static void print_values(lw_record r)
 {
@@ -75,7 +81,7 @@ static void print_forms(size_t numbers)
 /* The value of each row under the pattern whose places 0, 3, 6, .. are 1. */
 static void print_row_values(size_t numbers)
 {
-    static uint8_t pattern[ENUM_BITS], value[REF_WIDTH];
+    static uint8_t pattern[PLAIN_BITS], value[REF_WIDTH];
 
     for (size_t i = 0; i < facts.bits; i++)
         pattern[i] = i % 3 == 0;
@@ -91,17 +97,39 @@ static void print_row_values(size_t numbers)
 /* The pattern whose fresh bits 0, 2, 4, .. are 1, and that whose fresh bits 1, 3, 5, .. are. */
 static void print_patterns(void)
 {
-    static uint8_t fresh[ENUM_BITS], pattern[ENUM_BITS];
+    static uint8_t fresh[PLAIN_BITS], pattern[PLAIN_BITS];
 
     printf("patterns\n");
     for (size_t first = 0; first < 2; first++) {
-        for (size_t i = 0; i < found.record.free; i++)
+        for (size_t i = 0; i < solved.free; i++)
             fresh[i] = i % 2 == first;
-        lw_record record = plain_make_pattern(found.answer, 6 * found.record.pieces, fresh, found.record.free,
-                                              pattern, facts.bits);
+        lw_record record = plain_make_pattern(answer, 6 * solved.pieces, fresh, solved.free, pattern, facts.bits);
         print_values(record);
         print_bits(pattern, record.free);
     }
+}
+
+static size_t variable_count(void)
+{
+    size_t count = 0;
+    for (size_t r = 0; r < facts.rows; r++)
+        count += table[4 * r] == VARIABLE;
+    return count;
+}
+
+/* Solves an accepted table; whether it could be. */
+static bool solve(void)
+{
+    static enumeration found;
+
+    if (facts.bits <= ENUM_BITS) {
+        enumerate(table, &facts, &found);
+        solved = found.record;
+        memcpy(answer, found.answer, sizeof found.answer);
+    } else {
+        solved = plain_solve(table, &facts, answer);
+    }
+    return facts.bits <= ENUM_BITS || variable_count() == VARIABLES;
 }
 
 /* All that is printed for the first bytes of the sheet, or what solve prints; whether it could be. */
@@ -113,17 +141,16 @@ static bool print_sheet(size_t len, bool solve_only)
     if (record.outcome == 0)
         record = ref_check(table, numbers, &facts);
     if (record.outcome == 0) {
-        if (facts.bits > ENUM_BITS)
+        if (!solve())
             return false;
-        enumerate(table, &facts, &found);
-        record = found.record;
+        record = solved;
     }
     printf("outcome pieces fresh free ties row\n");
     print_values(record);
     if (record.outcome > SOLVED)
         return true;
     if (record.outcome == SOLVED)
-        print_answer(found.answer, record.pieces);
+        print_answer(answer, record.pieces);
     if (solve_only)
         return true;
     print_forms(numbers);
