@@ -4,8 +4,9 @@
   Random tables with equations, a twentieth as many as there are random answer
   tables, of up to 14 variable bits: lw_solve gives their answer table, and the
   patterns of all its fillings must be those that meet the table, each once, as
-  many as the enumeration of all patterns (enumerate.c) finds. And 1000 such
-  tables of up to 4096 variable bits, with some fillings each.
+  many as the enumeration of all patterns (enumerate.c) finds, and in each of
+  them the bits of a row must be those of its home. And 1000 such tables of up
+  to 4096 variable bits, with some fillings each.
 */
 
 #include "enumerate.h"
@@ -42,7 +43,28 @@ static bool solve(const char *name, const draft *d, solved_table *s)
                  "%s: the solver's answer table is not of the form", name);
 }
 
-/* One filling: the pattern is that of the plain pattern maker, and it meets the table. */
+/* The home has the piece: in the pattern the bits of each row are the bits high down of variable home, as many as it is wide. */
+static void test_home_bits(const char *name, const solved_table *s, const uint8_t pattern[BITS])
+{
+    size_t behind[64] = {0}, place = 0; /* of each variable: the place behind its bit 0 */
+    bool same = true;
+
+    for (size_t r = 0; r < s->record.pieces; r++) {
+        const uint16_t *n = s->answer + 6 * r;
+        place += n[2];
+        behind[n[0]] = place;
+    }
+    place = 0;
+    for (size_t r = 0; r < s->record.pieces && same; r++) {
+        const uint16_t *n = s->answer + 6 * r;
+        size_t home = behind[n[4]] - 1 - n[5];
+        same = n[5] + 1U >= n[2] && home < s->facts.bits && memcmp(pattern + place, pattern + home, n[2]) == 0;
+        place += n[2];
+    }
+    check(same, HERE, "%s: a row's bits are not those of its home", name);
+}
+
+/* One filling: the pattern is that of the plain pattern maker, it meets the table, and each home has its piece. */
 static void test_filling(const char *name, const draft *d, const solved_table *s, const uint8_t *fresh,
                          uint8_t pattern[BITS])
 {
@@ -54,6 +76,7 @@ static void test_filling(const char *name, const draft *d, const solved_table *s
     memset(pattern, 9, bits); /* from here on it is the library's */
     check_record(HERE, name, lw_make_pattern(s->answer, len, fresh, s->record.free, pattern, bits),
                  (lw_record){.free = (uint32_t)bits});
+    test_home_bits(name, s, pattern);
     if (!check(ref_meets(d->t.numbers, &s->facts, pattern), HERE, "%s: a pattern does not meet the table",
                name) && checks_failed == 1) {
         print_table(d->t.numbers, d->t.len);
