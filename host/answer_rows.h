@@ -20,7 +20,7 @@
 #define ONES(variable, width)           (variable), 1, (width), 0
 #define ANSWER                          TABLE
 
-/* Rows of six numbers. A fill names its own place, the bits from high down; a fresh piece the place of its first row. */
+/* Rows of six numbers. A fill names its own place, its bits from high down; a fresh piece that of its first row. */
 #define FRESH_AT(variable, width, number, home, high)  FRESH(variable, width, number), (home), (high)
 #define ZEROS_AT(variable, width, high)                ZEROS(variable, width), (variable), (high)
 #define ONES_AT(variable, width, high)                 ONES(variable, width), (variable), (high)

@@ -73,7 +73,8 @@ static void test_written(void)
         0, 2, 1, 0, 0, 7, 0, 2, 2, 1, 0, 6, 0, 2, 2, 1, 0, 6, 0, 2, 2, 1, 0, 6, 0, 2, 1, 2, 0, 0,
     };
     static const uint16_t greatest[] = { /* home and high are not printed, whatever they are */
-        65535, 65535, 65535, 65535, 65535, 65535, 0, 9, 10, 99, 7, 8, 100, 999, 1000, 9999, 0, 0, 10000, 1, 0, 7, 5, 65535,
+        65535, 65535, 65535, 65535, 65535, 65535, 0, 9, 10, 99, 7, 8,
+        100, 999, 1000, 9999, 0, 0, 10000, 1, 0, 7, 5, 65535,
     };
     lw_record solved = {.outcome = LW_SOLVED, .pieces = 5, .fresh = 3, .free = 4, .ties = 4};
 

@@ -561,7 +561,7 @@ static void change(where at, answer_table *a, size_t r, size_t home, size_t high
     n[4] = kept[0], n[5] = kept[1];
 }
 
-/* An answer table of the form, by the first four numbers of its rows: each row's home and high changed, in many ways. */
+/* An answer table of the form, by the first four numbers of its rows: each home and each high changed, in many ways. */
 static void refuse_changed(where at, const uint16_t *four, size_t len)
 {
     static answer_table a;
@@ -589,30 +589,30 @@ static void refuse_changed(where at, const uint16_t *four, size_t len)
     }
 }
 
-/* A table of the form whose last row is followed by a row of the same variable: all highs of the variable are wrong. */
+/*
+  A table of the form whose last row is followed by a row of the same variable,
+  fresh or a fill, so that all highs of the variable are wrong; or by one of the
+  next variable, whose own high is wrong.
+*/
 static void refuse_longer(where at, const uint16_t *four, size_t len)
 {
     static answer_table a;
-    size_t rows = len / 4, fresh = 0;
+    size_t rows = len / 4, fresh = 0, last = four[len - 4], bit = four[len - 3] == 0;
 
-    a.len = 6 * rows;
-    add_homes(four, rows, a.numbers);
     for (size_t r = 0; r < rows; r++)
         fresh += four[4 * r + 1] == LW_FRESH && four[4 * r + 3] == fresh;
-    size_t last = four[4 * rows - 4], bit = four[4 * rows - 3] == 0;
-    put(&a, FRESH(last, 1, fresh));
-    a.numbers[a.len++] = (uint16_t)last, a.numbers[a.len++] = 0;
-    REFUSE_ROWS(BROKEN(RIGHT_HIGH), ALL(a));
-    a.len -= 6;
-    put(&a, last, bit, 3, 0);
-    a.numbers[a.len++] = (uint16_t)last, a.numbers[a.len++] = 2;
-    REFUSE_ROWS(BROKEN(RIGHT_HIGH), ALL(a));
-    a.len -= 6;
-    put(&a, FRESH(last + 1, 1, fresh)); /* but a row of the next variable does no harm */
-    a.numbers[a.len++] = (uint16_t)(last + 1), a.numbers[a.len++] = 0;
+    const uint16_t v = (uint16_t)last, next = (uint16_t)(last + 1), number = (uint16_t)fresh, other = (uint16_t)bit;
+    const uint16_t behind[][6] = {
+        {FRESH_AT(v, 1, number, v, 0)}, {v, other, 3, 0, v, 2}, {FRESH_AT(next, 1, number, next, 1)},
+    };
+    for (size_t i = 0; i < COUNT(behind); i++) {
+        a.len = 6 * rows + 6;
+        add_homes(four, rows, a.numbers);
+        memcpy(a.numbers + 6 * rows, behind[i], sizeof behind[i]);
+        refuse_rows(at, BROKEN(RIGHT_HIGH), ALL(a));
+    }
+    a.numbers[a.len - 1] = 0; /* a row of the next variable does no harm */
     check(plain_faults(ALL(a)) == 0, at, "not of the form");
-    a.numbers[a.len - 1] = 1;
-    REFUSE_ROWS(BROKEN(RIGHT_HIGH), ALL(a));
 }
 
 static void test_homes(void)

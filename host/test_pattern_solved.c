@@ -43,7 +43,7 @@ static bool solve(const char *name, const draft *d, solved_table *s)
                  "%s: the solver's answer table is not of the form", name);
 }
 
-/* The home has the piece: in the pattern the bits of each row are the bits high down of variable home, as many as it is wide. */
+/* The home has the piece: the bits of each row are as many bits of variable home, from bit high down. */
 static void test_home_bits(const char *name, const solved_table *s, const uint8_t pattern[BITS])
 {
     size_t behind[64] = {0}, place = 0; /* of each variable: the place behind its bit 0 */
