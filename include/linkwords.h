@@ -391,7 +391,7 @@ extern "C" {
 #define LW_STACK_PAGE               2688
 #define LW_STACK_VALUE_ROWS        47616
 #define LW_STACK_NORMAL_FORM_ROWS 145600
-#define LW_STACK_SOLVE_ROWS       198912
+#define LW_STACK_SOLVE_ROWS       198976
 
 /* the record */
 
