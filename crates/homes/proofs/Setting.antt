@@ -142,13 +142,14 @@ module _ (rows : List AnswerRow) (o : Orderly rows) (old t : List ℕ) (i : ℕ)
 
 module _ (n : ℕ) (t₀ t firsts₀ firsts : List ℕ) (seen i : ℕ) (k : Setting n t₀ t firsts₀ firsts seen i) where
   pub setting-more : i < n → (u : ℕ) → u ≡ seen → (firsts′ : List ℕ) → firsts′ ≡ set firsts u i → (w : ℕ) → w ≡ i → (r : AnswerRow) → r ≡ answerRowAt (answerRowsOf t) w
-      → (from : ℕ) → from ≡ homeIn firsts′ r i → (t′ : List ℕ) → t′ ≡ homeCopied t from i → (seen′ : ℕ) → seen′ ≡ seenWith r seen
+      → (from : ℕ) → from ≡ homeIn firsts′ r i → (t′ : List ℕ) → length t′ ≡ length t
+      → (from * 6 + 6 ≤ length t → i * 6 + 6 ≤ length t → t′ ≡ homeCopied t from i) → (seen′ : ℕ) → seen′ ≡ seenWith r seen
       → Setting n t₀ t′ firsts₀ firsts′ seen′ (i + 1)
-  setting-more l u eu firsts′ ef w ew r er from eh t′ et seen′ es =
+  setting-more l u eu firsts′ ef w ew r er from eh t′ lt et seen′ es =
       rw add-one
       (record {
         within = l;
-        len = ap length et ∙ copy-length t from i ∙ k .len;
+        len = lt ∙ k .len;
         room-len = ap length ef ∙ length-set firsts u i ∙ k .room-len;
         going = λ rows old e o room space s. more rows old o (k .going rows old e o room space s) (omega arith) (omega (arith, k .len)) (omega (arith, k .room-len));
       })
@@ -161,9 +162,10 @@ module _ (n : ℕ) (t₀ t firsts₀ firsts : List ℕ) (seen i : ℕ) (k : Sett
       more rows old o g q room space =
           let row : r ≡ answerRowAt rows i = er ∙ ap (answerRowAt (answerRowsOf t)) ew ∙ sym (answer-columns t i (omega arith)) ∙ g .standing .rows-are i q in
           let home : from ≡ homeRow rows i = rw (eh, marks, row) (home-now rows o firsts seen i (g .seen-are) q space) in
+          let fits : from * 6 + 6 ≤ length t = omega (arith, home, home-most rows i) in
           record {
             seen-are = rw (es, marks, row) (seen-more rows o firsts seen i (g .seen-are) q space);
-            standing = rw (et, home) (standing-more rows o old t i (g .standing) q room);
+            standing = rw (et fits (omega arith), home) (standing-more rows o old t i (g .standing) q room);
           }
 
   pub setting-done : n ≤ i → SetsHomes n t₀ t (length firsts₀)

@@ -144,16 +144,17 @@ module _ (t : List ℕ) (from to : ℕ) where
   unfolding homeCopied
   copy-high l = getD-set-same one (to * 6 + 5) (getD t (from * 6 + 5) 0) 0 (omega (arith, length-set t (to * 6 + 4) (getD t (from * 6 + 4) 0)))
 
--- stores one after the other
-pub row-stored : (t t₁ t₂ t₃ : List ℕ) (w i : ℕ) (r : AnswerRow) (high : ℕ) → w ≡ i → t₁ ≡ setFour t (w * 6) (r .variable) (r .kind) (r .width) (r .fresh)
-    → t₂ ≡ set t₁ (w * 6 + 4) (r .variable) → t₃ ≡ set t₂ (w * 6 + 5) high → t₃ ≡ rowPut t i r high
-unfolding rowPut
-row-stored t t₁ t₂ t₃ w i r high e a b c = rw (c, b, a, e)
+-- stores one after the other, at places that are read as numbers
+pub row-stored : (t : List ℕ) (w i : ℕ) (r : AnswerRow) (high : ℕ) → w ≡ i
+    → set (set (set (set (set (set t (w * 6) (r .variable)) (w * 6 + 1) (r .kind)) (w * 6 + 2) (r .width)) (w * 6 + 3) (r .fresh)) (w * 6 + 4) (r .variable)) (w * 6 + 5) high
+    ≡ rowPut t i r high
+unfolding rowPut setFour
+row-stored t w i r high e = rw e
 
-pub home-stored : (t t₁ t₂ : List ℕ) (w i u j home high : ℕ) → w ≡ i → u ≡ j → home ≡ getD t (w * 6 + 4) 0 → high ≡ getD t (w * 6 + 5) 0
-    → t₁ ≡ set t (u * 6 + 4) home → t₂ ≡ set t₁ (u * 6 + 5) high → t₂ ≡ homeCopied t i j
+pub home-stored : (t : List ℕ) (w i u j : ℕ) → w ≡ i → u ≡ j
+    → set (set t (u * 6 + 4) (getD t (w * 6 + 4) 0)) (u * 6 + 5) (getD t (w * 6 + 5) 0) ≡ homeCopied t i j
 unfolding homeCopied
-home-stored t t₁ t₂ w i u j home high e d a b c f = rw (f, c, a, b, e, d)
+home-stored t w i u j e d = rw (e, d)
 
 -- four numbers read side by side
 pub columns-loaded : (t : List ℕ) (w i v k wd f : ℕ) → w ≡ i → v ≡ getD t (w * 4) 0 → k ≡ getD t (w * 4 + 1) 0 → wd ≡ getD t (w * 4 + 2) 0 → f ≡ getD t (w * 4 + 3) 0

@@ -89,18 +89,20 @@ module _ (rows : List AnswerRow) (o : Orderly rows) (t₀ t : List ℕ) (passed 
       highs-at j h (inr q) = put-kept t i r high (j * 6 + 5) (inr (omega arith)) ∙ k .highs-are j q h
 
 module _ (n : ℕ) (t₀ t : List ℕ) (passed variable i : ℕ) (k : Widening n t₀ t passed variable i) where
-  pub widening-more : 0 < i → (r : AnswerRow) → r ≡ columnsAt t ((i - 1) * 4) → (passed′ : ℕ) → passed′ ≡ widthOn passed variable r → (high : ℕ) → high ≡ passed′ - 1
-      → (t′ : List ℕ) → t′ ≡ rowPut t (i - 1) r high → Widening n t₀ t′ passed′ (r .variable) (i - 1)
-  widening-more pos r er passed′ ep high eh t′ et =
-      rw et
-      (record {
+  pub widening-more : 0 < i → (r : AnswerRow) → ((i - 1) * 4 + 4 ≤ length t → r ≡ columnsAt t ((i - 1) * 4)) → (passed′ : ℕ) → passed′ ≡ widthOn passed variable r
+      → (high : ℕ) → high ≡ passed′ - 1 → (t′ : List ℕ) → length t′ ≡ length t → ((i - 1) * 6 + 6 ≤ length t → t′ ≡ rowPut t (i - 1) r high)
+      → Widening n t₀ t′ passed′ (r .variable) (i - 1)
+  widening-more pos r er passed′ ep high eh t′ lt et =
+      record {
         within = omega (arith, k .within);
-        len = put-length t (i - 1) r high ∙ k .len;
+        len = lt ∙ k .len;
         going = λ rows e o room four.
             let s : i ≡ suc (i - 1) = omega arith in
+            let fits : (i - 1) * 6 + 6 ≤ length t = omega (arith, k .within, k .len) in
             let w : Wide rows t₀ t passed variable (suc (i - 1)) = subst (λ (x : ℕ). Wide rows t₀ t passed variable x) s (k .going rows e o room four) in
-            wide-more rows o t₀ t passed variable (i - 1) w (omega (arith, k .within)) (omega (arith, k .len)) (four (i - 1) (omega (arith, k .within))) r er passed′ ep high eh;
-      })
+            rw (et fits)
+            (wide-more rows o t₀ t passed variable (i - 1) w (omega (arith, k .within)) (omega (arith, k .len)) (four (i - 1) (omega (arith, k .within))) r (er (omega arith)) passed′ ep high eh);
+      }
 
   pub widening-done : i ≤ 0 → Widens n t₀ t
   widening-done l rows e o room four =

@@ -2,7 +2,7 @@
 // to six from the last one back, each with its own place; then each later appearance of a fresh piece takes the two numbers of the first.
 // The test of a table goes the same way and writes nothing.
 ghost use mathlib.Core.Path.{_≡_};
-ghost use Prim.Native.Nat.{_*_};
+ghost use Prim.Native.Nat.{_+_, _*_, _≤_};
 ghost use lib.ListN.{length};
 ghost use Rattle.homes.specs.inner.Homes.{columnsAt, widthOn, rowPut, Widens, homeIn, seenWith, homeCopied, SetsHomes, PutsHomes, MarksFirsts, homeFine, TestsRows, TestsHomes};
 use answers::AnswerRow;
@@ -10,28 +10,41 @@ use answers::AnswerRow;
 // The kind of a row with a fresh piece; a lower kind is a fill of that bit.
 const FRESH: u16 = 2;
 
-// Row i of a table whose rows have four numbers.
+// Row i of a table whose rows have four numbers, if it is there.
 fn four_at(answer: &[u16], i: u16) -> AnswerRow
-    ensures { λ r. ⌜ r ≡ columnsAt (now (answer .entry)) (i * 4) ⌝ }
+    ensures { λ r. ⌜ (i * 4 + 4 ≤ length (now (answer .entry)) → r ≡ columnsAt (now (answer .entry)) (i * 4)) ⌝ }
 {
     let at = numbers::wide(i) * answers::FOUR;
+    if answer.len() < at + 4 {
+        return AnswerRow {
+            variable: 0,
+            kind: 0,
+            width: 0,
+            fresh: 0,
+        };
+    }
     AnswerRow {
-        variable: numbers::load(answer, at),
-        kind: numbers::load(answer, at + 1),
-        width: numbers::load(answer, at + 2),
-        fresh: numbers::load(answer, at + 3),
+        variable: answer[at],
+        kind: answer[at + 1],
+        width: answer[at + 2],
+        fresh: answer[at + 3],
     }
 }
 
-// Writes row i with its own place: its variable and its highest bit.
+// Writes row i with its own place, its variable and its highest bit, if there is room.
 fn put_row(answer: &mut [u16], i: u16, row: AnswerRow, high: u16)
-    ensures { λ _. ⌜ now (answer .exit) ≡ rowPut (now (answer .entry)) i row high ⌝ }
+    ensures { λ _. ⌜ (i * 6 + 6 ≤ length (now (answer .entry)) → now (answer .exit) ≡ rowPut (now (answer .entry)) i row high) ⌝ }
 {
     let at = numbers::wide(i) * answers::ROW;
-    let variable = row.variable;
-    numbers::store_four(answer, at, variable, row.kind, row.width, row.fresh);
-    numbers::store(answer, at + 4, variable);
-    numbers::store(answer, at + 5, high);
+    if answer.len() < at + 6 {
+        return;
+    }
+    answer[at] = row.variable;
+    answer[at + 1] = row.kind;
+    answer[at + 2] = row.width;
+    answer[at + 3] = row.fresh;
+    answer[at + 4] = row.variable;
+    answer[at + 5] = high;
 }
 
 // The width of a row's variable from the row on, from that of the last row's variable behind it.
@@ -87,16 +100,22 @@ fn seen_with(row: AnswerRow, seen: u16) -> u16
     seen
 }
 
-// Copies home and high bit of one row to another.
+// Copies home and high bit of one row to another, if both are there.
 fn copy_home(answer: &mut [u16], from: u16, to: u16)
-    ensures { λ _. ⌜ now (answer .exit) ≡ homeCopied (now (answer .entry)) from to ⌝ }
+    ensures { λ _. ⌜ (from * 6 + 6 ≤ length (now (answer .entry)) → to * 6 + 6 ≤ length (now (answer .entry)) → now (answer .exit) ≡ homeCopied (now (answer .entry)) from to) ⌝ }
 {
     let source = numbers::wide(from) * answers::ROW;
     let target = numbers::wide(to) * answers::ROW;
-    let home = numbers::load(answer, source + 4);
-    let high = numbers::load(answer, source + 5);
-    numbers::store(answer, target + 4, home);
-    numbers::store(answer, target + 5, high);
+    if answer.len() < source + 6 {
+        return;
+    }
+    if answer.len() < target + 6 {
+        return;
+    }
+    let home = answer[source + 4];
+    let high = answer[source + 5];
+    answer[target + 4] = home;
+    answer[target + 5] = high;
 }
 
 // Sets home and high bit of each row to those of the row where its piece first appears, which has its own there. `firsts` has the first row

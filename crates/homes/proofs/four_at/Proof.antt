@@ -1,4 +1,6 @@
 -- `four_at` meets its contract: the columns stand side by side. Assumes nothing.
+use mathlib.Core.Path.{refl}
+use native.Mathlib.Omega.{arith}
 use denote.Ref.{now}
 use Rattle.homes.proofs.Stores.{columns-loaded}
 use borrow.Author.Needs.{needs}
@@ -11,29 +13,47 @@ wide-requires c κs = search needs
 mul-at : tie.Need-mul-at
 mul-at c = search needs
 
-load-requires : tie.Need-load-requires
-load-requires c κs = search needs
-
-add-load : tie.Need-add-load
-add-load c = search needs
-
-load-requires-2 : tie.Need-load-requires-2
-load-requires-2 c κs = search needs
-
-add-load-2 : tie.Need-add-load-2
-add-load-2 c = search needs
-
-load-requires-3 : tie.Need-load-requires-3
-load-requires-3 c κs = search needs
-
-add-load-3 : tie.Need-add-load-3
-add-load-3 c = search needs
-
-load-requires-4 : tie.Need-load-requires-4
-load-requires-4 c κs = search needs
+add-if1 : tie.Need-add-if1
+add-if1 c = search needs
 
 returns : tie.Need-returns
-returns c = columns-loaded (now (c .before .before .before .before .before .before .args .answer)) _ _ _ _ _ _ (c .before .before .before .before .wide .ensures .0) (c .before .before .before .load .ensures) (c .before .before .load2 .ensures) (c .before .load3 .ensures) (c .load4 .ensures)
+returns c = λ h. absurd (omega (arith, c .before .wide .ensures .0, c .if1 .taken, h))
+
+mul-t4 : tie.Need-mul-t4
+mul-t4 c = search needs
+
+shared-slice-read-t8 : tie.Need-shared-slice-read-t8
+shared-slice-read-t8 c = search needs
+
+add-t5 : tie.Need-add-t5
+add-t5 c = search needs
+
+mul-t9 : tie.Need-mul-t9
+mul-t9 c = search needs
+
+shared-slice-read-t11 : tie.Need-shared-slice-read-t11
+shared-slice-read-t11 c = search needs
+
+add-t12 : tie.Need-add-t12
+add-t12 c = search needs
+
+mul-t13 : tie.Need-mul-t13
+mul-t13 c = search needs
+
+shared-slice-read-t15 : tie.Need-shared-slice-read-t15
+shared-slice-read-t15 c = search needs
+
+add-t16 : tie.Need-add-t16
+add-t16 c = search needs
+
+mul-t17 : tie.Need-mul-t17
+mul-t17 c = search needs
+
+shared-slice-read-t19 : tie.Need-shared-slice-read-t19
+shared-slice-read-t19 c = search needs
+
+returns-2 : tie.Need-returns-2
+returns-2 c = λ h. columns-loaded (now (c .before .before .before .before .before .before .before .args .answer)) _ _ _ _ _ _ (c .before .before .before .before .before .wide .ensures .0) refl refl refl refl
 
 pub four-at-spec : {M : Type 1} → statement M
 four-at-spec =
@@ -41,11 +61,17 @@ four-at-spec =
     (tie.spec
     wide-requires
     mul-at
-    load-requires
-    add-load
-    load-requires-2
-    add-load-2
-    load-requires-3
-    add-load-3
-    load-requires-4
-    returns)
+    add-if1
+    returns
+    mul-t4
+    shared-slice-read-t8
+    add-t5
+    mul-t9
+    shared-slice-read-t11
+    add-t12
+    mul-t13
+    shared-slice-read-t15
+    add-t16
+    mul-t17
+    shared-slice-read-t19
+    returns-2)

@@ -44,7 +44,7 @@ loop-less c = omega (arith, c .before .before .before .before .before .before .b
 loop-again : tie.Need-loop-again Inv-loop μ-loop
 loop-again c =
     let w = c .before .before .before .before .before .before .before .before .before .before .before .before .before .before .before .before in
-    setting-more _ _ _ _ _ _ _ (w .loop .inv) (c .before .before .before .before .before .before .before .before .before .before .before .before .before .before .before .loop-test .taken) _ (c .before .before .before .before .before .before .before .before .before .before .before .before .before .wide .ensures .0) _ (c .before .before .before .before .before .before .before .before .before .before .before .before .store .ensures) _ (c .before .before .before .before .before .before .before .before .wide2 .ensures .0) _ (c .before .before .before .before .before .before .before .row-at .ensures) _ (c .before .before .before .before .before .home-row .ensures) _ (c .before .before .before .copy-home .ensures) _ (c .seen-with .ensures)
+    setting-more _ _ _ _ _ _ _ (w .loop .inv) (c .before .before .before .before .before .before .before .before .before .before .before .before .before .before .before .loop-test .taken) _ (c .before .before .before .before .before .before .before .before .before .before .before .before .before .wide .ensures .0) _ (c .before .before .before .before .before .before .before .before .before .before .before .before .store .ensures) _ (c .before .before .before .before .before .before .before .before .wide2 .ensures .0) _ (c .before .before .before .before .before .before .before .row-at .ensures) _ (c .before .before .before .before .before .home-row .ensures) _ (c .before .before .before .copy-home .kept .0) (c .before .before .before .copy-home .ensures) _ (c .seen-with .ensures)
 
 same-length : tie.Need-same-length Inv-loop μ-loop
 same-length c = c .before .loop .inv .len

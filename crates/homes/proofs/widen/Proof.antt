@@ -34,7 +34,7 @@ loop-less c = omega arith
 loop-again : tie.Need-loop-again Inv-loop μ-loop
 loop-again c =
     let w = c .before .before .before .before .before .before .before .before .before in
-    widening-more _ _ _ _ _ _ (w .loop .inv) (c .before .before .before .before .before .before .before .before .loop-test .taken) _ (c .before .before .before .before .before .before .four-at .ensures) _ (c .before .before .before .before .before .width-on .ensures) _ (c .before .before .before .difference .ensures) _ (c .before .before .put-row .ensures)
+    widening-more _ _ _ _ _ _ (w .loop .inv) (c .before .before .before .before .before .before .before .before .loop-test .taken) _ (c .before .before .before .before .before .before .four-at .ensures) _ (c .before .before .before .before .before .width-on .ensures) _ (c .before .before .before .difference .ensures) _ (c .before .before .put-row .kept .0) (c .before .before .put-row .ensures)
 
 same-length : tie.Need-same-length Inv-loop μ-loop
 same-length c = c .before .loop .inv .len
