@@ -15,22 +15,7 @@ use Rattle.laws.proofs.Least.{least-is, least-within, least-passed}
 use Rattle.laws.proofs.Numbers.{dec-eq, lt-or-le, below-or-at}
 use Rattle.answers.specs.declared.AnswerRow.{AnswerRow}
 use Rattle.answers.specs.Answer.{answerRowAt, isFresh, homeRow}
-use Rattle.homes.specs.inner.Homes.{Orderly, homeIn, seenWith}
-
--- Whether row i is of fresh piece n.
-abbrev pub ofPiece : List AnswerRow → ℕ → ℕ → Bool
-ofPiece rows n i = isFresh (answerRowAt rows i) && eqb (answerRowAt rows i .fresh) n
-
--- Row i is the first of fresh piece n.
-pub record First (rows : List AnswerRow) (n i : ℕ) : Type 0 where
-  pub is-row : ofPiece rows n i ≡ true
-  pub none-before : (k : ℕ) → k < i → ofPiece rows n k ≡ false
-
--- The rows before row j were passed: the numbers of their fresh pieces are those below `seen`, and the first row of each is marked.
-pub record Seen (rows : List AnswerRow) (firsts : List ℕ) (seen j : ℕ) : Type 0 where
-  pub most : seen ≤ j
-  pub marked : (n : ℕ) → n < seen → First rows n (getD firsts n 0)
-  pub passed : (i : ℕ) → i < j → isFresh (answerRowAt rows i) ≡ true → answerRowAt rows i .fresh < seen
+use Rattle.homes.specs.inner.Homes.{Orderly, homeIn, seenWith, ofPiece, First, Seen}
 
 pub none-seen : (rows : List AnswerRow) (firsts : List ℕ) → Seen rows firsts 0 0
 none-seen rows firsts = record { most = omega arith; marked = λ n l. absurd (omega arith); passed = λ i l f. absurd (omega arith) }
@@ -56,10 +41,10 @@ module _ (rows : List AnswerRow) where
   unfolding homeRow
   home-fill j f = rw f
 
-  kind-fresh : (r : AnswerRow) → 2 ≤ r .kind → isFresh r ≡ true
+  pub kind-fresh : (r : AnswerRow) → 2 ≤ r .kind → isFresh r ≡ true
   kind-fresh r l = rw (le-ltb (r .kind) 2 l)
 
-  kind-fill : (r : AnswerRow) → r .kind < 2 → isFresh r ≡ false
+  pub kind-fill : (r : AnswerRow) → r .kind < 2 → isFresh r ≡ false
   kind-fill r l = rw (lt-ltb (r .kind) 2 l)
 
   -- where the first row of its piece is marked, the home row is read
@@ -111,6 +96,13 @@ module _ (rows : List AnswerRow) where
     pub home-now : homeIn (set firsts seen j) (answerRowAt rows j) j ≡ homeRow rows j
     home-now = home-read firsts′ j marked-now
 
+    -- a row whose piece appeared before, and one where it first appears
+    pub home-later : isFresh (answerRowAt rows j) ≡ true → answerRowAt rows j .fresh ≢ seen → homeRow rows j ≡ getD firsts (answerRowAt rows j .fresh) 0
+    home-later f e = home-first j (getD firsts (at j .fresh) 0) f (k .marked (at j .fresh) (omega (arith, number-most f)))
+
+    pub home-here : isFresh (answerRowAt rows j) ≡ true → answerRowAt rows j .fresh ≡ seen → homeRow rows j ≡ j
+    home-here f e = home-first j j f (rw e (first-here f e))
+
     -- with a row that adds no fresh piece
     same-seen : (isFresh (answerRowAt rows j) ≡ true → answerRowAt rows j .fresh ≢ seen) → Seen rows (set firsts seen j) seen (suc j)
     same-seen h =
@@ -127,8 +119,12 @@ module _ (rows : List AnswerRow) where
             let e : at i .fresh ≡ at j .fresh = ap (λ (x : ℕ). at x .fresh) q in
             omega (arith, number-most g, h g)
 
+    -- with a row that adds no fresh piece nothing is marked
+    pub seen-kept : (isFresh (answerRowAt rows j) ≡ true → answerRowAt rows j .fresh ≢ seen) → Seen rows firsts seen (suc j)
+    seen-kept h = let q = same-seen h in record { most = q .most; marked = k .marked; passed = q .passed }
+
     -- with one that adds the next
-    more-seen : isFresh (answerRowAt rows j) ≡ true → answerRowAt rows j .fresh ≡ seen → Seen rows (set firsts seen j) (suc seen) (suc j)
+    pub more-seen : isFresh (answerRowAt rows j) ≡ true → answerRowAt rows j .fresh ≡ seen → Seen rows (set firsts seen j) (suc seen) (suc j)
     more-seen f e =
         record { most = omega (arith, k .most); marked = λ n q. mark n (below-or-at n seen q); passed = λ i q g. go i g (below-or-at i j q) }
       where

@@ -1,25 +1,21 @@
 -- Home and high bit set row by row: rows before row i have those of their home row, the others their own.
 use mathlib.Core.Path.{_≡_, refl, sym, _∙_, ap, subst}
 use mathlib.Core.Logic.{_⊎_, inl, inr, _≢_}
-use mathlib.Core.Bool.{Bool, true, false, cond}
+use mathlib.Core.Bool.{Bool, true, false}
 use mathlib.Core.List.{List}
-use Prim.Native.Nat.{ℕ, zero, suc, _+_, _*_, _/_, _≤_, _<_}
+use Prim.Native.Nat.{ℕ, zero, suc, _+_, _*_, _/_, _%_, _≤_, _<_}
 use native.Mathlib.Omega.{arith}
 use native.Mathlib.Numerals.{add-one}
-use lib.Dec.{ltb}
-use lib.ListN.{length, getD, set, length-set}
+use lib.ListN.{length, getD, set}
 use borrow.Author.Tests.{lt-ltb, le-ltb}
-use Rattle.laws.proofs.Numbers.{dec-eq, lt-or-le, below-or-at}
+use Rattle.laws.proofs.Bools.{clash}
+use Rattle.laws.proofs.Numbers.{dec-eq, lt-or-le}
 use Rattle.answers.specs.declared.AnswerRow.{AnswerRow}
-use Rattle.answers.specs.Answer.{answerRowAt, answerRowsOf, highBit, homeRow}
+use Rattle.answers.specs.Answer.{answerRowAt, answerRowsOf, isFresh, highBit, homeRow}
 use Rattle.answers.proofs.AnswerNumbers.{answer-columns}
-use Rattle.homes.specs.inner.Homes.{columnsAt, Orderly, Standing, homeIn, seenWith, homeCopied, SetsHomes}
+use Rattle.homes.specs.inner.Homes.{columnsAt, Orderly, Standing, homeCopied, Seen, homedTo, Homed, SetsHome, SetsHomes}
 use Rattle.homes.proofs.Stores.{kept-columns, copy-length, copy-kept, copy-home, copy-high}
-use Rattle.homes.proofs.Firsts.{Seen, none-seen, home-now, seen-more, home-most, home-home}
-
--- The row whose place row j has, with the rows before row i set.
-unfoldable pub homedTo : List AnswerRow → ℕ → ℕ → ℕ
-homedTo rows i j = cond (ltb j i) (homeRow rows j) j
+use Rattle.homes.proofs.Firsts.{none-seen, kind-fresh, kind-fill, home-fill, home-later, home-here, seen-kept, more-seen, home-most, home-home}
 
 module _ (rows : List AnswerRow) (i j : ℕ) where
   homed-low : j < i → homedTo rows i j ≡ homeRow rows j
@@ -45,10 +41,6 @@ homed-home rows i = go (lt-or-le (homeRow rows i) i)
     go : (homeRow rows i < i) ⊎ (i ≤ homeRow rows i) → homedTo rows i (homeRow rows i) ≡ homeRow rows i
     go (inl l) = homed-low rows i (homeRow rows i) l ∙ home-home rows i
     go (inr l) = homed-high rows i (homeRow rows i) l
-
-pub record Homed (rows : List AnswerRow) (old t firsts : List ℕ) (seen i : ℕ) : Type 0 where
-  pub seen-are : Seen rows firsts seen i
-  pub standing : Standing rows (homedTo rows i) old t
 
 pub record Setting (n : ℕ) (t₀ t firsts₀ firsts : List ℕ) (seen i : ℕ) : Type 0 where
   pub within : i ≤ n
@@ -140,33 +132,66 @@ module _ (rows : List AnswerRow) (o : Orderly rows) (old t : List ℕ) (i : ℕ)
       highs-at j q (inl e) = rw (e, now-home) (copy-high t h i fits ∙ s .highs-are h home-there ∙ ap (highBit rows) (homed-home rows i))
       highs-at j q (inr n) = kept-at j (j * 6 + 5) n (omega arith) (omega arith) ∙ s .highs-are j q ∙ ap (highBit rows) (homed-same rows i j n)
 
-module _ (n : ℕ) (t₀ t firsts₀ firsts : List ℕ) (seen i : ℕ) (k : Setting n t₀ t firsts₀ firsts seen i) where
-  pub setting-more : i < n → (u : ℕ) → u ≡ seen → (firsts′ : List ℕ) → firsts′ ≡ set firsts u i → (w : ℕ) → w ≡ i → (r : AnswerRow) → r ≡ answerRowAt (answerRowsOf t) w
-      → (from : ℕ) → from ≡ homeIn firsts′ r i → (t′ : List ℕ) → length t′ ≡ length t
-      → (from * 6 + 6 ≤ length t → i * 6 + 6 ≤ length t → t′ ≡ homeCopied t from i) → (seen′ : ℕ) → seen′ ≡ seenWith r seen
-      → Setting n t₀ t′ firsts₀ firsts′ seen′ (i + 1)
-  setting-more l u eu firsts′ ef w ew r er from eh t′ lt et seen′ es =
+-- each way to set the home of row i
+module _ (r : AnswerRow) (i seen : ℕ) (t firsts : List ℕ) where
+  -- a row that is its own home
+  own-home : (rows : List AnswerRow) (old : List ℕ) → homeRow rows i ≡ i → Standing rows (homedTo rows i) old t → Standing rows (homedTo rows (suc i)) old t
+  own-home rows old h s = standing-as rows (homedTo rows i) (homedTo rows (suc i)) old t (λ j l. go j (dec-eq j i)) s
+    where
+      go : (j : ℕ) → (j ≡ i) ⊎ (j ≢ i) → homedTo rows i j ≡ homedTo rows (suc i) j
+      go j (inl e) = rw e (homed-high rows i i (omega arith) ∙ sym (homed-low rows (suc i) i (omega arith) ∙ h))
+      go j (inr e) = homed-same rows i j e
+
+  pub home-of-fill : r .kind < 2 → SetsHome r i seen t t firsts firsts seen
+  home-of-fill f rows old o e l room space g =
+      let fill : isFresh (answerRowAt rows i) ≡ false = ap isFresh (sym e) ∙ kind-fill rows r f in
       rw add-one
       (record {
-        within = l;
-        len = lt ∙ k .len;
-        room-len = ap length ef ∙ length-set firsts u i ∙ k .room-len;
-        going = λ rows old e o room space s. more rows old o (k .going rows old e o room space s) (omega arith) (omega (arith, k .len)) (omega (arith, k .room-len));
+        seen-are = seen-kept rows o firsts seen i (g .seen-are) l space (λ h. clash (isFresh (answerRowAt rows i)) h fill);
+        standing = own-home rows old (home-fill rows i fill) (g .standing);
       })
-    where
-      marks : firsts′ ≡ set firsts seen i
-      marks = ef ∙ ap (λ (x : ℕ). set firsts x i) eu
 
-      more : (rows : List AnswerRow) (old : List ℕ) → Orderly rows → Homed rows old t firsts seen i → i < length rows → length rows * 6 ≤ length t → length rows ≤ length firsts
-          → Homed rows old t′ firsts′ seen′ (suc i)
-      more rows old o g q room space =
-          let row : r ≡ answerRowAt rows i = er ∙ ap (answerRowAt (answerRowsOf t)) ew ∙ sym (answer-columns t i (omega arith)) ∙ g .standing .rows-are i q in
-          let home : from ≡ homeRow rows i = rw (eh, marks, row) (home-now rows o firsts seen i (g .seen-are) q space) in
-          let fits : from * 6 + 6 ≤ length t = omega (arith, home, home-most rows i) in
-          record {
-            seen-are = rw (es, marks, row) (seen-more rows o firsts seen i (g .seen-are) q space);
-            standing = rw (et fits (omega arith), home) (standing-more rows o old t i (g .standing) q room);
-          }
+  module _ (f : 2 ≤ r .kind) where
+    pub home-of-first : r .fresh ≡ seen → (w : ℕ) → w ≡ seen → (firsts′ : List ℕ) → firsts′ ≡ set firsts w i → (seen′ : ℕ) → seen′ ≡ (seen + 1) % 65536
+        → SetsHome r i seen t t firsts firsts′ seen′
+    home-of-first q w ew firsts′ ef seen′ es rows old o e l room space g =
+        let fresh : isFresh (answerRowAt rows i) ≡ true = ap isFresh (sym e) ∙ kind-fresh rows r f in
+        let number : answerRowAt rows i .fresh ≡ seen = ap (λ (x : AnswerRow). x .fresh) (sym e) ∙ q in
+        let d : seen′ ≡ suc seen = es ∙ omega (arith, g .seen-are .most, o .few) in
+        rw (add-one, ef, ew, d)
+        (record {
+          seen-are = more-seen rows o firsts seen i (g .seen-are) l space fresh number;
+          standing = own-home rows old (home-here rows o firsts seen i (g .seen-are) l space fresh number) (g .standing);
+        })
+
+    pub home-of-later : r .fresh ≢ seen → (w : ℕ) → w ≡ r .fresh → (from : ℕ) → from ≡ getD firsts w 0 → (t′ : List ℕ)
+        → (from * 6 + 6 ≤ length t → i * 6 + 6 ≤ length t → t′ ≡ homeCopied t from i) → SetsHome r i seen t t′ firsts firsts seen
+    home-of-later q w ew from eh t′ et rows old o e l room space g =
+        let fresh : isFresh (answerRowAt rows i) ≡ true = ap isFresh (sym e) ∙ kind-fresh rows r f in
+        let same : r .fresh ≡ answerRowAt rows i .fresh = ap (λ (x : AnswerRow). x .fresh) e in
+        let other : answerRowAt rows i .fresh ≢ seen = λ d. q (same ∙ d) in
+        let home : from ≡ homeRow rows i = eh ∙ ap (λ (x : ℕ). getD firsts x 0) (ew ∙ same) ∙ sym (home-later rows o firsts seen i (g .seen-are) l space fresh other) in
+        let fits : from * 6 + 6 ≤ length t = omega (arith, home, home-most rows i) in
+        rw (add-one, et fits (omega arith), home)
+        (record {
+          seen-are = seen-kept rows o firsts seen i (g .seen-are) l space (λ h. other);
+          standing = standing-more rows o old t i (g .standing) l room;
+        })
+
+module _ (n : ℕ) (t₀ t firsts₀ firsts : List ℕ) (seen i : ℕ) (k : Setting n t₀ t firsts₀ firsts seen i) where
+  pub setting-more : i < n → (w : ℕ) → w ≡ i → (r : AnswerRow) → r ≡ answerRowAt (answerRowsOf t) w → (t′ firsts′ : List ℕ) → length t′ ≡ length t → length firsts′ ≡ length firsts
+      → (seen′ : ℕ) → SetsHome r i seen t t′ firsts firsts′ seen′ → Setting n t₀ t′ firsts₀ firsts′ seen′ (i + 1)
+  setting-more l w ew r er t′ firsts′ lt lf seen′ h =
+      record {
+        within = omega arith;
+        len = lt ∙ k .len;
+        room-len = lf ∙ k .room-len;
+        going = λ rows old e o room space s.
+            let g = k .going rows old e o room space s in
+            let row : r ≡ answerRowAt rows i =
+            er ∙ ap (answerRowAt (answerRowsOf t)) ew ∙ sym (answer-columns t i (omega (arith, k .len))) ∙ g .standing .rows-are i (omega arith) in
+            h rows old o row (omega arith) (omega (arith, k .len)) (omega (arith, k .room-len)) g;
+      }
 
   pub setting-done : n ≤ i → SetsHomes n t₀ t (length firsts₀)
   setting-done l rows old e o room space s =

@@ -14,9 +14,9 @@ use Rattle.laws.proofs.Numbers.{dec-eq, at-or-after}
 use Rattle.answers.specs.declared.AnswerRow.{AnswerRow}
 use Rattle.answers.specs.Answer.{answerRowAt, answerRowsOf, widthIn, highBit, homeRow}
 use Rattle.answers.proofs.AnswerNumbers.{answer-length}
-use Rattle.homes.specs.inner.Homes.{Orderly, widthOn, homeIn, seenWith, homeFine, MarksFirsts, Right, TellsRight, TestsRows, TestsHomes}
+use Rattle.homes.specs.inner.Homes.{Orderly, widthOn, homeIn, seenWith, Seen, homeFine, MarksFirsts, Right, TellsRight, TestsRows, TestsHomes}
 use Rattle.homes.proofs.Widths.{width-next, high-next, none-passed}
-use Rattle.homes.proofs.Firsts.{Seen, none-seen, seen-more, home-known, home-most, home-home}
+use Rattle.homes.proofs.Firsts.{none-seen, seen-more, home-known, home-most, home-home}
 
 -- the first rows marked, row by row
 pub record Marking (n : ℕ) (t firsts₀ firsts : List ℕ) (seen i : ℕ) : Type 0 where

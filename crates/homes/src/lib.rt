@@ -4,7 +4,7 @@
 ghost use mathlib.Core.Path.{_≡_};
 ghost use Prim.Native.Nat.{_+_, _*_, _≤_};
 ghost use lib.ListN.{length};
-ghost use Rattle.homes.specs.inner.Homes.{columnsAt, widthOn, rowPut, Widens, homeIn, seenWith, homeCopied, SetsHomes, PutsHomes, MarksFirsts, homeFine, TestsRows, TestsHomes};
+ghost use Rattle.homes.specs.inner.Homes.{columnsAt, widthOn, rowPut, Widens, homeIn, seenWith, homeCopied, SetsHome, SetsHomes, PutsHomes, MarksFirsts, homeFine, TestsRows, TestsHomes};
 use answers::AnswerRow;
 
 // The kind of a row with a fresh piece; a lower kind is a fill of that bit.
@@ -118,19 +118,34 @@ fn copy_home(answer: &mut [u16], from: u16, to: u16)
     answer[target + 5] = high;
 }
 
-// Sets home and high bit of each row to those of the row where its piece first appears, which has its own there. `firsts` has the first row
-// of each fresh piece seen. A row without a new one stores at the place of the next, which stores again.
+// Row i has its own place. It stays if its piece first appears there, and the row is marked; else home and high bit are those of the marked
+// row. How many fresh pieces have appeared then.
+fn set_home(answer: &mut [u16], firsts: &mut [u16], row: AnswerRow, seen: u16, i: u16) -> u16
+    ensures { λ n. ⌜ SetsHome row i seen (now (answer .entry)) (now (answer .exit)) (now (firsts .entry)) (now (firsts .exit)) n ⌝ }
+{
+    let kind = row.kind;
+    let number = row.fresh;
+    if kind < FRESH {
+        return seen;
+    }
+    if number == seen {
+        numbers::store(firsts, numbers::wide(seen), i);
+        return numbers::plus(seen, 1);
+    }
+    let from = numbers::load(firsts, numbers::wide(number));
+    copy_home(answer, from, i);
+    seen
+}
+
+// Sets home and high bit of each row, where each has its own place. `firsts` gets the first row of each fresh piece.
 fn set_homes(answer: &mut [u16], rows: u16, firsts: &mut [u16])
     ensures { λ _. ⌜ SetsHomes rows (now (answer .entry)) (now (answer .exit)) (length (now (firsts .entry))) ⌝ }
 {
     let mut seen: u16 = 0;
     let mut i: u16 = 0;
     while i < rows {
-        numbers::store(firsts, numbers::wide(seen), i);
         let row = answer_table::row_at(answer, numbers::wide(i));
-        let from = home_row(firsts, row, i);
-        copy_home(answer, from, i);
-        seen = seen_with(row, seen);
+        seen = set_home(answer, firsts, row, seen, i);
         i += 1;
     }
 }
@@ -144,7 +159,7 @@ pub fn put_homes(answer: &mut [u16], rows: usize, firsts: &mut [u16])
     set_homes(answer, count, firsts);
 }
 
-// Marks the first row of each fresh piece.
+// Marks the first row of each fresh piece. A row without a new one stores at the place of the next, which stores again.
 fn mark_firsts(answer: &[u16], rows: u16, firsts: &mut [u16])
     ensures { λ _. ⌜ MarksFirsts rows (now (answer .entry)) (length (now (firsts .entry))) (now (firsts .exit)) ⌝ }
 {

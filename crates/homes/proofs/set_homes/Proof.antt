@@ -17,34 +17,22 @@ loop-holds c = setting-first _ _ _
 wide-requires : tie.Need-wide-requires Inv-loop μ-loop
 wide-requires c κs = tt
 
-store-requires : tie.Need-store-requires Inv-loop μ-loop
-store-requires c κs = tt
-
-wide-requires-2 : tie.Need-wide-requires-2 Inv-loop μ-loop
-wide-requires-2 c κs = tt
-
 row-at-requires : tie.Need-row-at-requires Inv-loop μ-loop
 row-at-requires c κs = tt
 
-home-row-requires : tie.Need-home-row-requires Inv-loop μ-loop
-home-row-requires c κs = tt
-
-copy-home-requires : tie.Need-copy-home-requires Inv-loop μ-loop
-copy-home-requires c κs = tt
-
-seen-with-requires : tie.Need-seen-with-requires Inv-loop μ-loop
-seen-with-requires c κs = tt
+set-home-requires : tie.Need-set-home-requires Inv-loop μ-loop
+set-home-requires c κs = tt
 
 add-i : tie.Need-add-i Inv-loop μ-loop
-add-i c = omega (arith, c .before .before .before .before .before .before .before .before .before .before .before .before .before .before .before .loop-test .taken)
+add-i c = omega (arith, c .before .before .before .before .before .before .before .before .before .before .loop-test .taken)
 
 loop-less : tie.Need-loop-less Inv-loop μ-loop
-loop-less c = omega (arith, c .before .before .before .before .before .before .before .before .before .before .before .before .before .before .before .loop-test .taken)
+loop-less c = omega (arith, c .before .before .before .before .before .before .before .before .before .before .loop-test .taken)
 
 loop-again : tie.Need-loop-again Inv-loop μ-loop
 loop-again c =
-    let w = c .before .before .before .before .before .before .before .before .before .before .before .before .before .before .before .before in
-    setting-more _ _ _ _ _ _ _ (w .loop .inv) (c .before .before .before .before .before .before .before .before .before .before .before .before .before .before .before .loop-test .taken) _ (c .before .before .before .before .before .before .before .before .before .before .before .before .before .wide .ensures .0) _ (c .before .before .before .before .before .before .before .before .before .before .before .before .store .ensures) _ (c .before .before .before .before .before .before .before .before .wide2 .ensures .0) _ (c .before .before .before .before .before .before .before .row-at .ensures) _ (c .before .before .before .before .before .home-row .ensures) _ (c .before .before .before .copy-home .kept .0) (c .before .before .before .copy-home .ensures) _ (c .seen-with .ensures)
+    let h = c .before .before .before .before .set-home in
+    setting-more _ _ _ _ _ _ _ (c .before .before .before .before .before .before .before .before .before .before .before .loop .inv) (c .before .before .before .before .before .before .before .before .before .before .loop-test .taken) _ (c .before .before .before .before .before .before .before .before .wide .ensures .0) _ (c .before .before .before .before .before .before .before .row-at .ensures) _ _ (h .kept .0) (h .kept .1 .0) _ (h .ensures)
 
 same-length : tie.Need-same-length Inv-loop μ-loop
 same-length c = c .before .loop .inv .len
@@ -63,12 +51,8 @@ set-homes-spec =
     μ-loop
     loop-holds
     wide-requires
-    store-requires
-    wide-requires-2
     row-at-requires
-    home-row-requires
-    copy-home-requires
-    seen-with-requires
+    set-home-requires
     add-i
     loop-less
     loop-again

@@ -1,6 +1,6 @@
 -- What the functions over home and high bit of an answer's rows compute and promise.
 use mathlib.Core.Path.{_≡_}
-use mathlib.Core.Bool.{Bool, true, not, _&&_, cond}
+use mathlib.Core.Bool.{Bool, true, false, not, _&&_, cond}
 use mathlib.Core.List.{List}
 use Prim.Native.Nat.{ℕ, _+_, _*_, _/_, _%_, _≤_, _<_}
 use lib.Dec.{eqb, ltb}
@@ -55,6 +55,34 @@ seenWith r seen = cond (not (ltb (r .kind) 2) && eqb (r .fresh) seen) ((seen + 1
 -- An answer table with home and high bit of one row copied to another.
 unfoldable pub homeCopied : List ℕ → ℕ → ℕ → List ℕ
 homeCopied t from to = set (set t (to * 6 + 4) (getD t (from * 6 + 4) 0)) (to * 6 + 5) (getD t (from * 6 + 5) 0)
+
+-- Whether row i is of fresh piece n; and that it is the first of it.
+abbrev pub ofPiece : List AnswerRow → ℕ → ℕ → Bool
+ofPiece rows n i = isFresh (answerRowAt rows i) && eqb (answerRowAt rows i .fresh) n
+
+pub record First (rows : List AnswerRow) (n i : ℕ) : Type 0 where
+  pub is-row : ofPiece rows n i ≡ true
+  pub none-before : (k : ℕ) → k < i → ofPiece rows n k ≡ false
+
+-- The rows before row j were passed: the numbers of their fresh pieces are those below `seen`, and the first row of each is marked.
+pub record Seen (rows : List AnswerRow) (firsts : List ℕ) (seen j : ℕ) : Type 0 where
+  pub most : seen ≤ j
+  pub marked : (n : ℕ) → n < seen → First rows n (getD firsts n 0)
+  pub passed : (i : ℕ) → i < j → isFresh (answerRowAt rows i) ≡ true → answerRowAt rows i .fresh < seen
+
+-- The row whose place row j has, with the rows before row i set; and what is known when they are.
+unfoldable pub homedTo : List AnswerRow → ℕ → ℕ → ℕ
+homedTo rows i j = cond (ltb j i) (homeRow rows j) j
+
+pub record Homed (rows : List AnswerRow) (old t firsts : List ℕ) (seen i : ℕ) : Type 0 where
+  pub seen-are : Seen rows firsts seen i
+  pub standing : Standing rows (homedTo rows i) old t
+
+-- What the setting of one row's home promises.
+abbrev pub SetsHome : AnswerRow → ℕ → ℕ → List ℕ → List ℕ → List ℕ → List ℕ → ℕ → Type 0
+SetsHome r i seen t t′ firsts firsts′ seen′ =
+    (rows : List AnswerRow) (old : List ℕ) → Orderly rows → r ≡ answerRowAt rows i → i < length rows → length rows * 6 ≤ length t → length rows ≤ length firsts
+    → Homed rows old t firsts seen i → Homed rows old t′ firsts′ seen′ (i + 1)
 
 -- What the setting of homes promises, with room for the first row of each fresh piece.
 abbrev pub SetsHomes : ℕ → List ℕ → List ℕ → ℕ → Type 0
