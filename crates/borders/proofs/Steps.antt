@@ -1,5 +1,5 @@
 -- What the functions of one place compute, from what they read.
-use mathlib.Core.Path.{_≡_, refl, sym, ap, ap₂, _∙_}
+use mathlib.Core.Path.{_≡_, sym, ap, ap₂, _∙_}
 use mathlib.Core.Logic.{_≢_}
 use mathlib.Core.Bool.{Bool, true, false, cond}
 use mathlib.Core.List.{List}
@@ -39,17 +39,6 @@ module _ (m c u : List ℕ) (side k w r low : ℕ) (ew : w ≡ k) (er : r ≡ ge
 
   pub place-lowest : low ≡ k → u ≡ unevenWith m c side k u
   place-lowest e = place-even (ap (besideIn m c side) (sym e))
-
-  pub place-marked : (at x : ℕ) → at ≡ r → x ≡ getD u at 0 → x ≡ 1 → u ≡ unevenWith m c side k u
-  unfolding unevenWith
-  place-marked at x ea ex e =
-      let one : getD u r 0 ≡ 1 = ap (λ (i : ℕ). getD u i 0) (sym ea) ∙ sym ex ∙ e in
-      let same : (t : Bool) → cond t (getD u r 0) 1 ≡ getD u r 0 = either one in
-      rw (read-r, same (eqb (besideIn m c side k) (besideIn m c side (r - 2))), set-getD u r 0)
-    where
-      either : getD u r 0 ≡ 1 → (t : Bool) → cond t (getD u r 0) 1 ≡ getD u r 0
-      either one true = refl
-      either one false = sym one
 
   module _ (h l : ℕ) (eh : h ≡ besideIn m c side k) (es : l ≡ besideIn m c side low) where
     pub place-alike : h ≡ l → u ≡ unevenWith m c side k u

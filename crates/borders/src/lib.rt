@@ -57,16 +57,13 @@ fn beside(marks: &[u16], links: &[u16], side: u16, k: u16) -> u16
     0
 }
 
-// Marks the representative of place k if its lowest place has another neighbour than place k. One that is marked is not compared again.
+// Marks the representative of place k if its lowest place has another neighbour than place k.
 fn mark_place(marks: &[u16], links: &[u16], side: u16, k: u16, uneven: &mut [u16])
     ensures { λ _. ⌜ now (uneven .exit) ≡ unevenWith (now (marks .entry)) (now (links .entry)) side k (now (uneven .entry)) ⌝ }
 {
     let r = numbers::load(links, numbers::wide(k) + 2);
     let low = numbers::difference(r, 2);
     if low == k {
-        return;
-    }
-    if numbers::load(uneven, numbers::wide(r)) == 1 {
         return;
     }
     if beside(marks, links, side, k) == beside(marks, links, side, low) {
