@@ -15,7 +15,7 @@ use Rattle.laws.proofs.Least.{least-is, least-within, least-passed}
 use Rattle.laws.proofs.Numbers.{dec-eq, lt-or-le, below-or-at}
 use Rattle.answers.specs.declared.AnswerRow.{AnswerRow}
 use Rattle.answers.specs.Answer.{answerRowAt, isFresh, homeRow}
-use Rattle.homes.specs.inner.Homes.{Orderly, homeIn, seenWith, ofPiece, First, Seen}
+use Rattle.homes.specs.inner.Homes.{Orderly, homeIn, ofPiece, First, Seen}
 
 pub none-seen : (rows : List AnswerRow) (firsts : List ℕ) → Seen rows firsts 0 0
 none-seen rows firsts = record { most = omega arith; marked = λ n l. absurd (omega arith); passed = λ i l f. absurd (omega arith) }
@@ -86,16 +86,6 @@ module _ (rows : List AnswerRow) where
     first-here : isFresh (answerRowAt rows j) ≡ true → answerRowAt rows j .fresh ≡ seen → First rows seen j
     first-here f e = record { is-row = and-both (isFresh (at j)) (eqb (at j .fresh) seen) f (eq-eqb (at j .fresh) seen e); none-before = unseen }
 
-    marked-now : isFresh (answerRowAt rows j) ≡ true → First rows (answerRowAt rows j .fresh) (getD (set firsts seen j) (answerRowAt rows j .fresh) 0)
-    marked-now f = go (dec-eq (at j .fresh) seen)
-      where
-        go : (at j .fresh ≡ seen) ⊎ (at j .fresh ≢ seen) → First rows (at j .fresh) (getD (set firsts seen j) (at j .fresh) 0)
-        go (inl e) = rw (e, new-mark) (first-here f e)
-        go (inr e) = rw (kept-mark (at j .fresh) (omega (arith, number-most f))) (k .marked (at j .fresh) (omega (arith, number-most f)))
-
-    pub home-now : homeIn (set firsts seen j) (answerRowAt rows j) j ≡ homeRow rows j
-    home-now = home-read firsts′ j marked-now
-
     -- a row whose piece appeared before, and one where it first appears
     pub home-later : isFresh (answerRowAt rows j) ≡ true → answerRowAt rows j .fresh ≢ seen → homeRow rows j ≡ getD firsts (answerRowAt rows j .fresh) 0
     home-later f e = home-first j (getD firsts (at j .fresh) 0) f (k .marked (at j .fresh) (omega (arith, number-most f)))
@@ -135,18 +125,6 @@ module _ (rows : List AnswerRow) where
         go : (i : ℕ) → isFresh (at i) ≡ true → (i < j) ⊎ (i ≡ j) → at i .fresh < suc seen
         go i g (inl q) = omega (arith, k .passed i q g)
         go i g (inr q) = let d : at i .fresh ≡ at j .fresh = ap (λ (x : ℕ). at x .fresh) q in omega arith
-
-    pub seen-more : Seen rows (set firsts seen j) (seenWith (answerRowAt rows j) seen) (suc j)
-    unfolding seenWith
-    seen-more = go (lt-or-le (at j .kind) 2) (dec-eq (at j .fresh) seen)
-      where
-        go : (at j .kind < 2) ⊎ (2 ≤ at j .kind) → (at j .fresh ≡ seen) ⊎ (at j .fresh ≢ seen)
-            → Seen rows (set firsts seen j) (cond (not (ltb (at j .kind) 2) && eqb (at j .fresh) seen) ((seen + 1) % 65536) seen) (suc j)
-        go (inl q) d = rw (lt-ltb (at j .kind) 2 q) (same-seen (λ f. clash (isFresh (at j)) f (kind-fill (at j) q)))
-        go (inr q) (inl d) =
-            let e : (seen + 1) % 65536 ≡ suc seen = omega (arith, k .most, o .few) in
-            rw (le-ltb (at j .kind) 2 q, eq-eqb (at j .fresh) seen d, e) (more-seen (kind-fresh (at j) q) d)
-        go (inr q) (inr d) = rw (le-ltb (at j .kind) 2 q, ne-eqb (at j .fresh) seen d) (same-seen (λ f. d))
 
 -- a home row is not behind its row, and is its own home
 least-found : (f : ℕ → Bool) (k d : ℕ) → f (k + d) ≡ true → f (least f k d) ≡ true

@@ -7,16 +7,16 @@ use Prim.Native.Nat.{ℕ, zero, suc, _+_, _-_, _*_, _/_, _%_, _≤_, _<_}
 use native.Mathlib.Omega.{arith}
 use native.Mathlib.Numerals.{add-one}
 use lib.Dec.{eqb}
-use lib.ListN.{length, getD, set, drop, length-set}
+use lib.ListN.{length, getD, set, drop}
 use borrow.Author.Tests.{eq-eqb, ne-eqb, eqb-true}
 use Rattle.laws.proofs.Bools.{clash, and-first, and-second, and-both}
 use Rattle.laws.proofs.Numbers.{dec-eq, at-or-after}
 use Rattle.answers.specs.declared.AnswerRow.{AnswerRow}
-use Rattle.answers.specs.Answer.{answerRowAt, answerRowsOf, widthIn, highBit, homeRow}
+use Rattle.answers.specs.Answer.{answerRowAt, answerRowsOf, isFresh, widthIn, highBit, homeRow}
 use Rattle.answers.proofs.AnswerNumbers.{answer-length}
-use Rattle.homes.specs.inner.Homes.{Orderly, widthOn, homeIn, seenWith, Seen, homeFine, MarksFirsts, Right, TellsRight, TestsRows, TestsHomes}
+use Rattle.homes.specs.inner.Homes.{Orderly, widthOn, homeIn, Seen, homeFine, MarksFirst, MarksFirsts, Right, TellsRight, TestsRows, TestsHomes}
 use Rattle.homes.proofs.Widths.{width-next, high-next, none-passed}
-use Rattle.homes.proofs.Firsts.{none-seen, seen-more, home-known, home-most, home-home}
+use Rattle.homes.proofs.Firsts.{none-seen, kind-fresh, kind-fill, seen-kept, more-seen, home-known, home-most, home-home}
 
 -- the first rows marked, row by row
 pub record Marking (n : ℕ) (t firsts₀ firsts : List ℕ) (seen i : ℕ) : Type 0 where
@@ -24,21 +24,36 @@ pub record Marking (n : ℕ) (t firsts₀ firsts : List ℕ) (seen i : ℕ) : Ty
   pub room-len : length firsts ≡ length firsts₀
   pub going : n ≡ length (answerRowsOf t) → Orderly (answerRowsOf t) → n ≤ length firsts₀ → Seen (answerRowsOf t) firsts seen i
 
+module _ (r : AnswerRow) (i seen : ℕ) (firsts : List ℕ) where
+  pub mark-of-fill : r .kind < 2 → MarksFirst r i seen firsts firsts seen
+  mark-of-fill f rows o e l space g =
+      let fill : isFresh (answerRowAt rows i) ≡ false = ap isFresh (sym e) ∙ kind-fill rows r f in
+      rw add-one (seen-kept rows o firsts seen i g l space (λ h. clash (isFresh (answerRowAt rows i)) h fill))
+
+  pub mark-of-later : r .fresh ≢ seen → MarksFirst r i seen firsts firsts seen
+  mark-of-later q rows o e l space g = rw add-one (seen-kept rows o firsts seen i g l space (λ h d. q (ap (λ (x : AnswerRow). x .fresh) e ∙ d)))
+
+  pub mark-of-first : 2 ≤ r .kind → r .fresh ≡ seen → (w : ℕ) → w ≡ seen → (firsts′ : List ℕ) → firsts′ ≡ set firsts w i → (seen′ : ℕ) → seen′ ≡ (seen + 1) % 65536
+      → MarksFirst r i seen firsts firsts′ seen′
+  mark-of-first f q w ew firsts′ ef seen′ es rows o e l space g =
+      let fresh : isFresh (answerRowAt rows i) ≡ true = ap isFresh (sym e) ∙ kind-fresh rows r f in
+      let number : answerRowAt rows i .fresh ≡ seen = ap (λ (x : AnswerRow). x .fresh) (sym e) ∙ q in
+      let d : seen′ ≡ suc seen = es ∙ omega (arith, g .most, o .few) in
+      rw (add-one, ef, ew, d) (more-seen rows o firsts seen i g l space fresh number)
+
 pub marking-first : (n : ℕ) (t firsts : List ℕ) → Marking n t firsts firsts 0 0
 marking-first n t firsts = record { within = omega arith; room-len = refl; going = λ e o room. none-seen (answerRowsOf t) firsts }
 
 module _ (n : ℕ) (t firsts₀ firsts : List ℕ) (seen i : ℕ) (k : Marking n t firsts₀ firsts seen i) where
-  pub marking-more : i < n → (u : ℕ) → u ≡ seen → (firsts′ : List ℕ) → firsts′ ≡ set firsts u i → (w : ℕ) → w ≡ i → (r : AnswerRow) → r ≡ answerRowAt (answerRowsOf t) w
-      → (seen′ : ℕ) → seen′ ≡ seenWith r seen → Marking n t firsts₀ firsts′ seen′ (i + 1)
-  marking-more l u eu firsts′ ef w ew r er seen′ es =
-      rw add-one
-      (record {
-        within = l;
-        room-len = ap length ef ∙ length-set firsts u i ∙ k .room-len;
+  pub marking-more : i < n → (w : ℕ) → w ≡ i → (r : AnswerRow) → r ≡ answerRowAt (answerRowsOf t) w → (firsts′ : List ℕ) → length firsts′ ≡ length firsts
+      → (seen′ : ℕ) → MarksFirst r i seen firsts firsts′ seen′ → Marking n t firsts₀ firsts′ seen′ (i + 1)
+  marking-more l w ew r er firsts′ lf seen′ h =
+      record {
+        within = omega arith;
+        room-len = lf ∙ k .room-len;
         going = λ e o room.
-            let row : r ≡ answerRowAt (answerRowsOf t) i = er ∙ ap (answerRowAt (answerRowsOf t)) ew in
-            rw (es, ef, eu, row) (seen-more (answerRowsOf t) o firsts seen i (k .going e o room) (omega arith) (omega (arith, k .room-len)));
-      })
+            h (answerRowsOf t) o (er ∙ ap (answerRowAt (answerRowsOf t)) ew) (omega arith) (omega (arith, k .room-len)) (k .going e o room);
+      }
 
   pub marking-done : n ≤ i → MarksFirsts n t (length firsts₀) firsts
   marking-done l e o room j q =

@@ -4,7 +4,7 @@
 ghost use mathlib.Core.Path.{_≡_};
 ghost use Prim.Native.Nat.{_+_, _*_, _≤_};
 ghost use lib.ListN.{length};
-ghost use Rattle.homes.specs.inner.Homes.{columnsAt, widthOn, rowPut, Widens, homeIn, seenWith, homeCopied, SetsHome, SetsHomes, PutsHomes, MarksFirsts, homeFine, TestsRows, TestsHomes};
+ghost use Rattle.homes.specs.inner.Homes.{columnsAt, widthOn, rowPut, Widens, homeIn, homeCopied, SetsHome, SetsHomes, PutsHomes, MarksFirst, MarksFirsts, homeFine, TestsRows, TestsHomes};
 use answers::AnswerRow;
 
 // The kind of a row with a fresh piece; a lower kind is a fill of that bit.
@@ -85,21 +85,6 @@ fn home_row(firsts: &[u16], row: AnswerRow, i: u16) -> u16
     numbers::load(firsts, numbers::wide(row.fresh))
 }
 
-// How many fresh pieces have appeared, with one row more.
-fn seen_with(row: AnswerRow, seen: u16) -> u16
-    ensures { λ n. ⌜ n ≡ seenWith row seen ⌝ }
-{
-    let kind = row.kind;
-    let number = row.fresh;
-    if kind < FRESH {
-        return seen;
-    }
-    if number == seen {
-        return numbers::plus(seen, 1);
-    }
-    seen
-}
-
 // Copies home and high bit of one row to another, if both are there.
 fn copy_home(answer: &mut [u16], from: u16, to: u16)
     ensures { λ _. ⌜ (from * 6 + 6 ≤ length (now (answer .entry)) → to * 6 + 6 ≤ length (now (answer .entry)) → now (answer .exit) ≡ homeCopied (now (answer .entry)) from to) ⌝ }
@@ -159,16 +144,31 @@ pub fn put_homes(answer: &mut [u16], rows: usize, firsts: &mut [u16])
     set_homes(answer, count, firsts);
 }
 
-// Marks the first row of each fresh piece. A row without a new one stores at the place of the next, which stores again.
+// Marks row i if its piece first appears there. How many fresh pieces have appeared then.
+fn mark_first(firsts: &mut [u16], row: AnswerRow, seen: u16, i: u16) -> u16
+    ensures { λ n. ⌜ MarksFirst row i seen (now (firsts .entry)) (now (firsts .exit)) n ⌝ }
+{
+    let kind = row.kind;
+    let number = row.fresh;
+    if kind < FRESH {
+        return seen;
+    }
+    if number != seen {
+        return seen;
+    }
+    numbers::store(firsts, numbers::wide(seen), i);
+    numbers::plus(seen, 1)
+}
+
+// Marks the first row of each fresh piece.
 fn mark_firsts(answer: &[u16], rows: u16, firsts: &mut [u16])
     ensures { λ _. ⌜ MarksFirsts rows (now (answer .entry)) (length (now (firsts .entry))) (now (firsts .exit)) ⌝ }
 {
     let mut seen: u16 = 0;
     let mut i: u16 = 0;
     while i < rows {
-        numbers::store(firsts, numbers::wide(seen), i);
         let row = answer_table::row_at(answer, numbers::wide(i));
-        seen = seen_with(row, seen);
+        seen = mark_first(firsts, row, seen, i);
         i += 1;
     }
 }

@@ -17,28 +17,22 @@ loop-holds c = marking-first _ _ _
 wide-requires : tie.Need-wide-requires Inv-loop μ-loop
 wide-requires c κs = tt
 
-store-requires : tie.Need-store-requires Inv-loop μ-loop
-store-requires c κs = tt
-
-wide-requires-2 : tie.Need-wide-requires-2 Inv-loop μ-loop
-wide-requires-2 c κs = tt
-
 row-at-requires : tie.Need-row-at-requires Inv-loop μ-loop
 row-at-requires c κs = tt
 
-seen-with-requires : tie.Need-seen-with-requires Inv-loop μ-loop
-seen-with-requires c κs = tt
+mark-first-requires : tie.Need-mark-first-requires Inv-loop μ-loop
+mark-first-requires c κs = tt
 
 add-i : tie.Need-add-i Inv-loop μ-loop
-add-i c = omega (arith, c .before .before .before .before .before .before .before .before .loop-test .taken)
+add-i c = omega (arith, c .before .before .before .before .before .before .loop-test .taken)
 
 loop-less : tie.Need-loop-less Inv-loop μ-loop
-loop-less c = omega (arith, c .before .before .before .before .before .before .before .before .loop-test .taken)
+loop-less c = omega (arith, c .before .before .before .before .before .before .loop-test .taken)
 
 loop-again : tie.Need-loop-again Inv-loop μ-loop
 loop-again c =
-    let w = c .before .before .before .before .before .before .before .before .before in
-    marking-more _ _ _ _ _ _ (w .loop .inv) (c .before .before .before .before .before .before .before .before .loop-test .taken) _ (c .before .before .before .before .before .before .wide .ensures .0) _ (c .before .before .before .before .before .store .ensures) _ (c .before .before .wide2 .ensures .0) _ (c .before .row-at .ensures) _ (c .seen-with .ensures)
+    let h = c .before .before .mark-first in
+    marking-more _ _ _ _ _ _ (c .before .before .before .before .before .before .before .loop .inv) (c .before .before .before .before .before .before .loop-test .taken) _ (c .before .before .before .before .before .wide .ensures .0) _ (c .before .before .before .before .row-at .ensures) _ (h .kept .0) _ (h .ensures)
 
 same-length : tie.Need-same-length Inv-loop μ-loop
 same-length c = c .before .loop .inv .room-len
@@ -54,10 +48,8 @@ mark-firsts-spec =
     μ-loop
     loop-holds
     wide-requires
-    store-requires
-    wide-requires-2
     row-at-requires
-    seen-with-requires
+    mark-first-requires
     add-i
     loop-less
     loop-again

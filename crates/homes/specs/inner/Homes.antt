@@ -1,6 +1,6 @@
 -- What the functions over home and high bit of an answer's rows compute and promise.
 use mathlib.Core.Path.{_≡_}
-use mathlib.Core.Bool.{Bool, true, false, not, _&&_, cond}
+use mathlib.Core.Bool.{Bool, true, false, _&&_, cond}
 use mathlib.Core.List.{List}
 use Prim.Native.Nat.{ℕ, _+_, _*_, _/_, _%_, _≤_, _<_}
 use lib.Dec.{eqb, ltb}
@@ -48,10 +48,6 @@ Widens n t t′ =
 unfoldable pub homeIn : List ℕ → AnswerRow → ℕ → ℕ
 homeIn firsts r i = cond (ltb (r .kind) 2) i (getD firsts (r .fresh) 0)
 
--- How many fresh pieces have appeared, with one row more.
-unfoldable pub seenWith : AnswerRow → ℕ → ℕ
-seenWith r seen = cond (not (ltb (r .kind) 2) && eqb (r .fresh) seen) ((seen + 1) % 65536) seen
-
 -- An answer table with home and high bit of one row copied to another.
 unfoldable pub homeCopied : List ℕ → ℕ → ℕ → List ℕ
 homeCopied t from to = set (set t (to * 6 + 4) (getD t (from * 6 + 4) 0)) (to * 6 + 5) (getD t (from * 6 + 5) 0)
@@ -95,6 +91,12 @@ abbrev pub PutsHomes : ℕ → List ℕ → List ℕ → ℕ → Type 0
 PutsHomes n t t′ room =
     (rows : List AnswerRow) (old : List ℕ) → n ≡ length rows → Orderly rows → n * 6 ≤ length old → n ≤ room → t ≡ overwrite (fourNumbers rows) old
     → t′ ≡ overwrite (answerNumbers rows) old
+
+-- What the marking of one row promises.
+abbrev pub MarksFirst : AnswerRow → ℕ → ℕ → List ℕ → List ℕ → ℕ → Type 0
+MarksFirst r i seen firsts firsts′ seen′ =
+    (rows : List AnswerRow) → Orderly rows → r ≡ answerRowAt rows i → i < length rows → length rows ≤ length firsts → Seen rows firsts seen i
+    → Seen rows firsts′ seen′ (i + 1)
 
 -- What the marking of the first rows promises: they are the homes of the rows with a fresh piece.
 abbrev pub MarksFirsts : ℕ → List ℕ → ℕ → List ℕ → Type 0
