@@ -91,10 +91,10 @@ past-rows t [] (suc r) l = refl
 past-rows t (x ∷ rs) zero l = absurd (omega arith)
 past-rows t (x ∷ rs) (suc r) l = past-rows t rs r (omega arith)
 
-pub pairs-from : (t : List Row) (r : ℕ) → r < length t → drop r (equationPairs t) ≡ pairsOf t (rowAt t r) ∷ drop (suc r) (equationPairs t)
+pub pairs-from : (t : List Row) (r : ℕ) → r < length t → drop r (pairsIn t t) ≡ pairsOf t (rowAt t r) ∷ drop (suc r) (pairsIn t t)
 pairs-from t = from-row t t
 
-pub pairs-past : (t : List Row) (r : ℕ) → length t ≤ r → drop r (equationPairs t) ≡ []
+pub pairs-past : (t : List Row) (r : ℕ) → length t ≤ r → drop r (pairsIn t t) ≡ []
 pairs-past t = past-rows t t
 
 -- tables have the same bit pairs if each row has

@@ -48,10 +48,14 @@ equal-same n f g h =
     every-same n (λ p. not (f p) || eqb (bitOf p s) (bitOf p t)) (λ p. not (g p) || eqb (bitOf p s) (bitOf p t))
     (λ p a. ap (λ (b : Bool). not b || eqb (bitOf p s) (bitOf p t)) (h p a))))
 
-pairs-length : (t rs : List Row) → length (pairsIn t rs) ≡ length rs
+rows-length : (t rs : List Row) → length (pairsIn t rs) ≡ length rs
 unfolding pairsIn
-pairs-length t [] = refl
-pairs-length t (r ∷ rs) = ap suc (pairs-length t rs)
+rows-length t [] = refl
+rows-length t (r ∷ rs) = ap suc (rows-length t rs)
+
+-- a list of pairs for each row
+pub pairs-length : (t : List Row) → length (equationPairs t) ≡ length t
+pairs-length t = rows-length t t
 
 pairs-take : (t : List Row) (k : ℕ) (rs : List Row) → pairsIn t (take k rs) ≡ take k (pairsIn t rs)
 unfolding pairsIn
@@ -126,7 +130,7 @@ module _ (table : List ℕ) (accepted : firstFault table ≡ Accepted) where
   pub unsat-row : unsatRow t ≡ unsatAt n [] es
   unfolding unsatRow
   unsat-row =
-      ap (least (λ r. every n (λ p. not (satisfiesTo t r p))) 0) (sym (pairs-length t t))
+      ap (least (λ r. every n (λ p. not (satisfiesTo t r p))) 0) (sym (pairs-length t))
       ∙ unsat-least n [] es (λ r. every n (λ p. not (satisfiesTo t r p))) 0 at-row
       ∙ omega arith
     where
@@ -148,7 +152,7 @@ module _ (table : List ℕ) (accepted : firstFault table ≡ Accepted) where
 
   pub ties-all : tiesTo t (length t) ≡ ties n [] qs
   unfolding tiesTo
-  ties-all = ap (λ (l : List (List Pair)). ties n [] (pairsTogether l)) (take-all (length t) es (omega (arith, pairs-length t t)))
+  ties-all = ap (λ (l : List (List Pair)). ties n [] (pairsTogether l)) (take-all (length t) es (omega (arith, pairs-length t)))
 
   -- the answer's rows are those of the classes
   module _ (some : unsatisfiable (rowsOf table) ≡ false) where
@@ -207,7 +211,7 @@ module _ (table : List ℕ) (accepted : firstFault table ≡ Accepted) where
     pub all-ties : tiesTo t (length t) ≡ tiesBefore n [] es
     unfolding tiesTo
     all-ties =
-        sym (ties-together n [] es ∙ ap (λ (r : ℕ). ties n [] (pairsTogether (take r es))) (never-left ∙ pairs-length t t))
+        sym (ties-together n [] es ∙ ap (λ (r : ℕ). ties n [] (pairsTogether (take r es))) (never-left ∙ pairs-length t))
 
   not-both : valid t ≡ true → unsatisfiable t ≡ true → ⊥
   unfolding valid unsatisfiable
@@ -236,13 +240,13 @@ module _ (table : List ℕ) (accepted : firstFault table ≡ Accepted) where
       go true e = absurd (omega (arith, power-pos n, count-all-of n (λ p. false) (every-at n (λ p. false) e), count-none-of n (λ p. false) (λ p a. refl)))
 
   pub is-never : conflictAt (countUp 0 (suc (suc n))) es < length t → unsatisfiable t ≡ true
-  is-never l = none-is ∙ none-together ∙ none-below n [] es (omega (arith, conflict-place n es, pairs-length t t))
+  is-never l = none-is ∙ none-together ∙ none-below n [] es (omega (arith, conflict-place n es, pairs-length t))
 
   pub is-left : conflictAt (countUp 0 (suc (suc n))) es ≡ length t → unsatisfiable t ≡ false
-  is-left e = none-is ∙ none-together ∙ some-left n [] es empty-left (sym (conflict-place n es) ∙ e ∙ sym (pairs-length t t))
+  is-left e = none-is ∙ none-together ∙ some-left n [] es empty-left (sym (conflict-place n es) ∙ e ∙ sym (pairs-length t))
 
   pub conflict-most : conflictAt (countUp 0 (suc (suc n))) es ≤ length t
-  conflict-most = omega (arith, conflict-place n es, unsat-most n [] es, pairs-length t t)
+  conflict-most = omega (arith, conflict-place n es, unsat-most n [] es, pairs-length t)
 
   -- the record for each
   pub never-record : conflictAt (countUp 0 (suc (suc n))) es < length t

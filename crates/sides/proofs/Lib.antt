@@ -4,6 +4,6 @@ pub mod FormSources
 pub mod EquationPairs
 pub mod NextEquation
 pub mod Shortened
-pub mod Alike
+pub mod SamePairs
 pub mod ShortTable
 pub mod Shortening

@@ -22,32 +22,21 @@ use Rattle.laws.proofs.CountUp.{count-up}
 use Rattle.answers.specs.Pairs.{equationPairs}
 use Rattle.answers.proofs.Equations.{pairs-same}
 use Rattle.sides.specs.inner.Shortened.{shortened}
-use Rattle.sides.proofs.Alike.{AlikeRow, Alike, alike-kinds, alike-take, alike-bits, alike-count, alike-pairs}
+use Rattle.terms.proofs.Alike.{AlikeRow, Alike, alike-kinds, alike-take, alike-bits, totals-same, kinds-same, kept-same}
+use Rattle.sides.proofs.SamePairs.{alike-pairs}
 use Rattle.sides.proofs.Shortened.{short-count, short-same, CutOf, short-cut}
-
--- a table no row of which breaks a rule has no lowest fault
-none-lowest : (t : List Row) (r n : ℕ) → ((i : ℕ) → r ≤ i → i < r + n → isAccepted (faultAt t i) ≡ true) → lowestFault t r n ≡ Accepted
-unfolding lowestFault
-none-lowest t r zero h = refl
-none-lowest t r (suc n) h = rw (h r (omega arith) (omega arith)) (none-lowest t (suc r) n (λ i l m. h i (omega arith) (omega arith)))
-
-pub sound-accepted : (numbers : List ℕ) → length numbers % 4 ≡ 0 → length (rowsOf numbers) ≤ 512 → Sound (rowsOf numbers) → firstFault numbers ≡ Accepted
-unfolding firstFault breaks11
-sound-accepted numbers whole few sound =
-    rw (eq-eqb (length numbers % 4) 0 whole, le-ltb 512 (length (rowsOf numbers)) few)
-    (none-lowest (rowsOf numbers) 0 (length (rowsOf numbers)) (λ i l h. sound i (omega arith)))
 
 module _ (t : List Row) (sound : Sound t) where
   abbrev s : List Row
   s = shortened t
 
-  pub short-alike : Alike s t
+  pub short-alike : Alike 3 s t
   short-alike = record { count = short-count t; each = each }
     where
-      each : (r : ℕ) → r < length t → AlikeRow (rowAt s r) (rowAt t r)
+      each : (r : ℕ) → r < length t → AlikeRow 3 (rowAt s r) (rowAt t r)
       each r h = go (eqb (rowAt t r .kind) 3) refl
         where
-          go : (b : Bool) → eqb (rowAt t r .kind) 3 ≡ b → AlikeRow (rowAt s r) (rowAt t r)
+          go : (b : Bool) → eqb (rowAt t r .kind) 3 ≡ b → AlikeRow 3 (rowAt s r) (rowAt t r)
           go true e =
               let k : rowAt t r .kind ≡ 3 = eqb-true (rowAt t r .kind) 3 e in
               record { kind-is = short-cut t sound r h k .is-cut ∙ sym k; same = λ n. absurd (n k) }
@@ -83,51 +72,19 @@ module _ (t : List Row) (sound : Sound t) where
       ext-getD 0 (widthsOf s) (widthsOf t) (widths-count s ∙ short-count t ∙ sym (widths-count t))
       (λ i h. short-width i (omega (arith, widths-count s, short-count t)))
 
-  terms-same : (r x : ℕ) → notTerm s r x ≡ notTerm t r x
-  unfolding notTerm
-  terms-same r x = rw (alike-kinds s t short-alike x)
-
-  names-same : (r : ℕ) (row : Row) → misnamed s r row ≡ misnamed t r row
-  unfolding misnamed
-  names-same r row = rw (terms-same r (row .a), terms-same r (row .b))
-
-  totals-same : (r : ℕ) → breaks17 s r ≡ breaks17 t r
-  unfolding breaks17
-  totals-same r =
-      let a = alike-take (suc r) s t short-alike in
-      rw (alike-count 0 (take (suc r) s) (take (suc r) t) a, alike-bits (take (suc r) s) (take (suc r) t) a, alike-count 4 (take (suc r) s) (take (suc r) t) a)
-
-  kinds-same : (r : ℕ) → breaks12 s r ≡ breaks12 t r
-  unfolding breaks12
-  kinds-same r = rw (alike-kinds s t short-alike r)
-
-  -- a row that stays breaks no rule
-  kept-same : (r : ℕ) → rowAt s r ≡ rowAt t r → Kept t r → Kept s r
-  unfolding breaks13 breaks14 breaks15 breaks40 breaks16
-  kept-same r e k =
-      record {
-        kept12 = kinds-same r ∙ k .kept12;
-        kept13 = rw e (k .kept13);
-        kept14 = rw e (names-same r (rowAt t r) ∙ k .kept14);
-        kept15 = rw (e, short-widths) (k .kept15);
-        kept40 = rw e (k .kept40);
-        kept16 = rw (e, short-widths) (k .kept16);
-        kept17 = totals-same r ∙ k .kept17;
-      }
-
-  -- nor does a cut
+  -- a cut breaks no rule
   kept-cut : (r : ℕ) → CutOf t r (rowAt s r) → Kept t r → Kept s r
   kept-cut r cut k =
       let e = cut .is-cut in
       let x = rowAt s r .a in
       record {
-        kept12 = kinds-same r ∙ k .kept12;
+        kept12 = kinds-same 3 (omega arith) s t short-alike r ∙ k .kept12;
         kept13 = cut-keeps-13 s r e;
-        kept14 = cut-keeps-14 s r e (record { earlier = cut .names .earlier; no-equation = λ f. cut .names .no-equation (sym (alike-kinds s t short-alike x) ∙ f) });
+        kept14 = cut-keeps-14 s r e (record { earlier = cut .names .earlier; no-equation = λ f. cut .names .no-equation (sym (alike-kinds 3 s t short-alike x) ∙ f) });
         kept15 = cut-keeps-15 s r e;
         kept40 = cut-keeps-40 s r e;
         kept16 = cut-keeps-16 s r e (rw short-widths (cut .below)) (cut .order);
-        kept17 = totals-same r ∙ k .kept17;
+        kept17 = totals-same 3 (omega arith) s t short-alike r ∙ k .kept17;
       }
 
   short-kept : (r : ℕ) → r < length t → Kept s r
@@ -138,7 +95,7 @@ module _ (t : List Row) (sound : Sound t) where
 
       go : (b : Bool) → eqb (rowAt t r .kind) 3 ≡ b → Kept s r
       go true e = kept-cut r (short-cut t sound r h (eqb-true (rowAt t r .kind) 3 e)) k
-      go false e = kept-same r (short-same t sound r h (eqb-false (rowAt t r .kind) 3 e)) k
+      go false e = kept-same 3 (omega arith) s t short-alike short-widths r (short-same t sound r h (eqb-false (rowAt t r .kind) 3 e)) k
 
   pub short-sound : Sound s
   short-sound r h = unbroken s r (short-kept r (omega (arith, short-count t)))
@@ -161,7 +118,7 @@ module _ (t : List Row) (sound : Sound t) where
               ∙ sym (it .value p whole)
           go false e =
               value-same s t p r l h (short-kept r h) (kept t r (sound r h)) (short-same t sound r h (eqb-false (rowAt t r .kind) 3 e))
-              (alike-bits (take r s) (take r t) (alike-take r s t short-alike))
+              (alike-bits 3 (omega arith) (take r s) (take r t) (alike-take 3 r s t short-alike))
               (λ i m. before i m (omega arith))
 
   short-values : (p : List ℕ) → length p ≡ bitsOf t → valuesOf s p ≡ valuesOf t p
@@ -172,7 +129,7 @@ module _ (t : List Row) (sound : Sound t) where
   pub short-sources : sourcesOf s ≡ sourcesOf t
   unfolding sourcesOf
   short-sources =
-      ap (λ (n : ℕ). valuesOf s (countUp 2 n)) (alike-bits s t short-alike) ∙ short-values (countUp 2 (bitsOf t)) (count-up 2 (bitsOf t))
+      ap (λ (n : ℕ). valuesOf s (countUp 2 n)) (alike-bits 3 (omega arith) s t short-alike) ∙ short-values (countUp 2 (bitsOf t)) (count-up 2 (bitsOf t))
 
   pub short-pairs : equationPairs s ≡ equationPairs t
   short-pairs = pairs-same s t (short-count t) (λ r h. alike-pairs s t (rowAt s r) (rowAt t r) (short-alike .each r h) short-sources)

@@ -46,7 +46,7 @@ module _ (table : List ℕ) (accepted : firstFault table ≡ Accepted) (links an
   abbrev t : List Row
   t = rowsOf table
 
-  E : EquationsTaken (rowsOf table) links row ties
+  E : EquationsTaken (rowsOf table) (equationPairs (rowsOf table)) links row ties
   E = F .taken
 
   abbrev n : ℕ

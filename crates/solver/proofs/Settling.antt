@@ -6,7 +6,7 @@ use mathlib.Core.List.{List, [], _∷_}
 use Prim.Native.Nat.{ℕ, suc, _+_, _≤_, _<_}
 use native.Mathlib.Omega.{arith}
 use lib.Dec.{eqb}
-use lib.ListN.{length, getD, length-drop}
+use lib.ListN.{length, getD}
 use lib.Seq.{ext-getD}
 use borrow.Author.Tests.{ne-eqb}
 use Rattle.terms.specs.declared.Row.{Row}
@@ -18,8 +18,7 @@ use Rattle.laws.proofs.Numbers.{dec-eq}
 use Rattle.laws.proofs.CountUp.{count-at, count-up}
 use Rattle.answers.specs.Pairs.{Pair, equationPairs}
 use Rattle.answers.specs.inner.Classes.{rep, merge, run, runAll, links, conflictAt, linksBefore}
-use Rattle.answers.proofs.Equations.{pairs-past}
-use Rattle.answers.proofs.Tables.{conflict-most}
+use Rattle.answers.proofs.Tables.{pairs-length, conflict-most}
 use Rattle.classes.specs.inner.Links.{Low, rootsOf}
 use Rattle.classes.proofs.Links.{merge-same}
 use Rattle.classes.proofs.Roots.{stands-roots, stands-of, roots-settled}
@@ -58,7 +57,7 @@ alone h n low e =
     let m : i < n = omega (arith, s .len, count-up 0 n) in
     omega (arith, s .keep i, low i, count-at 0 n i m, count-at 0 n (getD h i 0) (omega (arith, low i))))
 
-module _ (table : List ℕ) (accepted : firstFault table ≡ Accepted) (links : List ℕ) (row ties : ℕ) (E : EquationsTaken (rowsOf table) links row ties) where
+module _ (table : List ℕ) (accepted : firstFault table ≡ Accepted) (links : List ℕ) (row ties : ℕ) (E : EquationsTaken (rowsOf table) (equationPairs (rowsOf table)) links row ties) where
   abbrev t : List Row
   t = rowsOf table
 
@@ -79,7 +78,7 @@ module _ (table : List ℕ) (accepted : firstFault table ≡ Accepted) (links : 
     -- no ties: each source is alone
     pub settle-none : ties ≡ 0 → ClassesTaken t links row ties
     settle-none z =
-        let few : length (equationPairs t) ≤ length t = omega (arith, length-drop (length t) (equationPairs t), ap length (pairs-past t (length t) (omega arith))) in
+        let few : length (equationPairs t) ≤ length t = omega (arith, pairs-length t) in
         let s : runAll c₀ (equationPairs t) ≡ c₀ = run-all-nothing c₀ (equationPairs t) (omega (arith, E .row-is, whole)) (sym (E .ties-are) ∙ z) in
         record { taken = E; settled = λ e. alone links (suc (suc (bitsOf t))) low (E .classes-are whole ∙ s) ∙ sym s }
 

@@ -11,14 +11,14 @@ use Rattle.terms.specs.declared.Fault.the-variants.{Accepted}
 use Rattle.terms.specs.Table.{rowsOf, bitsOf, widthsOf, widthOf, countKind}
 use Rattle.terms.specs.Faults.{firstFault}
 use Rattle.terms.specs.inner.Places.{lowSource}
-use Rattle.terms.proofs.AcceptedTable.{accepted-table}
+use Rattle.terms.proofs.AcceptedTable.{accepted-table, sound-accepted}
 use Rattle.terms.specs.Sound.{Sound}
-use Rattle.answers.specs.Pairs.{equationPairs}
+use Rattle.answers.specs.Pairs.{pairsIn, equationPairs}
 use Rattle.sides.specs.inner.Shortened.{shortened}
 use Rattle.sides.specs.inner.Sides.{Prepared}
 use Rattle.solver.specs.inner.Equations.{EquationsTaken}
-use Rattle.sides.proofs.Alike.{Alike, alike-take, alike-bits, alike-count, alike-places}
-use Rattle.sides.proofs.ShortTable.{sound-accepted, short-alike, short-widths, short-sound, short-pairs}
+use Rattle.terms.proofs.Alike.{Alike, alike-take, alike-bits, alike-count, alike-places}
+use Rattle.sides.proofs.ShortTable.{short-alike, short-widths, short-sound, short-pairs}
 
 -- the first n numbers of a buffer are such a copy
 pub copy-length : (table buffer : List ℕ) (n room : ℕ) → n ≡ length table → n ≤ room → length buffer ≡ room → length (take n buffer) ≡ length table
@@ -38,7 +38,7 @@ module _ (table short : List ℕ) (accepted : firstFault table ≡ Accepted) (si
   sound : Sound t
   sound = accepted-table table accepted .sound
 
-  alike : Alike (rowsOf short) t
+  alike : Alike 3 (rowsOf short) t
   alike = rw rows (short-alike t sound)
 
   pub copy-accepted : firstFault short ≡ Accepted
@@ -47,7 +47,7 @@ module _ (table short : List ℕ) (accepted : firstFault table ≡ Accepted) (si
       sound-accepted short (ap (λ (n : ℕ). n % 4) size ∙ it .whole) (omega (arith, alike .count, it .few)) (rw rows (short-sound t sound))
 
   pub copy-bits : bitsOf (rowsOf short) ≡ bitsOf t
-  copy-bits = alike-bits (rowsOf short) t alike
+  copy-bits = alike-bits 3 (omega arith) (rowsOf short) t alike
 
   pub copy-prepared : (widths variables lows : List ℕ) → ((r : ℕ) → r < length t → getD widths r 0 ≡ widthOf t r)
       → ((r : ℕ) → r < length t → getD variables r 0 ≡ countKind 0 (take r t))
@@ -57,18 +57,18 @@ module _ (table short : List ℕ) (accepted : firstFault table ≡ Accepted) (si
         numbered = record {
           accepted = copy-accepted;
           widths-are = λ r h. ws r (omega (arith, alike .count)) ∙ ap (λ (l : List ℕ). getD l r 0) (sym (ap widthsOf rows ∙ short-widths t sound));
-          variables-are = λ r h. vs r (omega (arith, alike .count)) ∙ sym (alike-count 0 (take r (rowsOf short)) (take r t) (alike-take r (rowsOf short) t alike));
+          variables-are = λ r h. vs r (omega (arith, alike .count)) ∙ sym (alike-count 3 0 (take r (rowsOf short)) (take r t) (alike-take 3 r (rowsOf short) t alike));
         };
         lows-are =
             λ v h.
-            ls v (omega (arith, alike-count 0 (rowsOf short) t alike))
-            ∙ ap (λ (n : ℕ). n + 1) (sym (alike-places (rowsOf short) t alike (suc v)));
+            ls v (omega (arith, alike-count 3 0 (rowsOf short) t alike))
+            ∙ ap (λ (n : ℕ). n + 1) (sym (alike-places 3 (omega arith) (rowsOf short) t alike (suc v)));
       }
 
-  copy-pairs : equationPairs (rowsOf short) ≡ equationPairs t
+  copy-pairs : pairsIn (rowsOf short) (rowsOf short) ≡ equationPairs t
   copy-pairs = ap equationPairs rows ∙ short-pairs t sound
 
-  pub copy-taken : (links : List ℕ) (row ties : ℕ) → EquationsTaken (rowsOf short) links row ties → EquationsTaken t links row ties
+  pub copy-taken : (links : List ℕ) (row ties : ℕ) → EquationsTaken (rowsOf short) (pairsIn (rowsOf short) (rowsOf short)) links row ties → EquationsTaken t (equationPairs t) links row ties
   copy-taken links row ties taken =
       record {
         row-is = rw (copy-bits, copy-pairs) at (taken .row-is);

@@ -12,7 +12,7 @@ use borrow.Author.Tests.{eq-eqb, ne-eqb}
 use Rattle.terms.specs.declared.Row.{Row}
 use Rattle.terms.specs.Table.{rowAt, bitsOf}
 use Rattle.laws.specs.Lists.{countUp}
-use Rattle.answers.specs.Pairs.{Pair, pairsOf, equationPairs}
+use Rattle.answers.specs.Pairs.{Pair, pairsOf, pairsIn}
 use Rattle.answers.specs.inner.Classes.{rep, relabel, merge, run, runAll, links, conflictAt, linksBefore}
 use Rattle.laws.proofs.Numbers.{dec-eq}
 use Rattle.answers.proofs.Agreement.{relabel-zero, base}
@@ -150,7 +150,7 @@ taking-alike l r c h (suc n) k found t same =
 -- ---- between equations: `row` rows are taken; c are the classes now
 module _ (t : List Row) where
   abbrev es : List (List Pair)
-  es = equationPairs t
+  es = pairsIn t t
 
   abbrev c₀ : List ℕ
   c₀ = countUp 0 (suc (suc (bitsOf t)))
@@ -161,9 +161,9 @@ module _ (t : List Row) where
     pub one : rep (rootsOf h) 1 ≡ 1
     pub len : length h ≡ suc (suc (bitsOf t))
     pub roots-len : length (rootsOf h) ≡ length h
-    pub stopped : row + conflictAt (rootsOf h) (drop row (equationPairs t)) ≡ conflictAt (countUp 0 (suc (suc (bitsOf t)))) (equationPairs t)
-    pub joined : ties + linksBefore (rootsOf h) (drop row (equationPairs t)) ≡ linksBefore (countUp 0 (suc (suc (bitsOf t)))) (equationPairs t)
-    pub ran : runAll (rootsOf h) (drop row (equationPairs t)) ≡ runAll (countUp 0 (suc (suc (bitsOf t)))) (equationPairs t)
+    pub stopped : row + conflictAt (rootsOf h) (drop row (pairsIn t t)) ≡ conflictAt (countUp 0 (suc (suc (bitsOf t)))) (pairsIn t t)
+    pub joined : ties + linksBefore (rootsOf h) (drop row (pairsIn t t)) ≡ linksBefore (countUp 0 (suc (suc (bitsOf t)))) (pairsIn t t)
+    pub ran : runAll (rootsOf h) (drop row (pairsIn t t)) ≡ runAll (countUp 0 (suc (suc (bitsOf t)))) (pairsIn t t)
 
   pub between-first : (h : List ℕ) → h ≡ countUp 0 (suc (suc (bitsOf t))) → Between h 0 0
   between-first h e =
@@ -223,7 +223,7 @@ module _ (t : List Row) where
         }
 
     -- two different fixed bits met
-    pub between-conflict : rep (run (rootsOf h) (pairsOf t (rowAt t row))) 1 ≡ 0 → (h′ : List ℕ) → ties ≤ 1000000 → EquationsTaken t h′ row ties
+    pub between-conflict : rep (run (rootsOf h) (pairsOf t (rowAt t row))) 1 ≡ 0 → (h′ : List ℕ) → ties ≤ 1000000 → EquationsTaken t (pairsIn t t) h′ row ties
     between-conflict z h′ few =
         let n : eqb (rep (run c ps) 1) 0 ≡ true = eq-eqb (rep (run c ps) 1) 0 z in
         record {
@@ -255,7 +255,7 @@ module _ (t : List Row) where
       let e : row + (n - row) ≡ n = omega (arith, p .forth) in
       subst (Between h ties) e (between-past (n - row) h ties row b (omega (arith, p .forth, p .most)) (λ i a l. p .none i a (omega (arith, p .forth))))
 
-  pub between-done : (h : List ℕ) (ties row : ℕ) → Between h ties row → length t ≤ row → ties ≤ 1000000 → EquationsTaken t h row ties
+  pub between-done : (h : List ℕ) (ties row : ℕ) → Between h ties row → length t ≤ row → ties ≤ 1000000 → EquationsTaken t (pairsIn t t) h row ties
   unfolding conflictAt linksBefore runAll
   between-done h ties row b g few =
       let z : drop row es ≡ [] = pairs-past t row g in

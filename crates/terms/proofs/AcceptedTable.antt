@@ -2,17 +2,17 @@
 use mathlib.Core.Path.{_≡_, refl, ap}
 use mathlib.Core.Bool.{true, false}
 use mathlib.Core.List.{List}
-use Prim.Native.Nat.{ℕ, _%_, _<_, _≤_}
+use Prim.Native.Nat.{ℕ, zero, suc, _+_, _%_, _<_, _≤_}
 use native.Mathlib.Omega.{arith}
 use lib.Dec.{eqb}
 use lib.ListN.{length}
-use borrow.Author.Tests.{ne-eqb}
+use borrow.Author.Tests.{ne-eqb, eq-eqb, le-ltb}
 use Rattle.terms.specs.declared.Row.{Row}
 use Rattle.terms.specs.declared.Fault.{Fault}
 use Rattle.terms.specs.declared.Fault.the-variants.{Accepted, Shape, Kind, Unused, Named, Width, Value, Bounds, Count}
 use Rattle.terms.specs.Table.{rowsOf, rowAt}
 use Rattle.terms.specs.Calls.{faultNumber}
-use Rattle.terms.specs.Faults.{isAccepted, firstFault, absent}
+use Rattle.terms.specs.Faults.{breaks11, faultAt, isAccepted, lowestFault, firstFault, absent}
 use Rattle.laws.proofs.Bools.{not-both}
 use Rattle.terms.proofs.RuleOrder.{told-none}
 use Rattle.terms.proofs.Acceptance.{fault-exactly}
@@ -43,6 +43,19 @@ accepted-table numbers e =
       whole = says .0 .whole;
       sound = λ r h. ap isAccepted (told-none (rowsOf numbers) r (says .1 r h));
     }
+
+-- a table no row of which breaks a rule has no lowest fault
+none-lowest : (t : List Row) (r n : ℕ) → ((i : ℕ) → r ≤ i → i < r + n → isAccepted (faultAt t i) ≡ true) → lowestFault t r n ≡ Accepted
+unfolding lowestFault
+none-lowest t r zero h = refl
+none-lowest t r (suc n) h = rw (h r (omega arith) (omega arith)) (none-lowest t (suc r) n (λ i l m. h i (omega arith) (omega arith)))
+
+-- and the other way round
+pub sound-accepted : (numbers : List ℕ) → length numbers % 4 ≡ 0 → length (rowsOf numbers) ≤ 512 → Sound (rowsOf numbers) → firstFault numbers ≡ Accepted
+unfolding firstFault breaks11
+sound-accepted numbers whole few sound =
+    rw (eq-eqb (length numbers % 4) 0 whole, le-ltb 512 (length (rowsOf numbers)) few)
+    (none-lowest (rowsOf numbers) 0 (length (rowsOf numbers)) (λ i l h. sound i (omega arith)))
 
 -- a fault's number is 11 or more, and not 0
 pub fault-high : (f : Fault) → isAccepted f ≡ false → 11 ≤ faultNumber f

@@ -21,3 +21,6 @@ pub mod RowKinds
 pub mod RowNumbers
 pub mod ValueCall
 pub mod Places
+pub mod Alike
+pub mod LeavingOff
+pub mod Counting

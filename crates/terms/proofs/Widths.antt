@@ -37,7 +37,7 @@ pub width-same : (ws vs : List ℕ) (row : Row)
 unfolding widthIn
 width-same ws vs row h = kind-same (row .kind) (λ e. refl) (λ e. refl) h (λ e. refl) (λ e. refl)
 
-bits-snoc : (t : List Row) (r : Row) → bitsOf (t ++ (r ∷ [])) ≡ bitsOf t + bitsIn r
+pub bits-snoc : (t : List Row) (r : Row) → bitsOf (t ++ (r ∷ [])) ≡ bitsOf t + bitsIn r
 unfolding bitsOf
 bits-snoc [] r = omega arith
 bits-snoc (x ∷ t) r = omega (arith, bits-snoc t r)

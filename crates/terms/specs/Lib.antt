@@ -7,4 +7,5 @@ pub mod Acceptance
 pub mod Sound
 pub mod Markers
 pub mod Filled
+pub mod Counting
 pub mod inner

@@ -1,9 +1,9 @@
 -- What a term table means (document 01, "The term table"; document 02, (i) and (iii)): its rows, their widths and values, and when an
 -- assignment satisfies it. The bits of a word stand high end first.
-use mathlib.Core.Bool.{Bool, true, false, _&&_, cond}
+use mathlib.Core.Bool.{Bool, true, false, _&&_, _||_, cond}
 use mathlib.Core.List.{List, [], _∷_, _++_}
 use Prim.Native.Nat.{ℕ, zero, suc, _+_, _-_}
-use lib.Dec.{eqb}
+use lib.Dec.{eqb, ltb}
 use lib.ListN.{length, getD, take, drop, replicate}
 use Rattle.terms.specs.declared.Row.{Row}
 use Rattle.laws.specs.Lists.{countUp}
@@ -143,6 +143,31 @@ sidesAgree vs r =
 unfoldable pub allRows : (Row → Bool) → List Row → Bool
 allRows f [] = true
 allRows f (r ∷ rs) = f r && allRows f rs
+
+-- The row that says nothing: the equation of row 0 with itself.
+abbrev pub silentRow : Row
+silentRow = record { kind = 4; a = 0; b = 0; c = 0 }
+
+-- The rows of a table with some left off: each row that a test of it and of the rows behind it picks is the row that says nothing.
+unfoldable pub leavingOff : (Row → List Row → Bool) → List Row → List Row
+leavingOff picked [] = []
+leavingOff picked (r ∷ rs) = cond (picked r rs) silentRow r ∷ leavingOff picked rs
+
+-- Whether a row is an equation of line n: column c of an equation is its line number, 0 for none.
+unfoldable pub ofLine : ℕ → Row → Bool
+ofLine n r = eqb (r .kind) 4 && eqb (r .c) n
+
+unfoldable pub someRow : (Row → Bool) → List Row → Bool
+someRow f [] = false
+someRow f (r ∷ rs) = f r || someRow f rs
+
+-- Whether a row is an equation with a line number above 0 that some equation behind it has too.
+unfoldable pub revised : Row → List Row → Bool
+revised r behind = eqb (r .kind) 4 && (ltb 0 (r .c) && someRow (ofLine (r .c)) behind)
+
+-- A table's rows with the revised equations left off: its equations are those that count.
+unfoldable pub counting : List Row → List Row
+counting t = leavingOff revised t
 
 -- Whether an assignment satisfies (meets) a table: in each equation the filled sides have equal values.
 unfoldable pub satisfies : List Row → List ℕ → Bool

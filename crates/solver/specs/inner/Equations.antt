@@ -9,7 +9,7 @@ use Rattle.terms.specs.Table.{rowsOf, bitsOf, widthOf, countKind}
 use Rattle.terms.specs.Faults.{firstFault}
 use Rattle.terms.specs.inner.Places.{sourceBefore}
 use Rattle.laws.specs.Lists.{countUp}
-use Rattle.answers.specs.Pairs.{equationPairs}
+use Rattle.answers.specs.Pairs.{Pair, pairsIn, equationPairs}
 use Rattle.answers.specs.inner.Classes.{runAll, conflictAt, linksBefore}
 use Rattle.classes.specs.inner.Links.{Low, rootsOf}
 use Rattle.forms.specs.inner.Numbered.{Numbered}
@@ -20,14 +20,14 @@ use Rattle.sides.specs.inner.Sides.{Prepared, leftSide, rightSide, sideWritten}
 abbrev pub unlinked : List Row → List ℕ
 unlinked t = countUp 0 (suc (suc (bitsOf t)))
 
--- The equations of a table were taken up to a row: the first at which two different fixed bits met, or the number of rows. `ties` are
--- those of the equations before it; if there was none, the links have the classes of all equations.
-pub record EquationsTaken (t : List Row) (links : List ℕ) (row ties : ℕ) : Type 0 where
-  pub row-is : row ≡ conflictAt (countUp 0 (suc (suc (bitsOf t)))) (equationPairs t)
-  pub ties-are : ties ≡ linksBefore (countUp 0 (suc (suc (bitsOf t)))) (equationPairs t)
+-- The bit pairs es of a table's rows were taken up to a row: the first at which two different fixed bits met, or the number of rows. `ties`
+-- are those of the rows before it; if there was none, the links have the classes of all pairs.
+pub record EquationsTaken (t : List Row) (es : List (List Pair)) (links : List ℕ) (row ties : ℕ) : Type 0 where
+  pub row-is : row ≡ conflictAt (countUp 0 (suc (suc (bitsOf t)))) es
+  pub ties-are : ties ≡ linksBefore (countUp 0 (suc (suc (bitsOf t)))) es
   pub few : ties ≤ 1000000
   pub low : row ≡ length t → Low links
-  pub classes-are : row ≡ length t → rootsOf links ≡ runAll (countUp 0 (suc (suc (bitsOf t)))) (equationPairs t)
+  pub classes-are : row ≡ length t → rootsOf links ≡ runAll (countUp 0 (suc (suc (bitsOf t)))) es
 
 -- The next eight sources of two readers, each in a part of a variable that goes on so far, link alike: their pairs say nothing.
 pub record Alike (links : List ℕ) (a b : Reader) : Type 0 where
@@ -37,11 +37,11 @@ pub record Alike (links : List ℕ) (a b : Reader) : Type 0 where
   pub right-rises : b .step ≡ 1
   pub same : (i : ℕ) → i < 8 → getD links (a .source + i) 0 ≡ getD links (b .source + i) 0
 
--- What taking them promises, from unlinked sources and with room for the forms of two sides.
+-- What taking all equations of the lent table promises, from unlinked sources and with room for the forms of two sides.
 abbrev pub TakesEquations : List ℕ → List ℕ → List ℕ → List ℕ → ℕ → ℕ → List ℕ → List ℕ → ℕ → ℕ → Type 0
 TakesEquations table widths variables lows leftRoom rightRoom links links′ row ties =
     Prepared table widths variables lows → 4096 ≤ leftRoom → 4096 ≤ rightRoom → links ≡ unlinked (rowsOf table)
-    → EquationsTaken (rowsOf table) links′ row ties
+    → EquationsTaken (rowsOf table) (pairsIn (rowsOf table) (rowsOf table)) links′ row ties
 
 -- A buffer after the first n rows: for each equation among them, in order, the normal form of one of its filled sides was written to the
 -- beginning, and nothing else.
@@ -62,13 +62,13 @@ LeavesForms table widths variables left left′ right right′ row =
 
 -- The same, and where no conflict was met each link is its source's representative.
 pub record ClassesTaken (t : List Row) (links : List ℕ) (row ties : ℕ) : Type 0 where
-  pub taken : EquationsTaken t links row ties
+  pub taken : EquationsTaken t (equationPairs t) links row ties
   pub settled : row ≡ length t → links ≡ runAll (countUp 0 (suc (suc (bitsOf t)))) (equationPairs t)
 
 -- What the closing sweep promises of the equations that were taken.
 abbrev pub SettlesTies : List ℕ → ℕ → ℕ → List ℕ → List ℕ → Type 0
 SettlesTies table row ties links links′ =
-    firstFault table ≡ Accepted → EquationsTaken (rowsOf table) links row ties → ClassesTaken (rowsOf table) links′ row ties
+    firstFault table ≡ Accepted → EquationsTaken (rowsOf table) (equationPairs (rowsOf table)) links row ties → ClassesTaken (rowsOf table) links′ row ties
 
 -- The classes of a table, from its widths and the places of its variables, with room for the normal form of a side, in a link for each
 -- source.
