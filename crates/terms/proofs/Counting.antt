@@ -17,7 +17,7 @@ use Rattle.terms.specs.declared.Fault.the-variants.{Accepted}
 use Rattle.terms.specs.Table.{rowsOf, rowNumbers, rowAt, noRow, countKind, silentRow, leavingOff, ofLine, someRow, revised, counting}
 use Rattle.terms.specs.Faults.{firstFault}
 use Rattle.terms.specs.Sound.{Sound}
-use Rattle.terms.specs.Counting.{IsLine, Revised, Counts, CountingRows, OneOfLine, DistinctLines, NoLines, Unmoved, withoutLine, FewEquations}
+use Rattle.terms.specs.Counting.{IsLine, Revised, CountingRows, OneOfLine, DistinctLines, NoLines, Unmoved, withoutLine, FewEquations}
 use Rattle.terms.proofs.RowNumbers.{row-numbers-length, rows-written}
 use Rattle.terms.proofs.AcceptedTable.{accepted-table, sound-accepted}
 use Rattle.terms.proofs.Faults.{totals-small}
@@ -141,39 +141,6 @@ module _ (t : List Row) where
       go true e = inl (revised-to r l e)
       go false e = inr (λ h. not-both (revised-of r h) e)
 
-  -- (b) of each line number above 0 the last equation counts, and no other
-  the-last : (n r : ℕ) → 0 < n → IsLine t r n → someRow (ofLine n) (drop (suc r) t) ≡ false → OneOfLine t n
-  the-last n r above k e =
-      record {
-        row = r;
-        is-line = k;
-        last = last;
-        does-count = record { in-table = k .in-table; is-equation = k .is-equation; unrevised = unrevised };
-        only = λ i c h. ⊎-elim (before i c h) (λ l. ⊎-elim (λ m. absurd (last i m h)) (λ m. omega arith) (lt-or-le r i)) (lt-or-le i r);
-      }
-    where
-      last : (i : ℕ) → r < i → IsLine t i n → ⊥
-      last i l h = not-both (line-found n r i l h) e
-
-      unrevised : Revised t r → ⊥
-      unrevised h =
-          let same : h .line ≡ n = sym (h .here .line-is) ∙ k .line-is in
-          last (h .later) (h .behind) (record { in-table = h .there .in-table; is-equation = h .there .is-equation; line-is = h .there .line-is ∙ same })
-
-      before : (i : ℕ) → Counts t i → IsLine t i n → i < r → i ≡ r
-      before i c h l = absurd (c .unrevised (record { line = n; above-0 = above; here = h; later = r; behind = l; there = k }))
-
-  last-line : (n : ℕ) → 0 < n → (d r : ℕ) → length t ≤ r + d → IsLine t r n → OneOfLine t n
-  last-line n above zero r f k = absurd (omega (arith, k .in-table))
-  last-line n above (suc d) r f k = go (last-line n above d) (someRow (ofLine n) (drop (suc r) t)) refl
-    where
-      go : ((i : ℕ) → length t ≤ i + d → IsLine t i n → OneOfLine t n) → (b : Bool) → someRow (ofLine n) (drop (suc r) t) ≡ b → OneOfLine t n
-      go further true e = let it = line-behind n r e in further (suc r + it .at) (omega arith) (found-line n r it)
-      go further false e = the-last n r above k e
-
-  pub one-of-line : (n r : ℕ) → 0 < n → IsLine t r n → OneOfLine t n
-  one-of-line n r above k = last-line n above (length t) r (omega arith) k
-
   -- (e) where no two equations have one line number above 0, nothing moves
   pub unmoved : Unmoved t
   unmoved = record { distinct-lines = distinct; no-lines = λ none. distinct (λ n i j above l h k. absurd (omega (arith, none n i h))) }
@@ -201,6 +168,43 @@ module _ (t : List Row) where
             still,
           )
 
+  -- (b) of each line number above 0 the last equation counts, and no other
+  the-last : (n r : ℕ) → 0 < n → IsLine t r n → someRow (ofLine n) (drop (suc r) t) ≡ false → OneOfLine t n
+  the-last n r above k e =
+      record {
+        row = r;
+        is-line = k;
+        last = last;
+        stays = counting-rows .stays r unrevised;
+        only = only;
+      }
+    where
+      last : (i : ℕ) → r < i → IsLine t i n → ⊥
+      last i l h = not-both (line-found n r i l h) e
+
+      unrevised : Revised t r → ⊥
+      unrevised h =
+          let same : h .line ≡ n = sym (h .here .line-is) ∙ k .line-is in
+          last (h .later) (h .behind) (record { in-table = h .there .in-table; is-equation = h .there .is-equation; line-is = h .there .line-is ∙ same })
+
+      only : (i : ℕ) → IsLine (counting t) i n → i ≡ r
+      only i c =
+          let line = counting-line n i above c in
+          ⊎-elim (λ l. absurd (line .1 (record { line = n; above-0 = above; here = line .0; later = r; behind = l; there = k })))
+          (λ l. ⊎-elim (λ m. absurd (last i m (line .0))) (λ m. omega arith) (lt-or-le r i))
+          (lt-or-le i r)
+
+  last-line : (n : ℕ) → 0 < n → (d r : ℕ) → length t ≤ r + d → IsLine t r n → OneOfLine t n
+  last-line n above zero r f k = absurd (omega (arith, k .in-table))
+  last-line n above (suc d) r f k = go (last-line n above d) (someRow (ofLine n) (drop (suc r) t)) refl
+    where
+      go : ((i : ℕ) → length t ≤ i + d → IsLine t i n → OneOfLine t n) → (b : Bool) → someRow (ofLine n) (drop (suc r) t) ≡ b → OneOfLine t n
+      go further true e = let it = line-behind n r e in further (suc r + it .at) (omega arith) (found-line n r it)
+      go further false e = the-last n r above k e
+
+  pub one-of-line : (n r : ℕ) → 0 < n → IsLine t r n → OneOfLine t n
+  one-of-line n r above k = last-line n above (length t) r (omega arith) k
+
   pub counting-distinct : DistinctLines (counting t)
   counting-distinct n i j above l h k =
       let first = counting-line n i above h in
@@ -214,6 +218,30 @@ module _ (t : List Row) where
   pub counting-sound : Sound t → Sound (counting t)
   unfolding counting
   counting-sound = off-sound revised revised-equation t
+
+-- without the equations of one line no two have one line number either
+pub without-distinct : (n : ℕ) (t : List Row) → DistinctLines t → DistinctLines (withoutLine n t)
+unfolding withoutLine
+without-distinct n t apart m i j above l h k = apart m i j above l (line i h) (line j k)
+  where
+    line : (r : ℕ) → IsLine (leavingOff (λ x behind. ofLine n x) t) r m → IsLine t r m
+    line r it = go (ofLine n (rowAt t r)) refl
+      where
+        inside : r < length t
+        inside = omega (arith, it .in-table, off-count (λ x behind. ofLine n x) t)
+
+        row : rowAt (leavingOff (λ x behind. ofLine n x) t) r ≡ cond (ofLine n (rowAt t r)) silentRow (rowAt t r)
+        row = off-row (λ x behind. ofLine n x) t r inside
+
+        go : (b : Bool) → ofLine n (rowAt t r) ≡ b → IsLine t r m
+        go true e = absurd (omega (arith, above, it .line-is, ap (λ (x : Row). x .c) (rw e at row)))
+        go false e =
+            let same = rw e at row in
+            record { in-table = inside; is-equation = rw same at (it .is-equation); line-is = rw same at (it .line-is) }
+
+pub without-alike : (n : ℕ) (t : List Row) → Alike 4 (withoutLine n t) t
+unfolding withoutLine
+without-alike n t = off-alike (λ x behind. ofLine n x) (λ x behind h. line-to n x h .0) t
 
 -- leaving off once more changes nothing
 pub counting-once : (t : List Row) → counting (counting t) ≡ counting t

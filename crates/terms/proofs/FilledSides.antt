@@ -19,7 +19,8 @@ use Rattle.terms.proofs.Assignments.{assignment-length, assignment-bit}
 use Rattle.terms.proofs.Faults.{kept, kept-names, equation-names, concat-names}
 use Rattle.terms.proofs.Filled.{equal-numbers, evened-word, evened-even, same-even, evened-by, top-zero}
 use Rattle.terms.proofs.RowKinds.{kind-same}
-use Rattle.terms.proofs.Satisfies.{agree-at, agree-of, all-at, satisfies-at, satisfies-of}
+use Rattle.terms.specs.Counting.{Counts}
+use Rattle.terms.proofs.Satisfies.{agree-at, agree-of, satisfies-at, satisfies-of}
 use Rattle.terms.proofs.Sources.{value-sources}
 use Rattle.terms.proofs.Values.{value-length, value-concat, value-fixed, fill-word}
 
@@ -72,14 +73,14 @@ module _ (t : List Row) (sound : Sound t) where
   value-bits : (p : List ℕ) → Assignment (bitsOf t) p → (r : ℕ) → r < length t → allBits (valueOf t p r) ≡ true
   value-bits p h r l = rw (value-sources t p sound (assignment-length h) r l) (read-bits h (sourceOf t r))
 
-  -- An assignment satisfies the table exactly if in each equation both sides are equal as binary numbers.
+  -- An assignment satisfies the table exactly if in each equation that counts both sides are equal as binary numbers.
   pub meets-by-numbers : (p : List ℕ) → Assignment (bitsOf t) p → MeetsByNumbers t p
   meets-by-numbers p h =
-      let same : (r : ℕ) → r < length t → rowAt t r .kind ≡ 4 → EqualNumbers (valueOf t p (rowAt t r .a)) (valueOf t p (rowAt t r .b)) =
-      λ r l k. let s = sides-in r l k in equal-numbers _ _ (value-bits p h (rowAt t r .a) (s .0)) (value-bits p h (rowAt t r .b) (s .1)) in
+      let same : (r : ℕ) → Counts t r → EqualNumbers (valueOf t p (rowAt t r .a)) (valueOf t p (rowAt t r .b)) =
+      λ r c. let s = sides-in r (c .in-table) (c .is-equation) in equal-numbers _ _ (value-bits p h (rowAt t r .a) (s .0)) (value-bits p h (rowAt t r .b) (s .1)) in
       record {
-        to = λ m r l k. same r l k .to (satisfies-at t p m r l k);
-        of = λ e. satisfies-of t p (λ r l k. same r l k .of (e r l k));
+        to = λ m r c. same r c .to (satisfies-at t p m r c);
+        of = λ e. satisfies-of t p (λ r c. same r c .of (e r c));
       }
 
   module _ (p : List ℕ) (whole : length p ≡ bitsOf t) where
@@ -112,14 +113,9 @@ module _ (t : List Row) (sound : Sound t) where
             let z = wider-even g va vb (wide (s .1) (s .0)) in
             record { to = λ h. z .to (sym (e .to h)); of = λ h. e .of (sym (z .of h)) }
 
-    -- In every pattern that meets the table the top g bits of a side that is g bits wider are 0.
-    pub top-zeros : {r a b g : ℕ} → WiderBy t r a b g → satisfies t p ≡ true → TopZero g (valueOf t p a) (valueOf t p b)
-    unfolding satisfies
-    top-zeros {r} {a} {b} {g} w h = wider-agrees w .to (all-at (sidesAgree (valuesOf t p)) t h r (there (w .equation)))
-      where
-        there : IsEquation t r a b ⊎ IsEquation t r b a → r < length t
-        there (inl is) = is .in-table
-        there (inr is) = is .in-table
+    -- In every pattern that meets the table the top g bits of a side that is g bits wider are 0, where the equation counts.
+    pub top-zeros : {r a b g : ℕ} → WiderBy t r a b g → Counts t r → satisfies t p ≡ true → TopZero g (valueOf t p a) (valueOf t p b)
+    top-zeros {r} {a} {b} {g} w c h = wider-agrees w .to (agree-of (valuesOf t p) (rowAt t r) (λ k. satisfies-at t p h r c))
 
     -- a row that is filled by hand is the narrower row as it is filled
     pub by-hand : {f n j m g : ℕ} → ByHand t f n j m g → SameFilled (valuesOf t p) n j m

@@ -8,12 +8,11 @@ use native.Mathlib.Omega.{arith}
 use lib.ListN.{length, take, drop}
 use Rattle.laws.specs.Lists.{countUp}
 use Rattle.terms.specs.declared.Row.{Row}
-use Rattle.terms.specs.Table.{rowAt, byKind, byRows, widthIn, widthsOf, bitsOf, valueIn, valuesOf, sourcesOf, sidesAgree, silentRow, leavingOff}
+use Rattle.terms.specs.Table.{rowAt, byKind, byRows, widthIn, widthsOf, bitsOf, valueIn, valuesOf, sourcesOf, silentRow, leavingOff}
 use Rattle.terms.specs.Faults.{breaks12, breaks13, breaks14, breaks15, breaks40, breaks16, unusedColumn, misnamed, wrongWidth, wrongValue, wrongBounds}
 use Rattle.terms.specs.Sound.{Sound}
 use Rattle.terms.proofs.Widths.{bits-snoc}
 use Rattle.terms.proofs.Faults.{Kept, kept, kept-names, unbroken, equation-names, term-named}
-use Rattle.terms.proofs.Satisfies.{word-same}
 use Rattle.terms.proofs.Alike.{AlikeRow, Alike, head-alike, tail-alike, alike-use, alike-kinds, alike-bits-in, alike-bits, totals-same, kinds-same, kept-same}
 
 -- ---- tables that differ at most in what their equations say
@@ -51,11 +50,6 @@ unfolding sourcesOf
 alike-sources s t a = alike-values s t a (countUp 2 (bitsOf s)) ∙ ap (λ (n : ℕ). valuesOf t (countUp 2 n)) (alike-bits 4 (omega arith) s t a)
 
 -- ---- the row that says nothing
-
--- its sides are equal
-pub silent-agrees : (vs : List (List ℕ)) → sidesAgree vs silentRow ≡ true
-unfolding sidesAgree byKind
-silent-agrees vs = word-same _
 
 -- in place of an equation of a table none of whose rows breaks a rule it breaks none
 module _ (s t : List Row) (alike : Alike 4 s t) (sound : Sound t) (r : ℕ) (h : r < length t) (equation : rowAt t r .kind ≡ 4) (e : rowAt s r ≡ silentRow) where

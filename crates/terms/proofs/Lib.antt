@@ -24,3 +24,4 @@ pub mod Places
 pub mod Alike
 pub mod LeavingOff
 pub mod Counting
+pub mod Revising

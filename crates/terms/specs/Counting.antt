@@ -37,13 +37,13 @@ pub record CountingRows (t : List Row) : Type 0 where
   pub replaced : (r : ℕ) → Revised t r → rowAt (counting t) r ≡ silentRow
   pub stays : (r : ℕ) → (Revised t r → ⊥) → rowAt (counting t) r ≡ rowAt t r
 
--- (b) The last equation of line n counts, and no other of that line.
+-- (b) The last equation of line n stays, and no other of that line.
 pub record OneOfLine (t : List Row) (n : ℕ) : Type 0 where
   pub row : ℕ
   pub is-line : IsLine t row n
   pub last : (r : ℕ) → row < r → IsLine t r n → ⊥
-  pub does-count : Counts t row
-  pub only : (r : ℕ) → Counts t r → IsLine t r n → r ≡ row
+  pub stays : rowAt (counting t) row ≡ rowAt t row
+  pub only : (r : ℕ) → IsLine (counting t) r n → r ≡ row
 
 -- The filled sides of the equation of row r have the same value.
 abbrev pub SidesEqual : List Row → List ℕ → ℕ → Type 0

@@ -29,7 +29,7 @@ unusedColumn row =
     (nonzero (row .c))
     (nonzero (row .c))
     false
-    (nonzero (row .c))
+    false
 
 unfoldable pub breaks13 : List Row → ℕ → Bool
 breaks13 t r = unusedColumn (rowAt t r)
@@ -86,7 +86,7 @@ wrongBounds row width =
 unfoldable pub breaks16 : List Row → ℕ → Bool
 breaks16 t r = wrongBounds (rowAt t r) (widthOf t (rowAt t r .a))
 
--- 17: variable or equation beyond its maximum, or variable bits beyond 4,096, counting the rows up to r
+-- 17: variable or equation beyond its maximum, revised equations too, or variable bits beyond 4,096, in the rows up to r
 unfoldable pub tooMany : ℕ → ℕ → ℕ → Bool
 tooMany variables bits equations = ltb 64 variables || ltb 4096 bits || ltb 64 equations
 

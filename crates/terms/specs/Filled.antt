@@ -10,6 +10,7 @@ use Rattle.terms.specs.declared.Row.{Row}
 use Rattle.terms.specs.Table.{rowAt, widthOf, valueOf, evened, satisfies}
 use Rattle.terms.specs.Acceptance.{Exactly}
 use Rattle.terms.specs.Sound.{IsFill, IsConcat, IsEquation}
+use Rattle.terms.specs.Counting.{Counts}
 
 -- Two words, each brought to the length of the other, are equal exactly if they are equal as binary numbers.
 abbrev pub EqualNumbers : List ℕ → List ℕ → Type 0
@@ -21,11 +22,11 @@ pub record Evened (x y : List ℕ) : Type 0 where
   pub number : bitsNumber (evened x y) ≡ bitsNumber x
   pub same : length y ≤ length x → evened x y ≡ x
 
--- An assignment satisfies a table exactly if in each equation both sides are equal as binary numbers.
+-- An assignment satisfies a table exactly if in each equation that counts both sides are equal as binary numbers.
 abbrev pub MeetsByNumbers : List Row → List ℕ → Type 0
 MeetsByNumbers t p =
     Exactly (satisfies t p ≡ true)
-    ((r : ℕ) → r < length t → rowAt t r .kind ≡ 4 → bitsNumber (valueOf t p (rowAt t r .a)) ≡ bitsNumber (valueOf t p (rowAt t r .b)))
+    ((r : ℕ) → Counts t r → bitsNumber (valueOf t p (rowAt t r .a)) ≡ bitsNumber (valueOf t p (rowAt t r .b)))
 
 -- Row r is the equation of rows a and b, in either order, and a is g bits wider.
 pub record WiderBy (t : List Row) (r a b g : ℕ) : Type 0 where

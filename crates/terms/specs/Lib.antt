@@ -6,6 +6,6 @@ pub mod Value
 pub mod Acceptance
 pub mod Sound
 pub mod Markers
-pub mod Filled
 pub mod Counting
+pub mod Filled
 pub mod inner

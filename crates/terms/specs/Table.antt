@@ -1,4 +1,4 @@
--- What a term table means (document 01, "The term table"; document 02, (i) and (iii)): its rows, their widths and values, and when an
+-- What a term table means (document 01, "The term table"; document 02, (i), (iii) and (vii)): its rows, their widths and values, and when an
 -- assignment satisfies it. The bits of a word stand high end first.
 use mathlib.Core.Bool.{Bool, true, false, _&&_, _||_, cond}
 use mathlib.Core.List.{List, [], _∷_, _++_}
@@ -169,6 +169,6 @@ revised r behind = eqb (r .kind) 4 && (ltb 0 (r .c) && someRow (ofLine (r .c)) b
 unfoldable pub counting : List Row → List Row
 counting t = leavingOff revised t
 
--- Whether an assignment satisfies (meets) a table: in each equation the filled sides have equal values.
+-- Whether an assignment satisfies (meets) a table: in each equation that counts the filled sides have equal values.
 unfoldable pub satisfies : List Row → List ℕ → Bool
-satisfies t p = allRows (sidesAgree (valuesOf t p)) t
+satisfies t p = allRows (sidesAgree (valuesOf t p)) (counting t)
