@@ -8,12 +8,14 @@ use native.Mathlib.Omega.{arith}
 use lib.Dec.{eqb}
 use lib.ListN.{length, drop}
 use Rattle.terms.specs.declared.Row.{Row}
-use Rattle.terms.specs.Table.{rowAt, bitsOf, ifEquation, bitOf, valuesOf, valueOf, sourceOf, sameWord, evened, sidesAgree, allRows, satisfies}
+use Rattle.terms.specs.Table.{rowAt, bitsOf, ifEquation, bitOf, valuesOf, valueOf, sourceOf, sameWord, evened, sidesAgree, allRows, silentRow, counting, satisfies}
 use Rattle.terms.proofs.RowKinds.{Equation, equation-or-not, of-equation, of-term}
 use Rattle.terms.proofs.Faults.{kept, kept-names, equation-names}
 use Rattle.terms.specs.Sound.{Sound}
 use Rattle.terms.proofs.Filled.{evened-length, evened-map}
 use Rattle.terms.proofs.Sources.{value-sources}
+use Rattle.terms.proofs.Satisfies.{word-same, silent-agrees}
+use Rattle.terms.proofs.Counting.{counting-rows, revised-or-not}
 use Rattle.answers.specs.Pairs.{Pair, paired, pairsOf, pairsIn, equationPairs, satisfiesPairs}
 use Rattle.answers.specs.Representatives.{satisfiesAll, allPairs}
 use Rattle.answers.proofs.Agreement.{satisfies-turned}
@@ -73,9 +75,25 @@ module _ (t : List Row) (p : List ℕ) (sound : Sound t) (whole : length p ≡ b
   rows-pairs [] h = refl
   rows-pairs (r ∷ rs) h = ap₂ _&&_ (h 0 (omega arith)) (rows-pairs rs (λ i l. h (suc i) (omega arith)))
 
+  -- the row that says nothing has pairs of a bit with itself
+  silent-pairs : satisfiesPairs p (pairsOf t silentRow) ≡ true
+  unfolding pairsOf
+  silent-pairs =
+      let side = evened (sourceOf t 0) (sourceOf t 0) in
+      ap (satisfiesPairs p) (of-equation silentRow (paired side side) [] refl) ∙ sym (pair-words p side side refl) ∙ word-same (map (bitOf p) side)
+
+  -- each row of those that count
+  pub counting-pairs : (r : ℕ) → r < length (counting t)
+      → sidesAgree (valuesOf t p) (rowAt (counting t) r) ≡ satisfiesPairs p (pairsOf t (rowAt (counting t) r))
+  counting-pairs r h =
+      let l : r < length t = omega (arith, h, counting-rows t .as-many) in
+      ⊎-elim (λ gone. rw (counting-rows t .replaced r gone) (silent-agrees (valuesOf t p) ∙ sym silent-pairs))
+      (λ still. rw (counting-rows t .stays r still) (row-pairs r l))
+      (revised-or-not t r l)
+
   pub table-pairs : satisfies t p ≡ satisfiesAll p (equationPairs t)
   unfolding satisfies
-  table-pairs = rows-pairs t row-pairs
+  table-pairs = rows-pairs (counting t) counting-pairs
 
 -- the bit pairs of row r stand at place r, and none behind the last row
 from-row : (t rs : List Row) (r : ℕ) → r < length rs → drop r (pairsIn t rs) ≡ pairsOf t (rowAt rs r) ∷ drop (suc r) (pairsIn t rs)
@@ -97,19 +115,15 @@ pairs-from t = from-row t t
 pub pairs-past : (t : List Row) (r : ℕ) → length t ≤ r → drop r (pairsIn t t) ≡ []
 pairs-past t = past-rows t t
 
--- tables have the same bit pairs if each row has
-rows-same : (u t us ts : List Row) → length us ≡ length ts → ((r : ℕ) → r < length ts → pairsOf u (rowAt us r) ≡ pairsOf t (rowAt ts r))
+-- rows have the same bit pairs if each row has
+pub pairs-same : (u t us ts : List Row) → length us ≡ length ts → ((r : ℕ) → r < length ts → pairsOf u (rowAt us r) ≡ pairsOf t (rowAt ts r))
     → pairsIn u us ≡ pairsIn t ts
 unfolding pairsIn
-rows-same u t [] [] n h = refl
-rows-same u t [] (y ∷ ts) n h = absurd (omega arith)
-rows-same u t (x ∷ us) [] n h = absurd (omega arith)
-rows-same u t (x ∷ us) (y ∷ ts) n h =
-    ap₂ (λ (p : List Pair) (ps : List (List Pair)). p ∷ ps) (h 0 (omega arith)) (rows-same u t us ts (omega arith) (λ r l. h (suc r) (omega arith)))
-
-pub pairs-same : (u t : List Row) → length u ≡ length t → ((r : ℕ) → r < length t → pairsOf u (rowAt u r) ≡ pairsOf t (rowAt t r))
-    → equationPairs u ≡ equationPairs t
-pairs-same u t = rows-same u t u t
+pairs-same u t [] [] n h = refl
+pairs-same u t [] (y ∷ ts) n h = absurd (omega arith)
+pairs-same u t (x ∷ us) [] n h = absurd (omega arith)
+pairs-same u t (x ∷ us) (y ∷ ts) n h =
+    ap₂ (λ (p : List Pair) (ps : List (List Pair)). p ∷ ps) (h 0 (omega arith)) (pairs-same u t us ts (omega arith) (λ r l. h (suc r) (omega arith)))
 
 pub all-pairs : (p : List ℕ) (seen : List Pair) (es : List (List Pair)) → satisfiesPairs p (allPairs seen es) ≡ satisfiesAll p es && satisfiesPairs p seen
 unfolding allPairs satisfiesAll

@@ -29,3 +29,4 @@ pub mod AnswerNumbers
 pub mod Homes
 pub mod RightSide
 pub mod Runs
+pub mod Revised

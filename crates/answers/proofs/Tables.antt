@@ -13,9 +13,10 @@ use Rattle.terms.specs.declared.Row.{Row}
 use Rattle.terms.specs.declared.Fault.the-variants.{Accepted}
 use Rattle.terms.specs.Assignments.{Assignment, every, count}
 use Rattle.terms.specs.Faults.{firstFault}
-use Rattle.terms.specs.Table.{rowsOf, rowAt, bitsOf, bitOf, satisfies}
+use Rattle.terms.specs.Table.{rowsOf, rowAt, bitsOf, bitOf, counting, satisfies}
 use Rattle.laws.specs.Lists.{countUp}
 use Rattle.terms.proofs.AcceptedTable.{accepted-table}
+use Rattle.terms.proofs.Counting.{counting-rows}
 use Rattle.terms.proofs.Assignments.{assignment-length, every-at, every-of, count-ext, count-none-of, count-all-of, count-all-at}
 use Rattle.terms.specs.Sound.{Sound}
 use Rattle.answers.specs.Pairs.{Pair, pairsOf, pairsIn, equationPairs, satisfiesPairs, ties, equalUnder}
@@ -30,7 +31,7 @@ use Rattle.answers.proofs.Agreement.{classes-represent, satisfies-rever
 use Rattle.laws.proofs.Bools.{same-test}
 use Rattle.laws.proofs.Numbers.{lt-or-le, power-same, power-pos}
 use Rattle.answers.proofs.Exact.{equals-is}
-use Rattle.answers.proofs.Equations.{table-pairs, rows-pairs, row-pairs, all-pairs}
+use Rattle.answers.proofs.Equations.{table-pairs, rows-pairs, counting-pairs, all-pairs}
 use Rattle.answers.proofs.Theorems.{apart, satisfying-count, free-and-ties, conflict-place, links-before}
 use Rattle.answers.proofs.Together.{run-together, satisfies-together, ties-together, unsat-least, unsat-most, none-below, some-left}
 
@@ -55,7 +56,7 @@ rows-length t (r ∷ rs) = ap suc (rows-length t rs)
 
 -- a list of pairs for each row
 pub pairs-length : (t : List Row) → length (equationPairs t) ≡ length t
-pairs-length t = rows-length t t
+pairs-length t = rows-length t (counting t) ∙ counting-rows t .as-many
 
 pairs-take : (t : List Row) (k : ℕ) (rs : List Row) → pairsIn t (take k rs) ≡ take k (pairsIn t rs)
 unfolding pairsIn
@@ -120,10 +121,10 @@ module _ (table : List ℕ) (accepted : firstFault table ≡ Accepted) where
   to-row : (r : ℕ) (p : List ℕ) → Assignment n p → satisfiesTo t r p ≡ satisfiesPairs p (allPairs [] (take (suc r) es))
   unfolding satisfiesTo satisfiesPairs
   to-row r p a =
-      rows-pairs t p sound (assignment-length a) (take (suc r) t)
-      (λ i l. let e = take-rows (suc r) i t (omega (arith, take-most (suc r) t .0)) in
-      rw e (row-pairs t p sound (assignment-length a) i (omega (arith, take-most (suc r) t .1))))
-      ∙ ap (satisfiesAll p) (pairs-take t (suc r) t)
+      rows-pairs t p sound (assignment-length a) (take (suc r) (counting t))
+      (λ i l. let e = take-rows (suc r) i (counting t) (omega (arith, take-most (suc r) (counting t) .0)) in
+      rw e (counting-pairs t p sound (assignment-length a) i (omega (arith, take-most (suc r) (counting t) .1))))
+      ∙ ap (satisfiesAll p) (pairs-take t (suc r) (counting t))
       ∙ sym (and-true (satisfiesAll p (take (suc r) es)))
       ∙ sym (all-pairs p [] (take (suc r) es))
 

@@ -4,6 +4,7 @@ pub mod Solve
 pub mod RightSide
 pub mod Systems
 pub mod Filled
+pub mod Revised
 pub mod Demands
 pub mod Homes
 pub mod Representatives

@@ -7,7 +7,7 @@ use Prim.Native.Nat.{ℕ, _+_}
 use lib.Dec.{eqb}
 use Rattle.terms.specs.declared.Row.{Row}
 use Rattle.terms.specs.Assignments.{every}
-use Rattle.terms.specs.Table.{ifEquation, bitOf, sourceOf, evened}
+use Rattle.terms.specs.Table.{ifEquation, bitOf, sourceOf, evened, counting}
 
 pub record Pair : Type 0 where
   pub left : ℕ
@@ -31,9 +31,9 @@ unfoldable pub pairsIn : List Row → List Row → List (List Pair)
 pairsIn t [] = []
 pairsIn t (r ∷ rs) = pairsOf t r ∷ pairsIn t rs
 
--- The bit pairs of a table's equations: a list for each row, with nothing in it for a row that is no equation.
+-- The bit pairs of a table's equations that count: a list for each row, with nothing in it for a row that is no equation.
 abbrev pub equationPairs : List Row → List (List Pair)
-equationPairs t = pairsIn t t
+equationPairs t = pairsIn t (counting t)
 
 -- Whether two sources have the same bit in every assignment of n bits that passes a test (are "tied bits", where it passes if it
 -- satisfies the table).

@@ -11,7 +11,7 @@ use Rattle.terms.specs.Assignments.{every}
 use Rattle.terms.specs.Calls.{refusal, faultRecord, stopAt}
 use Rattle.laws.specs.Buffers.{overwrite}
 use Rattle.terms.specs.Faults.{isAccepted, firstFault}
-use Rattle.terms.specs.Table.{rowsOf, bitsOf, valuesOf, sidesAgree, allRows, satisfies}
+use Rattle.terms.specs.Table.{rowsOf, bitsOf, valuesOf, sidesAgree, allRows, counting, satisfies}
 use Rattle.answers.specs.Pairs.{Pair, equationPairs, ties, equalUnder}
 use Rattle.laws.specs.Lists.{least}
 use Rattle.answers.specs.declared.AnswerRow.{AnswerRow}
@@ -24,9 +24,9 @@ valid t = every (bitsOf t) (satisfies t)
 unfoldable pub unsatisfiable : List Row → Bool
 unsatisfiable t = every (bitsOf t) (λ p. not (satisfies t p))
 
--- Whether an assignment satisfies the equations up to row r, and the lowest row at which none is left.
+-- Whether an assignment satisfies the equations up to row r, of those that count in the whole table, and the lowest row at which none is left.
 unfoldable pub satisfiesTo : List Row → ℕ → List ℕ → Bool
-satisfiesTo t r p = allRows (sidesAgree (valuesOf t p)) (take (suc r) t)
+satisfiesTo t r p = allRows (sidesAgree (valuesOf t p)) (take (suc r) (counting t))
 
 unfoldable pub unsatRow : List Row → ℕ
 unsatRow t = least (λ r. every (bitsOf t) (λ p. not (satisfiesTo t r p))) 0 (length t)

@@ -21,6 +21,9 @@ fn unused(row: Row) -> bool
     if kind == terms::EXTRACT {
         return false;
     }
+    if kind == terms::EQUATION {
+        return false;
+    }
     if c != 0 {
         return true;
     }
