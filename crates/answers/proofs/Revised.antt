@@ -33,11 +33,11 @@ alike-variables (s ∷ ss) (r ∷ rs) a =
     (λ x e y f. of-other x _ (variableWidths rs) (λ z. absurd (omega arith)) ∙ sym (of-other y _ (variableWidths rs) (λ z. absurd (omega arith))))
 
 -- bit pairs ask for the sources alone
-same-pairs : (u t : List Row) (r : Row) → sourcesOf u ≡ sourcesOf t → pairsOf u r ≡ pairsOf t r
+pub same-pairs : (u t : List Row) (r : Row) → sourcesOf u ≡ sourcesOf t → pairsOf u r ≡ pairsOf t r
 unfolding pairsOf
 same-pairs u t r e = rw e
 
-pub sources-pairs : (u t rs : List Row) → sourcesOf u ≡ sourcesOf t → pairsIn u rs ≡ pairsIn t rs
+sources-pairs : (u t rs : List Row) → sourcesOf u ≡ sourcesOf t → pairsIn u rs ≡ pairsIn t rs
 unfolding pairsIn
 sources-pairs u t [] e = refl
 sources-pairs u t (r ∷ rs) e = ap₂ (λ (p : List Pair) (ps : List (List Pair)). p ∷ ps) (same-pairs u t r e) (sources-pairs u t rs e)

@@ -7,3 +7,4 @@ pub mod Shortened
 pub mod SamePairs
 pub mod ShortTable
 pub mod Shortening
+pub mod Revised

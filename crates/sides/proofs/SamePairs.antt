@@ -7,15 +7,12 @@ use Rattle.terms.specs.Table.{sourcesOf}
 use Rattle.terms.proofs.RowKinds.{of-term}
 use Rattle.terms.proofs.Alike.{AlikeRow, alike-use}
 use Rattle.answers.specs.Pairs.{pairsOf}
+use Rattle.answers.proofs.Revised.{same-pairs}
 
 pairs-one : (t : List Row) (x y : Row) → x .kind ≡ 3 → y .kind ≡ 3 → pairsOf t x ≡ pairsOf t y
 unfolding pairsOf
 pairs-one t x y e f =
     of-term x _ [] (λ z. absurd (omega arith)) ∙ sym (of-term y _ [] (λ z. absurd (omega arith)))
-
-same-pairs : (u t : List Row) (r : Row) → sourcesOf u ≡ sourcesOf t → pairsOf u r ≡ pairsOf t r
-unfolding pairsOf
-same-pairs u t r e = rw e
 
 -- bit pairs ask for the sources alone, and a cut has none
 pub alike-pairs : (u t : List Row) (s r : Row) → AlikeRow 3 s r → sourcesOf u ≡ sourcesOf t → pairsOf u s ≡ pairsOf t r

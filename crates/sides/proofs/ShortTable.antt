@@ -10,7 +10,7 @@ use lib.Seq.{ext-getD}
 use borrow.Author.Tests.{eqb-true, eqb-false, eq-eqb, le-ltb}
 use Rattle.terms.specs.declared.Row.{Row}
 use Rattle.terms.specs.declared.Fault.the-variants.{Accepted}
-use Rattle.terms.specs.Table.{rowsOf, rowAt, widthIn, widthsOf, widthOf, bitsOf, extract, valuesOf, valueOf, sourcesOf}
+use Rattle.terms.specs.Table.{rowsOf, rowAt, widthIn, widthsOf, widthOf, bitsOf, extract, valuesOf, valueOf, sourcesOf, counting}
 use Rattle.laws.specs.Lists.{countUp}
 use Rattle.terms.specs.Faults.{breaks11, breaks12, breaks13, breaks14, breaks15, breaks40, breaks16, breaks17, notTerm, misnamed, faultAt, isAccepted, lowestFault, firstFault}
 use Rattle.laws.proofs.Numbers.{by-strong}
@@ -19,9 +19,11 @@ use Rattle.terms.proofs.Faults.{Kept, kept, unbroken, kept-names, concat-names,
 use Rattle.terms.proofs.Values.{values-count, value-extract, value-same, width-extract}
 use Rattle.terms.specs.Sound.{Sound}
 use Rattle.laws.proofs.CountUp.{count-up}
-use Rattle.answers.specs.Pairs.{equationPairs}
+use Rattle.answers.specs.Pairs.{pairsIn, equationPairs}
 use Rattle.answers.proofs.Equations.{pairs-same}
 use Rattle.sides.specs.inner.Shortened.{shortened}
+use Rattle.terms.proofs.LeavingOff.{alike-sources}
+use Rattle.terms.proofs.Counting.{counting-alike, counting-keeps}
 use Rattle.terms.proofs.Alike.{AlikeRow, Alike, alike-kinds, alike-take, alike-bits, totals-same, kinds-same, kept-same}
 use Rattle.sides.proofs.SamePairs.{alike-pairs}
 use Rattle.sides.proofs.Shortened.{short-count, short-same, CutOf, short-cut}
@@ -131,5 +133,9 @@ module _ (t : List Row) (sound : Sound t) where
   short-sources =
       ap (λ (n : ℕ). valuesOf s (countUp 2 n)) (alike-bits 3 (omega arith) s t short-alike) ∙ short-values (countUp 2 (bitsOf t)) (count-up 2 (bitsOf t))
 
-  pub short-pairs : equationPairs s ≡ equationPairs t
-  short-pairs = pairs-same s t (short-count t) (λ r h. alike-pairs s t (rowAt s r) (rowAt t r) (short-alike .each r h) short-sources)
+  -- what counts in it has the bit pairs of what counts in the table
+  pub short-pairs : pairsIn (counting s) (counting s) ≡ equationPairs t
+  short-pairs =
+      let alike = counting-keeps 3 (omega arith) s t short-alike in
+      pairs-same (counting s) t (counting s) (counting t) (alike .count)
+      (λ r h. alike-pairs (counting s) t (rowAt (counting s) r) (rowAt (counting t) r) (alike .each r h) (alike-sources (counting s) s (counting-alike s) ∙ short-sources))

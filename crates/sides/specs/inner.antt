@@ -1,3 +1,4 @@
 pub mod Reading
 pub mod Sides
 pub mod Shortened
+pub mod Revised

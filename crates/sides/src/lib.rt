@@ -1,13 +1,14 @@
 // The equations of a table: which row is the next one; the normal forms of its filled sides, each in a buffer of its own; and a reader that
 // takes a side's bits, as sources and high end first, from the form where it was written. And a copy of a table in which each cut of a
-// cut is made one cut, so that the forms take few calls.
+// cut is made one cut, so that the forms take few calls, and in which the revised equations are left off.
 ghost use mathlib.Core.Path.{_≡_};
-ghost use Prim.Native.Nat.{_≤_, min};
-ghost use lib.ListN.{length};
-ghost use Rattle.terms.specs.Table.{rowsOf};
+ghost use Prim.Native.Nat.{suc, _≤_, min};
+ghost use lib.ListN.{length, drop};
+ghost use Rattle.terms.specs.Table.{rowsOf, rowAt, someRow, ofLine, revised};
 ghost use Rattle.sides.specs.inner.Reading.{firstIn, nextIn, risen, Stands, StepsOn};
 ghost use Rattle.sides.specs.inner.Sides.{nextEquation, WritesSide, WritesSides};
 ghost use Rattle.sides.specs.inner.Shortened.{shortIn, storedRow, Shortens};
+ghost use Rattle.sides.specs.inner.Revised.{LeavesOff, LeavesOffRevised};
 use terms::Row;
 
 // Where a form is read: the piece and, at one of its bits, the source, how far on the next bit's source is (0 in a fill, 1 in a part of a
@@ -185,4 +186,77 @@ pub fn shorten(table: &[u16], short: &mut [u16]) -> usize
         r += 1;
     }
     r * 4
+}
+
+// Whether a row is an equation of a line.
+fn of_line(row: Row, line: u16) -> bool
+    ensures { λ b. ⌜ b ≡ ofLine line row ⌝ }
+{
+    let kind = row.kind;
+    let c = row.c;
+    if kind != terms::EQUATION {
+        return false;
+    }
+    c == line
+}
+
+// Whether an equation of a line stands at row `from` or behind it.
+fn has_line(table: &[u16], from: usize, line: u16) -> bool
+    ensures { λ b. ⌜ b ≡ someRow (ofLine line) (drop from (rowsOf (now (table .entry)))) ⌝ }
+{
+    let rows = table.len() / 4;
+    let mut r = from;
+    while r < rows {
+        if of_line(rows::row_at(table, r), line) {
+            return true;
+        }
+        r += 1;
+    }
+    false
+}
+
+// Whether row r is an equation with a line number that a later equation has too.
+fn is_revised(table: &[u16], r: usize) -> bool
+    ensures { λ b. ⌜ b ≡ revised (rowAt (rowsOf (now (table .entry))) r) (drop (suc r) (rowsOf (now (table .entry)))) ⌝ }
+{
+    let row = rows::row_at(table, r);
+    let kind = row.kind;
+    let line = row.c;
+    if kind != terms::EQUATION {
+        return false;
+    }
+    if line == 0 {
+        return false;
+    }
+    has_line(table, r + 1, line)
+}
+
+// Leaves off row r, if it is a revised equation: the row that says nothing is stored over it.
+fn leave_off(table: &mut [u16], r: usize)
+    ensures { λ _. ⌜ LeavesOff (now (table .entry)) r (now (table .exit)) ⌝ }
+{
+    if is_revised(table, r) {
+        store_row(
+            table,
+            r,
+            Row {
+                kind: terms::EQUATION,
+                a: 0,
+                b: 0,
+                c: 0,
+            },
+        );
+    }
+}
+
+// Leaves off each revised equation of a table, of at most 512 rows.
+pub fn leave_off_revised(table: &mut [u16])
+    ensures { λ _. ⌜ LeavesOffRevised (now (table .entry)) (now (table .exit)) ⌝ }
+{
+    let rows = numbers::lesser(table.len() / 4, terms::MAX_ROWS);
+    let mut r: usize = 0;
+    while r < rows {
+        leave_off(table, r);
+        r += 1;
+    }
 }

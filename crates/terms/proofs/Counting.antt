@@ -21,7 +21,7 @@ use Rattle.terms.specs.Counting.{IsLine, Revised, CountingRows, OneOfLin
 use Rattle.terms.proofs.RowNumbers.{row-numbers-length, rows-written}
 use Rattle.terms.proofs.AcceptedTable.{accepted-table, sound-accepted}
 use Rattle.terms.proofs.Faults.{totals-small}
-use Rattle.terms.proofs.Alike.{Alike}
+use Rattle.terms.proofs.Alike.{AlikeRow, Alike}
 use Rattle.terms.proofs.LeavingOff.{off-count, off-row, off-alike, off-sound}
 
 -- ---- the tests
@@ -242,6 +242,58 @@ without-distinct n t apart m i j above l h k = apart m i j above l (line i h) (l
 pub without-alike : (n : ℕ) (t : List Row) → Alike 4 (withoutLine n t) t
 unfolding withoutLine
 without-alike n t = off-alike (λ x behind. ofLine n x) (λ x behind h. line-to n x h .0) t
+
+-- rows that differ at most in what the rows of another kind say have the same lines, so the same of them count
+module _ (k : ℕ) (other : k < 4) (s t : List Row) (alike : Alike k s t) where
+  same-equation : (r : ℕ) → r < length t → rowAt t r .kind ≡ 4 → rowAt s r ≡ rowAt t r
+  same-equation r l e = alike .each r l .same (λ f. absurd (omega arith))
+
+  line-forth : (r n : ℕ) → IsLine s r n → IsLine t r n
+  line-forth r n h =
+      let l : r < length t = omega (arith, h .in-table, alike .count) in
+      let kind : rowAt t r .kind ≡ 4 = sym (alike .each r l .kind-is) ∙ h .is-equation in
+      record { in-table = l; is-equation = kind; line-is = rw (same-equation r l kind) at (h .line-is) }
+
+  line-back : (r n : ℕ) → IsLine t r n → IsLine s r n
+  line-back r n h =
+      let e = same-equation r (h .in-table) (h .is-equation) in
+      record { in-table = omega (arith, h .in-table, alike .count); is-equation = rw e (h .is-equation); line-is = rw e (h .line-is) }
+
+  revised-forth : (r : ℕ) → Revised s r → Revised t r
+  revised-forth r h =
+      record {
+        line = h .line;
+        above-0 = h .above-0;
+        here = line-forth r (h .line) (h .here);
+        later = h .later;
+        behind = h .behind;
+        there = line-forth (h .later) (h .line) (h .there);
+      }
+
+  revised-back : (r : ℕ) → Revised t r → Revised s r
+  revised-back r h =
+      record {
+        line = h .line;
+        above-0 = h .above-0;
+        here = line-back r (h .line) (h .here);
+        later = h .later;
+        behind = h .behind;
+        there = line-back (h .later) (h .line) (h .there);
+      }
+
+  pub counting-keeps : Alike k (counting s) (counting t)
+  counting-keeps =
+      record {
+        count = counting-rows s .as-many ∙ alike .count ∙ sym (counting-rows t .as-many);
+        each = λ r h. row r (omega (arith, h, counting-rows t .as-many));
+      }
+    where
+      row : (r : ℕ) → r < length t → AlikeRow k (rowAt (counting s) r) (rowAt (counting t) r)
+      row r l =
+          ⊎-elim
+          (λ gone. rw (counting-rows s .replaced r (revised-back r gone), counting-rows t .replaced r gone) (record { kind-is = refl; same = λ n. refl }))
+          (λ still. rw (counting-rows s .stays r (λ h. still (revised-forth r h)), counting-rows t .stays r still) (alike .each r l))
+          (revised-or-not t r l)
 
 -- leaving off once more changes nothing
 pub counting-once : (t : List Row) → counting (counting t) ≡ counting t
