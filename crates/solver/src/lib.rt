@@ -142,6 +142,7 @@ fn classes_with(
     ensures { λ r. ⌜ ClassesWith (now (table .entry)) (now (widths .entry)) (now (places .entry)) (length (now (short .entry))) (length (now (form .entry))) (now (links .entry)) (now (links .exit)) (r .row) (r .ties) ⌝ }
 {
     let len = numbers::lesser(sides::shorten(table, short), short.len());
+    sides::leave_off_revised(&mut short[..len]);
     let lows = numbers::lesser(terms::MAX_ROWS + 1, places.len());
     let mut right = [0u16; 4096];
     unlink(links);
