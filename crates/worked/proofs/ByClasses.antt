@@ -14,7 +14,7 @@ use Rattle.terms.specs.declared.Fault.the-variants.{Accepted}
 use Rattle.terms.specs.Faults.{firstFault}
 use Rattle.terms.specs.Table.{rowsOf, bitsOf}
 use Rattle.laws.specs.Lists.{countUp}
-use Rattle.answers.specs.Pairs.{pairsIn}
+use Rattle.answers.specs.Pairs.{equationPairs}
 use Rattle.answers.specs.inner.Classes.{inClass, classesOf, conflictAt, linksBefore}
 use Rattle.answers.specs.declared.AnswerRow.{AnswerRow}
 use Rattle.answers.specs.Answer.{variableWidths, answerRows, answerNumbers}
@@ -23,13 +23,13 @@ use Rattle.answers.proofs.Tables.{tableClasses, is-left, conflict-most, solved-
 
 -- The row at which the fixed bits fall into one class, or the number of rows; the links of the equations before it; the answer's rows.
 unfoldable pub conflictRow : List Row → ℕ
-conflictRow t = conflictAt (countUp 0 (suc (suc (bitsOf t)))) (pairsIn t t)
+conflictRow t = conflictAt (countUp 0 (suc (suc (bitsOf t)))) (equationPairs t)
 
 unfoldable pub linksTo : List Row → ℕ
-linksTo t = linksBefore (countUp 0 (suc (suc (bitsOf t)))) (pairsIn t t)
+linksTo t = linksBefore (countUp 0 (suc (suc (bitsOf t)))) (equationPairs t)
 
 unfoldable pub classRows : List Row → List AnswerRow
-classRows t = answerRows (bitsOf t) (variableWidths t) (inClass (classesOf (bitsOf t) (pairsTogether (pairsIn t t))))
+classRows t = answerRows (bitsOf t) (variableWidths t) (inClass (classesOf (bitsOf t) (pairsTogether (equationPairs t))))
 
 -- The record, and the numbers of the answer for outcome 2.
 unfoldable pub classRecord : List Row → Record

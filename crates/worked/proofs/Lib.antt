@@ -19,3 +19,4 @@ pub mod FirstSheet
 pub mod Spellings
 pub mod ShortSides
 pub mod FirstPlaces
+pub mod Revised

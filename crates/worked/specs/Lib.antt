@@ -4,3 +4,4 @@ pub mod FromSheet
 pub mod Spellings
 pub mod ShortSides
 pub mod FirstPlaces
+pub mod Revised
