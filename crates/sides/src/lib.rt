@@ -205,12 +205,12 @@ fn has_line(table: &[u16], from: usize, line: u16) -> bool
     ensures { λ b. ⌜ b ≡ someRow (ofLine line) (drop from (rowsOf (now (table .entry)))) ⌝ }
 {
     let rows = table.len() / 4;
-    let mut r = from;
-    while r < rows {
-        if of_line(rows::row_at(table, r), line) {
+    let mut i = from;
+    while i < rows {
+        if of_line(rows::row_at(table, i), line) {
             return true;
         }
-        r += 1;
+        i += 1;
     }
     false
 }

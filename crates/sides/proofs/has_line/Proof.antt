@@ -9,10 +9,10 @@ use Rattle.sides.proofs.has_line.Statement.{statement}
 use Rattle.sides.proofs.has_line.Tie as tie
 
 abbrev Inv-loop : tie.InvT-loop
-Inv-loop table from line rows r₀ r = someRow (ofLine line) (drop r (rowsOf table)) ≡ someRow (ofLine line) (drop from (rowsOf table))
+Inv-loop table from line rows i₀ i = someRow (ofLine line) (drop i (rowsOf table)) ≡ someRow (ofLine line) (drop from (rowsOf table))
 
 abbrev μ-loop : tie.MeasureT-loop
-μ-loop table from line rows r₀ r = rows - r
+μ-loop table from line rows i₀ i = rows - i
 
 loop-holds : tie.Need-loop-holds Inv-loop μ-loop
 loop-holds c = refl
@@ -29,8 +29,8 @@ returns c =
     (sym (c .if1 .taken) ∙ c .before .of-line .ensures ∙ ap (ofLine _) (c .before .before .row-at .ensures))
     ∙ c .before .before .before .before .loop .inv
 
-add-r : tie.Need-add-r Inv-loop μ-loop
-add-r c = omega (arith, c .before .before .before .loop-test .taken)
+add-i : tie.Need-add-i Inv-loop μ-loop
+add-i c = omega (arith, c .before .before .before .loop-test .taken)
 
 loop-less : tie.Need-loop-less Inv-loop μ-loop
 loop-less c = omega (arith, c .before .before .before .loop-test .taken)
@@ -54,7 +54,7 @@ has-line-spec =
     row-at-requires
     of-line-requires
     returns
-    add-r
+    add-i
     loop-less
     loop-again
     returns-2)
