@@ -128,9 +128,9 @@ module _ (t : List Row) where
   unfolding counting
   counting-rows =
       record {
-        as-many = off-count revised t;
         replaced = λ r h. off-row revised t r (h .here .in-table) ∙ rw (revised-of r h);
         stays = λ r still. ⊎-elim (λ l. row-stays r l still) (row-past r) (lt-or-le r (length t));
+        as-many = off-count revised t;
       }
 
   -- a row is revised or not

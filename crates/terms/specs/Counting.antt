@@ -31,11 +31,11 @@ pub record Counts (t : List Row) (r : ℕ) : Type 0 where
   pub is-equation : rowAt t r .kind ≡ 4
   pub unrevised : Revised t r → ⊥
 
--- (a) As many rows as before; a revised equation is the row that says nothing, and each other row is as it was, word for word.
+-- (a) A revised equation is the row that says nothing, and each other row is as it was, word for word; there are as many rows as before.
 pub record CountingRows (t : List Row) : Type 0 where
-  pub as-many : length (counting t) ≡ length t
   pub replaced : (r : ℕ) → Revised t r → rowAt (counting t) r ≡ silentRow
   pub stays : (r : ℕ) → (Revised t r → ⊥) → rowAt (counting t) r ≡ rowAt t r
+  pub as-many : length (counting t) ≡ length t
 
 -- (b) The last equation of line n stays, and no other of that line.
 pub record OneOfLine (t : List Row) (n : ℕ) : Type 0 where
