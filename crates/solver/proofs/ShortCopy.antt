@@ -22,8 +22,8 @@ use Rattle.terms.proofs.Counting.{counting-alike, counting-sound}
 use Rattle.terms.proofs.Alike.{Alike, alike-take, alike-bits, alike-count, alike-places}
 use Rattle.sides.proofs.ShortTable.{short-alike, short-widths, short-sound, short-pairs}
 
--- the first n numbers of a buffer of 2,048, lent once more, come back as the numbers `left`: they stand before the others
-module _ (buffer left : List ℕ) (n : ℕ) (fits : n ≤ 2048) (room : length buffer ≡ 2048) (kept : length left ≡ length (take n buffer)) where
+-- the first n numbers of a buffer, lent once more, come back as the numbers `left`: they stand before the others
+module _ (buffer left : List ℕ) (n : ℕ) (fits : n ≤ length buffer) (kept : length left ≡ length (take n buffer)) where
   left-length : length left ≡ n
   left-length = kept ∙ length-take-le n buffer (omega arith)
 
