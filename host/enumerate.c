@@ -19,8 +19,9 @@ enum { BLOCKS = 1 << (ENUM_BITS - 6) };
 typedef struct {
     size_t bits, blocks;
     uint64_t meeting[BLOCKS];         /* the set of patterns that meet the table */
-    size_t equations;
-    size_t row[EQUATIONS];            /* of each equation: its row; */
+    bool counts[REF_ROWS];            /* of each row: whether it is an equation that counts */
+    size_t equations;                 /* those that count */
+    size_t row[EQUATIONS];            /* of each of them: its row; */
     bool left[EQUATIONS];             /* whether a pattern is left after it, reading equations in row order; */
     bool tie[EQUATIONS][REF_WIDTH];   /* which of its pairs are ties, by the number of their bit */
     size_t variable[ENUM_BITS];       /* of each place: its variable */
@@ -83,7 +84,10 @@ static void read_block(const uint16_t *table, const ref_table *facts, size_t blo
             for (size_t i = 0; i < width[r]; i++)
                 values[r][i] = values[a][width[a] - 1 - b + i];
             break;
-        case EQUATION: /* a pair is new if a pattern that meets the pairs before it breaks it */
+        case EQUATION:
+            if (!f->counts[r])
+                break;
+            /* a pair is new if a pattern that meets the pairs before it breaks it */
             for (size_t bit = width[a] > width[b] ? width[a] : width[b]; bit-- != 0;) {
                 uint64_t broken = left & (bit_values(values[a], width[a], bit) ^ bit_values(values[b], width[b], bit));
                 if (broken != 0)
@@ -251,7 +255,8 @@ void enumerate(const uint16_t *table, const ref_table *facts, enumeration *found
             for (size_t i = 0; i < facts->width[r]; i++)
                 f.variable[facts->place[r] + i] = variables;
             variables++;
-        } else if (table[4 * r] == EQUATION) {
+        } else if (ref_counts(table, facts, r)) {
+            f.counts[r] = true;
             f.row[f.equations++] = r;
         }
 

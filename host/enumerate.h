@@ -4,7 +4,7 @@
   Every pattern is tried, and what is told of the table is told of the set of
   patterns that meet it: no bits are put together by an algorithm. It is written
   from the specification's text alone, and shares no code with the library nor
-  with plain_solver.c.
+  with plain_solver.c, but for which equations count (ref_counts of reference.h).
 */
 
 #ifndef ENUMERATE_H

@@ -9,10 +9,11 @@
   it together that occur together in no table kept before. Those kept are
   written to the directory as the sheets found-001, found-002, .. Then the same
   is done with as many tables that may have markers, and with the outcomes and
-  what occurs of markers alone; and then with as many that may have sides of
-  unequal width, and with what occurs of these alone. What is kept is
-  found-marker-001, .. and found-short-001, .., in which numbers above 9 are
-  hexadecimal.
+  what occurs of markers alone; then with as many that may have sides of unequal
+  width, and with what occurs of these alone; and then with as many whose
+  equations may have line numbers, and with what occurs of these alone. What is
+  kept is found-marker-001, .., found-short-001, .. and found-line-001, .., in
+  which numbers above 9 are hexadecimal.
 */
 
 #include <stdio.h>
@@ -61,6 +62,7 @@ static bool make(kept *k, extent with)
 /* By extent: what the names of the sheets have, and the first of the things that are looked at. The outcomes always are. */
 static const struct { const char *name; int first; } passes[] = {
     [EQUAL_SIDES] = {"", 0}, [WITH_MARKERS] = {"marker-", MARKER_SIDE}, [WITH_SHORT_SIDES] = {"short-", SHORT_LEFT},
+    [WITH_LINES] = {"line-", REVISED},
 };
 
 static bool write_sheet(const char *directory, unsigned number, const kept *k, extent with)
@@ -111,7 +113,7 @@ int main(int argc, char **argv)
     if (all == NULL)
         return 1;
     bool done = find(argv[1], all, tables, EQUAL_SIDES) && find(argv[1], all, tables, WITH_MARKERS) &&
-                find(argv[1], all, tables, WITH_SHORT_SIDES);
+                find(argv[1], all, tables, WITH_SHORT_SIDES) && find(argv[1], all, tables, WITH_LINES);
     free(all);
     return done ? 0 : 1;
 }

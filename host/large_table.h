@@ -1,8 +1,8 @@
 /*
   large_table.h -- random tables of up to 4,096 variable bits
 
-  Each outcome is frequent, wide words, turned words, long chains of cuts and
-  sides of unequal width are among them.
+  Each outcome is frequent, wide words, turned words, long chains of cuts, sides
+  of unequal width and line numbers are among them.
 */
 
 #ifndef LARGE_TABLE_H
@@ -316,6 +316,8 @@ static inline void make_large(plan *p)
         else
             plan_parts(p, holds);
     }
+    if (one_in(3))
+        number_lines(&p->d);
 }
 
 #endif /* LARGE_TABLE_H */

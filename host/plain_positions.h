@@ -4,7 +4,7 @@
 
   It is written from the specification's text alone: each start is tested by the
   values of all rows under the window's bits (ref_values), and both sides of
-  every equation are compared. It shares no code with the library, and has the
+  every equation that counts (ref_counts) are compared. It shares no code with the library, and has the
   specification's numbers written out.
 */
 

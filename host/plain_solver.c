@@ -5,7 +5,7 @@
 #include <stdbool.h>
 #include <string.h>
 
-enum { VARIABLE = 0, FILL = 1, JOIN = 2, CUT = 3, EQUATION = 4, VALUE = 5, VARIABLES = 64 };
+enum { VARIABLE = 0, FILL = 1, JOIN = 2, CUT = 3, VALUE = 5, VARIABLES = 64 };
 
 void plain_sources(const uint16_t *table, const ref_table *facts, uint16_t sources[][REF_WIDTH])
 {
@@ -176,16 +176,17 @@ lw_record plain_solve(const uint16_t *table, const ref_table *facts, uint16_t *a
         const uint16_t *n = table + 4 * r;
         uint32_t before = ties;
         size_t left_over = 0, right_over = 0; /* the bits by which a side is wider */
+        bool counts = ref_counts(table, facts, r);
         if (n[0] == VARIABLE)
             memset(variable + facts->place[r], variables++, facts->width[r]);
-        if (n[0] == EQUATION) {
+        if (counts) {
             left_over = bits_over(facts->width[n[1]], facts->width[n[2]]);
             right_over = bits_over(facts->width[n[2]], facts->width[n[1]]);
             if (!take_top(parent, sources[n[1]], left_over, &ties) ||
                 !take_top(parent, sources[n[2]], right_over, &ties))
                 return (lw_record){.outcome = 1, .ties = before, .row = (uint32_t)r};
         }
-        for (size_t i = left_over; n[0] == EQUATION && i < facts->width[n[1]]; i++)
+        for (size_t i = left_over; counts && i < facts->width[n[1]]; i++)
             switch (take(parent, sources[n[1]][i], sources[n[2]][i - left_over + right_over])) {
             case IMPLIED:  break;
             case TIE:      ties++; break;

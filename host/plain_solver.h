@@ -4,7 +4,8 @@
 
   It is a plain union-find over the bits, written from the specification's text.
   It shares no code with the library nor with enumerate.c, which is slower and
-  takes small tables only.
+  takes small tables only, but for which equations count (ref_counts of
+  reference.h).
 */
 
 #ifndef PLAIN_SOLVER_H

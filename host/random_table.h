@@ -22,6 +22,7 @@
 #define JOIN(a, b)            LW_JOIN, (a), (b), 0
 #define CUT(a, high, low)     LW_CUT, (a), (high), (low)
 #define EQUATION(a, b)        LW_EQUATION, (a), (b), 0
+#define LINE(a, b, number)    LW_EQUATION, (a), (b), (number) /* an equation with a line number */
 #define MARKER(value, width)  LW_VALUE, (value), (width), 0
 
 /* A small table as two arguments: its numbers and their count. */
@@ -187,6 +188,39 @@ static inline void grow(draft *d, size_t kind, size_t widest)
     add_row(d, w, FILL(below(2), w));
 }
 
+/* A row of one of two kinds; NONE if there is none. */
+static inline size_t some_row(const draft *d, size_t kind, size_t other)
+{
+    size_t start = d->rows == 0 ? 0 : below(d->rows);
+    for (size_t i = 0; i < d->rows; i++) {
+        size_t r = (start + i) % d->rows;
+        if (d->t.numbers[4 * r] == kind || d->t.numbers[4 * r] == other)
+            return r;
+    }
+    return NONE;
+}
+
+/* A line number: the low bound of a cut, the greatest there is, a low one, or any. */
+static inline uint16_t some_line(const draft *d)
+{
+    size_t cut = one_in(3) ? some_row(d, LW_CUT, LW_CUT) : NONE;
+    if (cut != NONE)
+        return d->t.numbers[4 * cut + 3];
+    return (uint16_t)(one_in(4) ? 65535 : one_in(2) ? 1 + below(4) : below(65536));
+}
+
+/* Line numbers for the equations, of which some keep 0: few different ones, so that they meet, or many. */
+static inline void number_lines(draft *d)
+{
+    uint16_t lines[64];
+    size_t count = 1 + below(one_in(4) ? 64 : one_in(2) ? 2 : 5), often = 1 + below(4);
+    for (size_t i = 0; i < count; i++)
+        lines[i] = some_line(d);
+    for (size_t r = 0; r < d->rows; r++)
+        if (d->t.numbers[4 * r] == LW_EQUATION && below(4) < often)
+            d->t.numbers[4 * r + 3] = lines[below(count)];
+}
+
 /* A valid table, unless its limits are lifted. */
 static inline void make_table(draft *d)
 {
@@ -198,18 +232,8 @@ static inline void make_table(draft *d)
     d->limited = !one_in(8);
     while (d->rows < rows)
         grow(d, one_in(2) ? favoured : below(6), widest);
-}
-
-/* A row of one of two kinds; NONE if there is none. */
-static inline size_t some_row(const draft *d, size_t kind, size_t other)
-{
-    size_t start = d->rows == 0 ? 0 : below(d->rows);
-    for (size_t i = 0; i < d->rows; i++) {
-        size_t r = (start + i) % d->rows;
-        if (d->t.numbers[4 * r] == kind || d->t.numbers[4 * r] == other)
-            return r;
-    }
-    return NONE;
+    if (one_in(2))
+        number_lines(d);
 }
 
 /* One of the refusals of a table from this one on, 11 or 12; or 0, which stands for none of them. */

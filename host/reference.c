@@ -83,7 +83,8 @@ static bool breaks(const uint16_t *table, size_t r, unsigned rule, const size_t 
     case 13: /* unused column not 0 */
         switch (w.kind) {
         case VARIABLE: return w.b != 0 || w.c != 0;
-        case CUT:      return false;
+        case CUT:
+        case EQUATION: return false; /* c is the low bound, or the line number */
         default:       return w.c != 0;
         }
     case 14: /* a named row is not earlier, or is an equation */
@@ -170,6 +171,18 @@ void ref_values(const uint16_t *table, const ref_table *facts, size_t count,
     }
 }
 
+bool ref_counts(const uint16_t *table, const ref_table *facts, size_t r)
+{
+    row_numbers w = row_of(table, r);
+
+    if (w.kind != EQUATION)
+        return false;
+    for (size_t later = r + 1; w.c > 0 && later < facts->rows; later++)
+        if (row_of(table, later).kind == EQUATION && row_of(table, later).c == w.c)
+            return false;
+    return true;
+}
+
 /* A value brought to a width that is not below its own: zeros at the high end, and then its bits. */
 static void fill_up(const uint8_t *value, size_t width, uint8_t *filled, size_t filled_width)
 {
@@ -185,7 +198,7 @@ bool ref_meets(const uint16_t *table, const ref_table *facts, const uint8_t *pat
     ref_values(table, facts, facts->rows, pattern, values);
     for (size_t r = 0; r < facts->rows; r++) {
         row_numbers w = row_of(table, r);
-        if (w.kind != EQUATION)
+        if (!ref_counts(table, facts, r))
             continue;
         size_t wider = width[w.a] > width[w.b] ? width[w.a] : width[w.b];
         fill_up(values[w.a], width[w.a], left, wider);

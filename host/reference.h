@@ -40,9 +40,16 @@ void ref_values(const uint16_t *table, const ref_table *facts, size_t count,
                 const uint8_t *pattern, uint8_t values[][REF_WIDTH]);
 
 /*
+  Whether row r is an equation that counts. An equation's column c is its line
+  number, 0 for none. Among equations with the same line number above 0, only
+  the last one counts.
+*/
+bool ref_counts(const uint16_t *table, const ref_table *facts, size_t r);
+
+/*
   Whether a pattern of as many bits as an accepted table has meets it: in each
-  equation both sides have equal values, once the narrower one has zeros at its
-  high end. Not reentrant.
+  equation that counts both sides have equal values, once the narrower one has
+  zeros at its high end. Not reentrant.
 */
 bool ref_meets(const uint16_t *table, const ref_table *facts, const uint8_t *pattern);
 

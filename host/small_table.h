@@ -20,7 +20,7 @@
 enum { SMALL_WIDTH = 24 };
 
 /* What a table may have; each of these may have too what those before it may. */
-typedef enum { EQUAL_SIDES, WITH_MARKERS, WITH_SHORT_SIDES } extent;
+typedef enum { EQUAL_SIDES, WITH_MARKERS, WITH_SHORT_SIDES, WITH_LINES } extent;
 
 /*
   A table in the making, with the value of each row of up to 64 bits under one
@@ -445,7 +445,7 @@ static inline void equate_fixed_above(sketch *s)
 static inline void equate_same(sketch *s)
 {
     size_t a = small_term(s), left = one_in(2) ? a : same_word(s, a);
-    if (s->with == WITH_SHORT_SIDES && one_in(2))
+    if (s->with >= WITH_SHORT_SIDES && one_in(2))
         left = add_before(s, left, 0, some_more(one_in(8) ? 900 : 20));
     add_equation(s, left, same_word(s, a));
 }
@@ -536,7 +536,7 @@ static inline void make_small(sketch *s, extent with)
     while ((s->d.equations < equations || conflict) && s->d.rows < 120) {
         bool holds = meant == MEANT_SOLVED || s->d.equations < wrong || !one_in(3);
         if (conflict && s->d.equations >= wrong) {
-            if (with == WITH_SHORT_SIDES && one_in(2))
+            if (with >= WITH_SHORT_SIDES && one_in(2))
                 equate_fixed_above(s);
             else
                 equate_conflict(s);
@@ -551,7 +551,7 @@ static inline void make_small(sketch *s, extent with)
                 equate_same(s);
             continue;
         }
-        if (with == WITH_SHORT_SIDES && one_in(words ? 6 : 3)) {
+        if (with >= WITH_SHORT_SIDES && one_in(words ? 6 : 3)) {
             equate_short(s, holds);
             continue;
         }
@@ -574,6 +574,8 @@ static inline void make_small(sketch *s, extent with)
     }
     if (one_in(8))
         add_term(s); /* behind the last equation, perhaps a variable */
+    if (with >= WITH_LINES)
+        number_lines(&s->d);
 }
 
 /* What occurs in the small tables. */
@@ -583,7 +585,11 @@ enum {
     JOIN_OF_JOIN, WIDE_SIDES, REPEATED_PAIR, HIGHER_ONLY, LOWER_ONLY, END_ONLY, TIED_NEIGHBOURS,
     MARKER_SIDE, MARKER_ALIKE, MARKER_CUT, MARKER_JOINED, MARKER_BESIDE_FILL, MARKERS_EQUATED,
     SHORT_LEFT, SHORT_RIGHT, SHORT_BY_ONE, SHORT_BY_MANY, SHORT_OF_ITSELF, SHORT_MARKER,
-    TOP_TIE, TOP_ALREADY_0, TOP_FIXED_0, TOP_FIXED_1, TOP_ALREADY_1, TOP_NEVER_TIES, FEATURES
+    TOP_TIE, TOP_ALREADY_0, TOP_FIXED_0, TOP_FIXED_1, TOP_ALREADY_1, TOP_NEVER_TIES,
+    REVISED, REVISED_TWICE, REVISED_CROSSWISE, LINE_65535, LINE_OF_A_CUT,
+    REVISED_NEVER, BY_A_WEAKER, BY_A_STRONGER, BY_AN_UNRELATED,
+    ALWAYS_REVISED, NEVER_IF_ALL, TIES_IF_ALL, NEVER_EARLIER_IF_ALL, OTHER_IF_FIRST,
+    NEVER_BY_REVISION, REVISED_BEFORE_NEVER, REVISED_BEHIND_NEVER, FEATURES
 };
 
 static const char *const feature_names[FEATURES] = {
@@ -603,6 +609,15 @@ static const char *const feature_names[FEATURES] = {
     "a top bit that is tied to 0", "a top bit of a variable that is 0 already", "a fixed bit 0 among the top bits",
     "never by a fixed bit 1 among the top bits", "never by a variable's top bit that is 1 already",
     "never by a top bit, with ties before it",
+    "a revised equation", "an equation revised twice", "two lines, each revised behind the other's first",
+    "line number 65535, revised", "the line number of a cut's low bound behind it, which counts",
+    "a revised equation that alone is never", "revised by a weaker equation", "revised by a stronger equation",
+    "revised by an unrelated equation",
+    "always, and not so if all equations counted", "solved, and never if all equations counted",
+    "solved, and with more ties if all equations counted", "never, and at an earlier row if all equations counted",
+    "another record if the first of a line counted",
+    "never at an equation that revises one", "never, and a revised equation before the row",
+    "never, and a revised equation behind the row",
 };
 
 /* What an answer says of places: for each its class, 0 and 1 for the fixed bits, and its variable. */
@@ -777,6 +792,110 @@ static inline void note_short(const uint16_t *t, size_t a, size_t b, const ref_t
     note_top(pairs, first, first + by, facts->bits, has);
 }
 
+/* Line numbers. */
+
+/* The last equation with the line number of equation r, which may be r; r if it has none. */
+static inline size_t last_of_line(const uint16_t *t, const ref_table *facts, size_t r)
+{
+    size_t last = r;
+    for (size_t i = r + 1; t[4 * r + 3] != 0 && i < facts->rows; i++)
+        if (t[4 * i] == LW_EQUATION && t[4 * i + 3] == t[4 * r + 3])
+            last = i;
+    return last;
+}
+
+/* The first one, likewise. */
+static inline size_t first_of_line(const uint16_t *t, size_t r)
+{
+    for (size_t i = 0; t[4 * r + 3] != 0 && i < r; i++)
+        if (t[4 * i] == LW_EQUATION && t[4 * i + 3] == t[4 * r + 3])
+            return i;
+    return r;
+}
+
+/* The record if other equations counted: all of them, or of each line the first. */
+static inline lw_record otherwise(const draft *d, const ref_table *facts, bool first)
+{
+    static table t;
+    static enumeration scratch;
+
+    t = d->t;
+    for (size_t r = 0; r < d->rows; r++) {
+        uint16_t *n = t.numbers + 4 * r;
+        if (n[0] != LW_EQUATION)
+            continue;
+        if (first && first_of_line(d->t.numbers, r) != r)
+            n[1] = n[2] = 0; /* it says nothing */
+        n[3] = 0;
+    }
+    return plain_solve(t.numbers, facts, scratch.answer);
+}
+
+/* What equation r and the last one of its line, which is another, have to do with each other. */
+static inline void note_revision(const uint16_t *t, const ref_table *facts, uint16_t sources[][REF_WIDTH], size_t r,
+                                 size_t last, bool has[FEATURES])
+{
+    static pair_list pairs;
+    const uint16_t *n = t + 4 * r, *m = t + 4 * last;
+
+    pairs.count = plain_pairs(facts, sources, m[1], m[2], pairs.left, pairs.right);
+    size_t by_last = ties_to(&pairs, pairs.count, facts->bits);
+    size_t count = plain_pairs(facts, sources, n[1], n[2], pairs.left, pairs.right);
+    size_t own = ties_to(&pairs, count, facts->bits);
+    pairs.count = count + plain_pairs(facts, sources, m[1], m[2], pairs.left + count, pairs.right + count);
+    size_t both = ties_to(&pairs, pairs.count, facts->bits);
+
+    has[REVISED_NEVER] |= own == SIZE_MAX;
+    if (both == SIZE_MAX)
+        return;
+    has[BY_A_WEAKER] |= both == own && by_last < own && by_last != 0;
+    has[BY_A_STRONGER] |= both == by_last && own < by_last && own != 0;
+    has[BY_AN_UNRELATED] |= both == own + by_last && own != 0 && by_last != 0;
+}
+
+/* What equation r, which has a line number, has. */
+static inline void note_line(const uint16_t *t, const ref_table *facts, uint16_t sources[][REF_WIDTH], size_t r,
+                             const lw_record *record, bool has[FEATURES])
+{
+    size_t last = last_of_line(t, facts, r), first = first_of_line(t, r), line = t[4 * r + 3];
+    bool never = record->outcome == 1;
+
+    if (last == r) {
+        for (size_t i = r + 1; i < facts->rows; i++)
+            has[LINE_OF_A_CUT] |= t[4 * i] == LW_CUT && t[4 * i + 3] == line;
+        has[NEVER_BY_REVISION] |= never && record->row == r && first != r;
+        return;
+    }
+    has[REVISED] = true;
+    has[REVISED_TWICE] |= first != r;
+    has[LINE_65535] |= line == 65535;
+    has[REVISED_BEFORE_NEVER] |= never && r < record->row;
+    has[REVISED_BEHIND_NEVER] |= never && r > record->row;
+    for (size_t i = r + 1; i < last; i++)
+        if (t[4 * i] == LW_EQUATION && t[4 * i + 3] != 0 && t[4 * i + 3] != line)
+            has[REVISED_CROSSWISE] |= last_of_line(t, facts, i) > last;
+    note_revision(t, facts, sources, r, last, has);
+}
+
+/* What a table of line numbers has, and what would be if the revised equations counted. */
+static inline void note_lines(const draft *d, const ref_table *facts, uint16_t sources[][REF_WIDTH],
+                              const lw_record *record, bool has[FEATURES])
+{
+    const uint16_t *t = d->t.numbers;
+
+    for (size_t r = 0; r < d->rows; r++)
+        if (t[4 * r] == LW_EQUATION && t[4 * r + 3] != 0)
+            note_line(t, facts, sources, r, record, has);
+    if (!has[REVISED])
+        return;
+    lw_record all = otherwise(d, facts, false), first = otherwise(d, facts, true);
+    has[ALWAYS_REVISED] = record->outcome == 0 && all.outcome != 0;
+    has[NEVER_IF_ALL] = record->outcome == 2 && all.outcome == 1;
+    has[TIES_IF_ALL] = record->outcome == 2 && all.outcome == 2 && all.ties > record->ties;
+    has[NEVER_EARLIER_IF_ALL] = record->outcome == 1 && all.row < record->row;
+    has[OTHER_IF_FIRST] = memcmp(&first, record, sizeof first) != 0;
+}
+
 /* What stands in a small table and in its answer. */
 static inline void note_features(const draft *d, const ref_table *facts, const enumeration *found, bool has[FEATURES])
 {
@@ -800,7 +919,7 @@ static inline void note_features(const draft *d, const ref_table *facts, const e
         }
         if (n[0] == LW_JOIN)
             has[JOIN_OF_JOIN] |= t[4 * n[1]] == LW_JOIN || t[4 * n[2]] == LW_JOIN;
-        if (n[0] != LW_EQUATION)
+        if (!ref_counts(t, facts, r))
             continue;
         const uint16_t *a = t + 4 * n[1], *b = t + 4 * n[2];
         last = r;
@@ -817,6 +936,7 @@ static inline void note_features(const draft *d, const ref_table *facts, const e
         note_short(t, n[1], n[2], facts, sources, variable, &pairs, first, has);
     }
 
+    note_lines(d, facts, sources, &found->record, has);
     uint32_t outcome = found->record.outcome;
     has[NEVER_EARLY] = outcome == 1 && found->record.row < last;
     has[NEVER_TIES] = outcome == 1 && found->record.ties != 0;

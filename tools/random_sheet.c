@@ -31,7 +31,7 @@ int main(int argc, char **argv)
 
     seed = number;
     if (number % 2 == 0)
-        make_small(&small, WITH_SHORT_SIDES);
+        make_small(&small, one_in(2) ? WITH_SHORT_SIDES : WITH_LINES);
     else
         make_large(&large);
     printf("kind a b c\n");
