@@ -51,7 +51,7 @@ static size_t ties(const subject *in)
     return plain_ties(in->left, in->right, in->pairs, parent, in->facts.bits);
 }
 
-/* The pairs of the equations, in their order. */
+/* The pairs of the equations that count, in their order. */
 static void lay_out(subject *in)
 {
     static uint16_t sources[REF_ROWS][REF_WIDTH];
@@ -59,7 +59,7 @@ static void lay_out(subject *in)
     plain_sources(in->d.t.numbers, &in->facts, sources);
     for (size_t r = 0; r < in->d.rows; r++) {
         const uint16_t *n = in->d.t.numbers + 4 * r;
-        if (n[0] == LW_EQUATION)
+        if (ref_counts(in->d.t.numbers, &in->facts, r))
             in->pairs += plain_pairs(&in->facts, sources, n[1], n[2], in->left + in->pairs, in->right + in->pairs);
     }
 }

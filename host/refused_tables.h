@@ -31,13 +31,12 @@ static inline void refuse_one_by_one(refuse_table_function refuse)
     REFUSE_ONE(refuse, TABLE(VARIABLE(1), 256, 1, 0, 0), 12, 1);
     REFUSE_ONE(refuse, TABLE(VARIABLE(1), 65535, 0, 0, 0), 12, 1);
 
-    /* 13: each column that is not used. */
+    /* 13: each column that is not used. Column c of an equation is its line number. */
     REFUSE_ONE(refuse, TABLE(LW_VARIABLE, 1, 1, 0), 13, 0);
     REFUSE_ONE(refuse, TABLE(LW_VARIABLE, 1, 0, 1), 13, 0);
     REFUSE_ONE(refuse, TABLE(LW_VARIABLE, 1, 0, 65535), 13, 0);
     REFUSE_ONE(refuse, TABLE(LW_FILL, 1, 1, 1), 13, 0);
     REFUSE_ONE(refuse, TABLE(VARIABLE(1), VARIABLE(1), LW_JOIN, 0, 1, 1), 13, 2);
-    REFUSE_ONE(refuse, TABLE(VARIABLE(1), VARIABLE(1), LW_EQUATION, 0, 1, 1), 13, 2);
     REFUSE_ONE(refuse, TABLE(LW_VALUE, 4, 3, 1), 13, 0);
     REFUSE_ONE(refuse, TABLE(LW_VALUE, 0, 16, 65535), 13, 0);
 
@@ -62,6 +61,14 @@ static inline void refuse_one_by_one(refuse_table_function refuse)
     REFUSE_ONE(refuse, TABLE(JOIN(0, 0)), 14, 0);
     REFUSE_ONE(refuse, TABLE(CUT(0, 0, 0)), 14, 0);
     REFUSE_ONE(refuse, TABLE(EQUATION(0, 0)), 14, 0);
+    REFUSE_ONE(refuse, TABLE(LINE(0, 0, 1)), 14, 0);
+    REFUSE_ONE(refuse, TABLE(VARIABLE(1), LINE(0, 1, 65535)), 14, 1);
+
+    /* An equation that does not count is tested like the others, and so is a row that names one. */
+    REFUSE_ONE(refuse, TABLE(VARIABLE(1), LINE(1, 0, 7), LINE(0, 0, 7)), 14, 1);
+    REFUSE_ONE(refuse, TABLE(VARIABLE(1), LINE(0, 600, 7), LINE(0, 0, 7), LINE(0, 0, 7)), 14, 1);
+    REFUSE_ONE(refuse, TABLE(VARIABLE(1), LINE(0, 0, 7), LINE(0, 1, 7), LINE(0, 0, 7)), 14, 2);
+    REFUSE_ONE(refuse, TABLE(VARIABLE(1), LINE(0, 0, 7), LINE(0, 0, 7), JOIN(0, 1)), 14, 3);
 
     /* 15 */
     REFUSE_ONE(refuse, TABLE(VARIABLE(0)), 15, 0);
@@ -131,8 +138,6 @@ static inline void refuse_two_at_once(refuse_table_function refuse)
     REFUSE_ONE(refuse, TABLE(LW_FILL, 2, 0, 1), 13, 0);
     REFUSE_ONE(refuse, TABLE(LW_JOIN, 0, 0, 1), 13, 0);
     REFUSE_ONE(refuse, TABLE(VARIABLE(1024), LW_JOIN, 0, 0, 1), 13, 1);
-    REFUSE_ONE(refuse, TABLE(LW_EQUATION, 0, 0, 1), 13, 0);
-    REFUSE_ONE(refuse, TABLE(VARIABLE(1), VARIABLE(2), LW_EQUATION, 0, 1, 1), 13, 2);
     REFUSE_ONE(refuse, TABLE(VARIABLE(1024), JOIN(0, 2), VARIABLE(1024)), 14, 1);
     REFUSE_ONE(refuse, TABLE(VARIABLE(1), CUT(2, 0, 1), VARIABLE(1)), 14, 1);
     REFUSE_ONE(refuse, TABLE(VARIABLE(1), CUT(1, 9, 9)), 14, 1);
@@ -162,12 +167,12 @@ static inline void refuse_two_at_once(refuse_table_function refuse)
         REFUSE_ONE(refuse, ALL(t), told[i], 64);
     }
 
-    /* A 65th equation: 13 and 14 come before 17. Sides of unequal width are no fault. */
+    /* A 65th equation: 14 comes before 17. Sides of unequal width are no fault, nor are line numbers. */
     static const uint16_t equations[][4] = {
-        {LW_EQUATION, 0, 0, 1}, {EQUATION(66, 0)}, {EQUATION(0, 65)}, {EQUATION(0, 1)},
+        {LINE(66, 0, 1)}, {EQUATION(66, 0)}, {EQUATION(0, 65)}, {EQUATION(0, 1)}, {LINE(0, 0, 1)},
     };
-    static const uint32_t told_of_equation[] = {13, 14, 14, 17};
-    for (size_t i = 0; i < 4; i++) {
+    static const uint32_t told_of_equation[] = {14, 14, 14, 17, 17};
+    for (size_t i = 0; i < COUNT(equations); i++) {
         t.len = 0;
         add(&t, VARIABLE(1));
         add(&t, VARIABLE(2));
@@ -220,6 +225,15 @@ static inline void refuse_beyond_maximum(refuse_table_function refuse)
     while (t.len < 4 * 66)
         add(&t, EQUATION(0, 0));
     REFUSE_ONE(refuse, ALL(t), 17, 65);
+
+    /* All equations count towards 64, also those that do not count: 65 of one line, of two lines, and so on. */
+    for (size_t lines = 1; lines <= 65; lines++) {
+        t.len = 0;
+        add(&t, VARIABLE(1));
+        for (size_t e = 0; e < 65; e++)
+            add(&t, LINE(0, 0, 1 + e % lines));
+        REFUSE_ONE(refuse, ALL(t), 17, 65);
+    }
     REFUSE_ONE(refuse, TABLE(VARIABLE(1024), VARIABLE(1024), VARIABLE(1024), VARIABLE(1024), VARIABLE(1)), 17, 4);
     REFUSE_ONE(refuse, TABLE(VARIABLE(1024), VARIABLE(1024), VARIABLE(1024), MARKER(9, 16), VARIABLE(1024),
                              MARKER(9, 16), VARIABLE(1)), 17, 6);

@@ -795,10 +795,10 @@ static inline void note_short(const uint16_t *t, size_t a, size_t b, const ref_t
 /* Line numbers. */
 
 /* The last equation with the line number of equation r, which may be r; r if it has none. */
-static inline size_t last_of_line(const uint16_t *t, const ref_table *facts, size_t r)
+static inline size_t last_of_line(const uint16_t *t, size_t rows, size_t r)
 {
     size_t last = r;
-    for (size_t i = r + 1; t[4 * r + 3] != 0 && i < facts->rows; i++)
+    for (size_t i = r + 1; t[4 * r + 3] != 0 && i < rows; i++)
         if (t[4 * i] == LW_EQUATION && t[4 * i + 3] == t[4 * r + 3])
             last = i;
     return last;
@@ -857,7 +857,7 @@ static inline void note_revision(const uint16_t *t, const ref_table *facts, uint
 static inline void note_line(const uint16_t *t, const ref_table *facts, uint16_t sources[][REF_WIDTH], size_t r,
                              const lw_record *record, bool has[FEATURES])
 {
-    size_t last = last_of_line(t, facts, r), first = first_of_line(t, r), line = t[4 * r + 3];
+    size_t last = last_of_line(t, facts->rows, r), first = first_of_line(t, r), line = t[4 * r + 3];
     bool never = record->outcome == 1;
 
     if (last == r) {
@@ -873,7 +873,7 @@ static inline void note_line(const uint16_t *t, const ref_table *facts, uint16_t
     has[REVISED_BEHIND_NEVER] |= never && r > record->row;
     for (size_t i = r + 1; i < last; i++)
         if (t[4 * i] == LW_EQUATION && t[4 * i + 3] != 0 && t[4 * i + 3] != line)
-            has[REVISED_CROSSWISE] |= last_of_line(t, facts, i) > last;
+            has[REVISED_CROSSWISE] |= last_of_line(t, facts->rows, i) > last;
     note_revision(t, facts, sources, r, last, has);
 }
 

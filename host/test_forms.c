@@ -138,6 +138,17 @@ static void test_leaves(void)
     ACCEPT(TABLE(VARIABLE(8), CUT(0, 6, 3), CUT(0, 4, 1), EQUATION(1, 2)), 2, 4, FORM(PART(0, 4, 1)));
     ACCEPT(TABLE(VARIABLE(2), FILL(1, 2), EQUATION(0, 1), JOIN(0, 1)), 3, 4, FORM(PART(0, 1, 0), ONES(2)));
 
+    /* Nor do line numbers, whether or not the equations count. */
+    static const uint16_t lines[] = {
+        VARIABLE(4), FILL(0, 2), LINE(0, 1, 7), CUT(0, 3, 2), LINE(3, 1, 7), FILL(1, 2), LINE(3, 5, 65535), JOIN(1, 3),
+    };
+    ACCEPT(lines, 32, 0, 4, FORM(PART(0, 3, 0)));
+    ACCEPT(lines, 32, 3, 2, FORM(PART(0, 3, 2)));
+    ACCEPT(lines, 32, 7, 4, FORM(ZEROS(2), PART(0, 3, 2)));
+    REFUSE(lines, 32, 2, 4096, 30);
+    REFUSE(lines, 32, 4, 4096, 30);
+    REFUSE(lines, 32, 6, 4096, 30);
+
     /* Nor are sides of unequal width filled in their forms, whichever is the narrower. */
     ACCEPT(TABLE(VARIABLE(5), VARIABLE(2), EQUATION(0, 1)), 0, 5, FORM(PART(0, 4, 0)));
     ACCEPT(TABLE(VARIABLE(5), VARIABLE(2), EQUATION(0, 1)), 1, 2, FORM(PART(1, 1, 0)));

@@ -147,7 +147,10 @@ static void fix_all(draft *d)
         }
 }
 
-/* So many variable bits in a few variables, and then rows of the other kinds, so many; the last is an equation. */
+/*
+  So many variable bits in a few variables, and then rows of the other kinds, so
+  many; the last is an equation. A third of the tables have line numbers.
+*/
 static void make_equations(draft *d, size_t bits, size_t widest, size_t rows)
 {
     static const size_t kinds[] = {LW_CUT, LW_CUT, LW_JOIN, LW_EQUATION, LW_EQUATION, LW_FILL, LW_VALUE};
@@ -169,6 +172,8 @@ static void make_equations(draft *d, size_t bits, size_t widest, size_t rows)
     for (size_t i = 0; i < rows; i++)
         grow(d, kinds[below(COUNT(kinds))], widest < 4 ? widest : 4);
     grow(d, LW_EQUATION, 1);
+    if (one_in(3))
+        number_lines(d);
 }
 
 /* All fillings of a solved table, or some: different patterns, and as many as meet the table. */

@@ -18,6 +18,7 @@
 #include "plain_pattern.h"
 #include "plain_solver.h"
 #include "refused_tables.h"
+#include "revised_tables.h"
 #include "test_positions.h"
 
 static const lw_record refused_41 = {.outcome = 41}, refused_42 = {.outcome = 42};
@@ -419,8 +420,6 @@ static void test_always_and_never(void)
     }
 }
 
-/* Refusals. */
-
 /* A table is refused whatever the run and the list. */
 static void refuse(where at, const uint16_t *numbers, size_t len, uint32_t number, uint32_t row)
 {
@@ -431,6 +430,68 @@ static void refuse(where at, const uint16_t *numbers, size_t len, uint32_t numbe
     call(at, "refused, nothing lent", numbers, len, words, 0, 0, want, NULL);
     call(at, "refused, run too long", numbers, len, long_run(), RUN + 1, 3, want, NULL);
 }
+
+/* Words of which many are bytes of zeros, of ones, of the marker and alike: 24 bytes beside each other, each with each. */
+static size_t revised_words(uint16_t words[24 * 24])
+{
+    uint8_t bytes[24] = {0, 0xff, 0x5a, 0xa5, 0x0f, 0xf0, 0x05, 0x50};
+
+    for (size_t i = 8; i < 24; i++)
+        bytes[i] = (uint8_t)random_number();
+    for (size_t i = 0; i < 24 * 24; i++)
+        words[i] = (uint16_t)(bytes[i / 24] << 8 | bytes[i % 24]);
+    return 24 * 24;
+}
+
+/* The starts of a table are those of its counting equations alone, as plain_positions finds them. Gives their number. */
+static size_t compare_revised(where at, const char *name, const table *revised, const table *counting,
+                              const uint16_t *words, size_t words_len)
+{
+    lw_record want;
+    const uint32_t *list = plain_list(ALL(*counting), words, words_len, &want);
+
+    call(at, name, ALL(*revised), words, words_len, want.pieces, want, list);
+    call(at, name, ALL(*revised), words, words_len, want.pieces / 2, want, list);
+    return compare(at, name, ALL(*revised), words, words_len, 2);
+}
+
+/* Revised equations: of each line the last one counts. */
+static void test_revised(void)
+{
+    static table revised, counting;
+    static uint16_t words[24 * 24];
+    size_t len = revised_words(words);
+
+    for (size_t i = 0; i < REVISED_CASES; i++) {
+        const revised_case *c = &revised_cases[i];
+        make_revised(c, &revised, &counting);
+        size_t found = compare_revised(HERE, c->name, &revised, &counting, words, len);
+        check(c->want.outcome == 0 ? found == len : c->want.outcome == 1 ? found == 0 : found != 0 && found < len, HERE,
+              "%s: %zu starts", c->name, found);
+    }
+    make_one_line(&revised, 64, 5);
+    make_one_line(&counting, 1, 0);
+    compare_revised(HERE, "64 equations of one line", &revised, &counting, words, len);
+    make_one_line(&revised, 65, 5);
+    refuse(HERE, ALL(revised), 17, REVISED_FRONT + 64);
+
+    /* Two words: the marker was 1234 and is ace1 now; the second word was the first, and is not asked now. */
+#define REMARKED VARIABLE(16), VARIABLE(16), MARKER(0x1234, 16), MARKER(0xace1, 16)
+    EXPECT(TABLE(REMARKED, LINE(0, 2, 10), LINE(0, 3, 10)), WORDS(0x1234, 0xace1, 0xace1, 0x1234), STARTS(1, 2));
+    EXPECT(TABLE(REMARKED, LINE(0, 2, 10), LINE(0, 3, 11)), WORDS(0x1234, 0xace1, 0xace1, 0x1234), NO_STARTS);
+    EXPECT(TABLE(REMARKED, LINE(0, 3, 10), LINE(0, 1, 20), LINE(1, 1, 20)), WORDS(0xace1, 0x1234, 0xace1, 0xace1, 9),
+           STARTS(0, 2, 3));
+    EXPECT(TABLE(REMARKED, LINE(0, 3, 10), LINE(1, 1, 20), LINE(0, 1, 20)), WORDS(0xace1, 0x1234, 0xace1, 0xace1, 9),
+           STARTS(2));
+    EXPECT(TABLE(REMARKED, LINE(2, 3, 65535), LINE(1, 2, 65535)), WORDS(0, 0x1234, 0x1234), STARTS(0, 1));
+    EXPECT(TABLE(REMARKED, LINE(1, 2, 65535), LINE(2, 3, 65535)), WORDS(0, 0x1234, 0x1234), NO_STARTS);
+#undef REMARKED
+
+    /* A table is asked for its window, and refused, whether or not its equations count. */
+    refuse(HERE, TABLE(VARIABLE(16), VARIABLE(15), LINE(0, 1, 4), LINE(0, 0, 4)), 41, 0);
+}
+
+/* Refusals. */
 
 static void test_table_refusals(void)
 {
@@ -535,6 +596,7 @@ const test_list tests = {
         {.name = "overlapping windows", .run = test_overlapping},
         {.name = "the longest runs", .run = test_long_runs},
         {.name = "always and never", .run = test_always_and_never},
+        {.name = "revised equations", .run = test_revised},
         {.name = "refusals 11 to 17, 40", .run = test_table_refusals},
         {.name = "refusal 41", .run = test_window_refusals},
         {.name = "refusal 42", .run = test_run_refusals},

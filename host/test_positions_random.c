@@ -15,11 +15,12 @@ enum { MOST_WORDS = 700 /* of a random run */, WORK = 5000 /* rows and words to 
 /* What occurs in the random cases; each has to. */
 enum {
     NO_WORDS, SHORT_RUN, ONE_WINDOW, NONE_FOUND, SOME_FOUND, ALL_FOUND, OVERLAPPING, LIST_EMPTY, LIST_SHORT, LIST_EXACT,
-    LIST_LONG, FEATURES
+    LIST_LONG, FEWER_IF_ALL, NONE_IF_ALL, FEATURES
 };
 static const char *const features[FEATURES] = {
     "no words", "a run shorter than the window", "a run of one window", "no start", "some starts", "every start",
     "starts that overlap", "an empty list", "a list too short", "a list of just the starts", "a list longer than that",
+    "fewer starts if all equations counted", "starts, and none if all equations counted",
 };
 static unsigned long seen[FEATURES], outcomes[43], windows[WINDOW + 1];
 
@@ -67,6 +68,8 @@ static void make_windowed(plan *p, size_t window)
     }
     while (p->d.variables < window)
         plan_variable(p, WORD);
+    if (one_in(3))
+        number_lines(&p->d);
 }
 
 /* Something that is refused, mostly. */
@@ -156,6 +159,20 @@ static void note(size_t window, size_t words_len, lw_record want, const uint32_t
     seen[LIST_LONG] += list_len > found;
 }
 
+/* What would be found if no equation had a line number. */
+static void note_lines(const table *t, const uint16_t *words, size_t words_len, lw_record want)
+{
+    static table all;
+
+    all = *t;
+    for (size_t i = 0; i < t->len; i += 4)
+        if (t->numbers[i] == LW_EQUATION)
+            all.numbers[i + 3] = 0;
+    size_t found = plain_positions(ALL(all), words, words_len, NULL, 0).pieces;
+    seen[FEWER_IF_ALL] += found != 0 && found < want.pieces;
+    seen[NONE_IF_ALL] += found == 0 && want.pieces != 0;
+}
+
 static void test_case(unsigned long number)
 {
     static plan p;
@@ -180,8 +197,11 @@ static void test_case(unsigned long number)
     snprintf(name, sizeof name, "random case %lu", number);
     call(HERE, name, ALL(p.d.t), run, len, room, want, list);
     outcomes[want.outcome]++;
-    if (want.outcome == 0)
-        note(window, len, want, list, room);
+    if (want.outcome != 0)
+        return;
+    note(window, len, want, list, room);
+    if (number % 4 == 0)
+        note_lines(&p.d.t, run, len, want);
 }
 
 void test_random(unsigned long cases)
@@ -198,7 +218,7 @@ void test_random(unsigned long cases)
     for (size_t i = 0; i < COUNT(all); i++)
         check(outcomes[all[i]] != 0, HERE, "no random case has outcome %u", all[i]);
     for (size_t i = 0; i < FEATURES; i++) {
-        printf("%-37s %lu cases\n", features[i], seen[i]);
+        printf("%-42s %lu cases\n", features[i], seen[i]);
         check(seen[i] != 0, HERE, "no random case has %s", features[i]);
     }
     for (size_t k = 1; k <= WINDOW; k++)

@@ -15,10 +15,14 @@
 #include "linkwords.h"
 #include "random_table.h"
 #include "refused_tables.h"
+#include "revised_tables.h"
 
 enum { ANSWER = LW_ANSWER_NUMBERS, WORK = LW_WORK_NUMBERS };
 
 static unsigned long outcomes[64];
+
+/* A table as two arguments: its numbers and its rows. */
+#define ALL_ROWS(t) (t).numbers, (t).len / 4
 
 /* The records of a run of numbers; count of them. */
 static guarded records(const uint16_t *numbers, size_t count)
@@ -203,6 +207,42 @@ static void test_short(void)
     }
 }
 
+/* Both tables as records: one record, which is this one, and the same buffers. */
+static void solve_revised(where at, const char *name, const table *revised, const table *counting, lw_record want)
+{
+    guarded r = records(ALL_ROWS(*revised)), c = records(ALL_ROWS(*counting));
+    guarded answer = guard(NULL, 2 * ANSWER), want_answer = guard(NULL, 2 * ANSWER);
+    guarded work = guard(NULL, 2 * WORK), want_work = guard(NULL, 2 * WORK);
+    check_record(at, name, lw_solve_rows(guarded_buffer(&c), counting->len / 4, guarded_buffer(&want_answer), ANSWER,
+                                         guarded_buffer(&want_work), WORK), want);
+    check_record(at, name, lw_solve_rows(guarded_buffer(&r), revised->len / 4, guarded_buffer(&answer), ANSWER,
+                                         guarded_buffer(&work), WORK), want);
+    same(&answer, &want_answer, "answer of a revised table");
+    same(&work, &want_work, "work of a revised table");
+    guard_check(&r, at, "rows of a revised table");
+    guard_check(&c, at, "rows of its counting equations");
+}
+
+/* Revised equations: the answer is that of the equations that count. Values and forms ask no equation. */
+static void test_revised(void)
+{
+    static table revised, counting;
+
+    for (size_t i = 0; i < REVISED_CASES; i++) {
+        make_revised(&revised_cases[i], &revised, &counting);
+        solve_revised(HERE, revised_cases[i].name, &revised, &counting, revised_cases[i].want);
+        all_three(ALL_ROWS(revised), 16);
+    }
+    for (size_t line = 1; line <= 65535; line += 13107) {
+        make_one_line(&revised, 64, line);
+        make_one_line(&counting, 1, 0);
+        solve_revised(HERE, "64 equations of one line", &revised, &counting,
+                      (lw_record){.outcome = 2, .pieces = 2, .fresh = 1, .free = 8, .ties = 8});
+        make_one_line(&revised, 65, line);
+        refuse(HERE, ALL(revised), 17, REVISED_FRONT + 64);
+    }
+}
+
 /* Each outcome was had. */
 static void test_outcomes(void)
 {
@@ -224,6 +264,7 @@ const test_list tests = {
         {.name = "no records", .run = test_null},
         {.name = "a marker", .run = test_marker},
         {.name = "sides of unequal width", .run = test_short},
+        {.name = "revised equations", .run = test_revised},
         {.name = "refusals 11 to 17, 40", .run = test_refusals},
         {.name = "long runs", .run = test_long},
         {.name = "random tables", .run_random = test_random},

@@ -23,6 +23,7 @@
 #include "plain_solver.h"
 #include "refused_tables.h"
 #include "reference.h"
+#include "revised_tables.h"
 #include "small_table.h"
 
 /* Least numbers of an answer table and of a work area; and more than either. */
@@ -733,6 +734,88 @@ static void test_ties(void)
                  EQUATION(5, 3), EQUATION(6, 4), EQUATION(1, 2), EQUATION(0, 0)), NEVER(2, 9), NO_ANSWER);
 }
 
+/* A table of 16 bits and the table of the equations that count alone have one answer, which has this record. */
+static void accept_revised(where at, const char *name, const table *revised, const table *counting, lw_record want)
+{
+    static uint16_t answer[ANSWER_LEAST];
+
+    lw_record record = expected(ALL(*counting), ANSWER_LEAST, WORK_LEAST, answer);
+    check_record(at, name, record, want);
+    check_others(at, name, ALL(*revised), want, answer);
+    call(at, name, ALL(*revised), NULL, ANSWER_LEAST, WORK_LEAST, want, answer);
+    call(at, "counting equations alone", ALL(*counting), NULL, ANSWER_LEAST, WORK_LEAST, want, answer);
+}
+
+/* Revised equations: of each line the last one counts. */
+static void test_revised(void)
+{
+    static table revised, counting;
+
+    for (size_t i = 0; i < REVISED_CASES; i++) {
+        make_revised(&revised_cases[i], &revised, &counting);
+        accept_revised(HERE, revised_cases[i].name, &revised, &counting, revised_cases[i].want);
+    }
+
+    /* The same with words of two bits, and what is solved written down. */
+#define FRONT VARIABLE(2), FILL(0, 2), FILL(1, 2)
+    ACCEPT(TABLE(FRONT, LINE(0, 1, 7), LINE(0, 2, 7)), SOLVED(1, 0, 0, 2), ANSWER(ONES(0, 2)));
+    ACCEPT(TABLE(FRONT, LINE(0, 1, 7), LINE(0, 2, 8)), NEVER(2, 4), NO_ANSWER);
+    ACCEPT(TABLE(FRONT, LINE(0, 1, 7), EQUATION(0, 2), LINE(0, 1, 7)), NEVER(2, 5), NO_ANSWER);
+    ACCEPT(TABLE(FRONT, LINE(0, 1, 7), EQUATION(0, 2), LINE(0, 0, 7)), SOLVED(1, 0, 0, 2), ANSWER(ONES(0, 2)));
+    ACCEPT(TABLE(FRONT, LINE(0, 1, 7)), SOLVED(1, 0, 0, 2), ANSWER(ZEROS(0, 2)));
+    ACCEPT(TABLE(FRONT, LINE(0, 0, 1)), ALWAYS(2), NO_ANSWER);
+    ACCEPT(TABLE(FRONT, LINE(1, 2, 65535)), NEVER(0, 3), NO_ANSWER);
+#undef FRONT
+    ACCEPT(TABLE(VARIABLE(4), LINE(0, 0, 1)), ALWAYS(4), NO_ANSWER);
+    ACCEPT(TABLE(FILL(0, 1), FILL(1, 1), LINE(0, 1, 1), LINE(0, 0, 1)), ALWAYS(0), NO_ANSWER);
+    ACCEPT(TABLE(FILL(0, 1), FILL(1, 1), LINE(0, 0, 1), LINE(0, 1, 1)), NEVER(0, 3), NO_ANSWER);
+
+    /* Unequal sides, and words behind their equation; a variable that the revised equation alone reached. */
+    ACCEPT(TABLE(VARIABLE(4), VARIABLE(2), LINE(0, 1, 3), VARIABLE(3), LINE(3, 1, 3)), SOLVED(4, 2, 6, 3),
+           ANSWER(FRESH(0, 4, 0), FRESH(1, 2, 1), ZEROS(2, 1), FRESH(2, 2, 1)));
+    ACCEPT(TABLE(VARIABLE(2), VARIABLE(2), LINE(0, 1, 2), CUT(0, 1, 1), CUT(1, 0, 0), LINE(3, 4, 2)), SOLVED(4, 3, 3, 1),
+           ANSWER(FRESH(0, 1, 0), FRESH(0, 1, 1), FRESH(1, 1, 2), FRESH(1, 1, 0)));
+}
+
+/* As many equations as there may be: of one line, of 64 lines, and 32 lines revised. */
+static void test_revised_limits(void)
+{
+    static uint16_t answer[ANSWER_LEAST];
+    static table t, counting;
+
+    for (size_t line = 1; line <= 65535; line += line == 1 ? 6 : 65528) {
+        make_one_line(&t, 64, line);
+        ACCEPT(ALL(t), SOLVED(2, 1, 8, 8), ANSWER(ZEROS(0, 8), FRESH(0, 8, 0)));
+        make_one_line(&t, 65, line);
+        REFUSE_TABLE(ALL(t), 17, REVISED_FRONT + 64);
+    }
+
+    /* 64 words of 64 bits: each with the next by 64 lines; then the second half revises the first, word by word. */
+    t.len = counting.len = 0;
+    for (size_t v = 0; v < 64; v++)
+        add(&t, VARIABLE(64)), add(&counting, VARIABLE(64));
+    for (size_t v = 0; v < 64; v++)
+        add(&t, LINE(v, (v + 1) % 64, 65535 - v)), add(&counting, EQUATION(v, (v + 1) % 64));
+    accept_revised(HERE, "64 lines", &t, &counting, expected(ALL(counting), ANSWER_LEAST, WORK_LEAST, answer));
+    for (size_t e = 0; e < 64; e++) {
+        t.numbers[4 * (64 + e) + 3] = (uint16_t)(1 + e % 32);
+        if (e < 32)
+            counting.numbers[4 * (64 + e) + 1] = counting.numbers[4 * (64 + e) + 2] = 0;
+    }
+    accept_revised(HERE, "32 of 64 revised", &t, &counting, SOLVED(64, 32, 32 * 64, 32 * 64));
+
+    /* 512 rows: the first equation is never, and the last row revises it. */
+    t.len = 0;
+    add_front(&t);
+    add(&t, LINE(ZEROS_8, ONES_8, 300));
+    while (t.len < 4 * 511)
+        add(&t, CUT(WHOLE, 15, t.len % 16));
+    add(&t, LINE(HIGH, ONES_8, 300));
+    ACCEPT(ALL(t), SOLVED(2, 1, 8, 8), ANSWER(ONES(0, 8), FRESH(0, 8, 0)));
+    t.numbers[4 * 511 + 3] = 301;
+    ACCEPT(ALL(t), NEVER(0, REVISED_FRONT), NO_ANSWER);
+}
+
 /* The largest answers and tables. */
 static void test_limits(void)
 {
@@ -1017,10 +1100,10 @@ static size_t some_length(size_t least)
     return least + (one_in(2) ? 0 : one_in(8) ? below(LONGEST - least) : below(70));
 }
 
-/* Sides of unequal width in half of the tables. */
+/* Line numbers in half of the tables, and sides of unequal width in more of them. */
 static extent some_extent(void)
 {
-    return one_in(2) ? WITH_SHORT_SIDES : one_in(2) ? WITH_MARKERS : EQUAL_SIDES;
+    return one_in(2) ? WITH_LINES : one_in(2) ? WITH_SHORT_SIDES : one_in(2) ? WITH_MARKERS : EQUAL_SIDES;
 }
 
 /* Homes that occur in them. */
@@ -1107,7 +1190,7 @@ static void test_small(unsigned long tables)
     for (size_t i = 0; i <= ENUM_BITS; i++)
         printf(" %zu: %lu%s", i, met[i], i < ENUM_BITS ? "," : "\n");
     for (int i = 0; i < FEATURES; i++)
-        printf("    %-50s %lu\n", feature_names[i], features[i]);
+        printf("    %-60s %lu\n", feature_names[i], features[i]);
     for (size_t i = 0; i < 3; i++)
         check(5 * outcomes[i] >= tables, HERE, "outcome %zu is rare", i);
     for (int i = 0; i < FEATURES; i++)
@@ -1207,12 +1290,21 @@ static void note_widths(size_t left, size_t right, bool has[SHORTS])
     has[ONE_TO_1024] |= wider == 1024 && narrower == 1;
 }
 
+/* How many equations do not count. */
+static size_t revised_in(const draft *d)
+{
+    size_t count = 0;
+    for (size_t r = 0; r < d->rows; r++)
+        count += d->t.numbers[4 * r] == LW_EQUATION && last_of_line(d->t.numbers, d->rows, r) != r;
+    return count;
+}
+
 static void test_large(void)
 {
     static plan p;
     static uint16_t answer[ANSWER_LEAST];
     unsigned long outcomes[3] = {0}, full = 0, wide = 0, chained = 0, early = 0, many = 0, bits_full = 0, marked = 0;
-    unsigned long shorter[SHORTS] = {0};
+    unsigned long shorter[SHORTS] = {0}, revised = 0, most_revised = 0;
     char name[64];
 
     for (unsigned long i = 0; i < LARGE_TABLES; i++) {
@@ -1245,19 +1337,23 @@ static void test_large(void)
         many += want.pieces >= 1000;
         bits_full += p.d.bits == 4096;
         marked += marker;
+        size_t gone = revised_in(&p.d);
+        revised += gone != 0;
+        most_revised = gone > most_revised ? gone : most_revised;
         for (int k = 0; k < SHORTS; k++)
             shorter[k] += has[k];
     }
     printf("%d large tables: always %lu, never %lu, solved %lu\n", LARGE_TABLES, outcomes[0], outcomes[1], outcomes[2]);
     printf("    of 4096 variable bits %lu, of 64 equations %lu, with an equation of 1024 bits %lu,\n"
-           "    with a chain of 100 cuts %lu, never before the last equation %lu, of 1000 pieces %lu, with a marker %lu\n",
-           bits_full, full, wide, chained, early, many, marked);
+           "    with a chain of 100 cuts %lu, never before the last equation %lu, of 1000 pieces %lu, with a marker %lu,\n"
+           "    with a revised equation %lu, with up to %lu of them\n",
+           bits_full, full, wide, chained, early, many, marked, revised, most_revised);
     for (int k = 0; k < SHORTS; k++)
         printf("    with %-45s %lu\n", short_names[k], shorter[k]);
     for (size_t i = 0; i < 3; i++)
         check(10 * outcomes[i] >= LARGE_TABLES, HERE, "outcome %zu is rare", i);
-    check(bits_full != 0 && full != 0 && wide != 0 && chained != 0 && early != 0 && many != 0 && marked != 0, HERE,
-          "some kind of large table does not occur");
+    check(bits_full != 0 && full != 0 && wide != 0 && chained != 0 && early != 0 && many != 0 && marked != 0 &&
+          10 * revised >= LARGE_TABLES && most_revised > 50, HERE, "some kind of large table does not occur");
     for (int k = 0; k < SHORTS; k++)
         check(shorter[k] != 0, HERE, "no large table has %s", short_names[k]);
 }
@@ -1386,6 +1482,8 @@ const test_list tests = {
         {.name = "unequal sides up to 1024 bits", .run = test_short_limits},
         {.name = "home and high", .run = test_homes},
         {.name = "ties, and never", .run = test_ties},
+        {.name = "revised equations", .run = test_revised},
+        {.name = "64 equations with line numbers", .run = test_revised_limits},
         {.name = "largest answers and tables", .run = test_limits},
         {.name = "refusal 10", .run = test_memory},
         {.name = "refusals 11 to 17, 40", .run = test_table_refusals},

@@ -270,6 +270,27 @@ static void solve_words(call *c)
     words(c, 64);
 }
 
+/* Gives the equations line numbers, so many different ones. */
+static void number_lines(call *c, size_t lines)
+{
+    for (size_t i = 0, e = 0; i < c->table_len; i += 4)
+        if (c->table[i] == LW_EQUATION)
+            c->table[i + 3] = (uint16_t)(1 + e++ % lines);
+}
+
+static void solve_lines(call *c)
+{
+    words(c, 64);
+    number_lines(c, 64);
+}
+
+/* Half of the equations do not count. */
+static void solve_revised(call *c)
+{
+    words(c, 64);
+    number_lines(c, 32);
+}
+
 /* The last equation cannot be met. */
 static void solve_never(call *c)
 {
@@ -376,6 +397,12 @@ static void equal_words(call *c, size_t count)
 static void search_equal(call *c)
 {
     equal_words(c, 64);
+}
+
+static void search_revised(call *c)
+{
+    equal_words(c, 64);
+    number_lines(c, 32);
 }
 
 /* The last equation cannot be met. */
@@ -659,6 +686,8 @@ static const test solves[] = {
     {"joins of a marker's bit, on the right", search_right_joins_of_marker, LW_ALWAYS, 16},
     {"sides of unequal width", solve_short, LW_NEVER, 0},
     {"64 equations of 1024 bits", solve_words, LW_SOLVED, 1024},
+    {"64 line numbers", solve_lines, LW_SOLVED, 1024},
+    {"32 of 64 equations revised", solve_revised, LW_SOLVED, 1024},
     {"never at the last of 64 equations", solve_never, LW_NEVER, 0},
     {"refused 10", short_work, LW_REFUSED_MEMORY, 0},
     {"refused 11", no_whole_row, LW_REFUSED_TABLE, 0},
@@ -675,6 +704,7 @@ static const test searches[] = {
     {"joins of a marker's bit, on the right", search_right_joins_of_marker, LW_ACCEPTED, 0},
     {"cuts and joins of a marker's bit", search_cuts_and_joins_of_marker, LW_ACCEPTED, 0},
     {"64 words of equal bits", search_equal, LW_ACCEPTED, 0},
+    {"32 of 64 equations revised", search_revised, LW_ACCEPTED, 0},
     {"never at the last of 64 equations", search_never, LW_ACCEPTED, 0},
     {"refused 11", no_whole_row, LW_REFUSED_TABLE, 0},
     {"refused 16 at row 511", bad_cut, LW_REFUSED_CUT, 0},

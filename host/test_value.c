@@ -130,6 +130,18 @@ static void test_values(void)
     ACCEPT(between, 24, 4, "101100", "0");
     ACCEPT(between, 24, 5, "101101", "1");
 
+    /* Line numbers, and equations that do not count, bear on no value. */
+    static const uint16_t lines[] = {
+        VARIABLE(4), FILL(0, 2), LINE(0, 1, 7), CUT(0, 3, 2), LINE(3, 1, 7), FILL(1, 2), LINE(3, 5, 65535), JOIN(1, 3),
+    };
+    ACCEPT(lines, 32, 0, "1101", "1101");
+    ACCEPT(lines, 32, 3, "1001", "10");
+    ACCEPT(lines, 32, 5, "0000", "11");
+    ACCEPT(lines, 32, 7, "1101", "0011");
+    REFUSE(lines, 32, 2, "1101", 4, 30);
+    REFUSE(lines, 32, 4, "1101", 4, 30);
+    REFUSE(lines, 32, 6, "1101", 4, 30);
+
     /* Joins: the left part is high. */
     ACCEPT(TABLE(VARIABLE(3), FILL(0, 2), JOIN(0, 1)), 2, "101", "10100");
     ACCEPT(TABLE(VARIABLE(3), FILL(0, 2), JOIN(1, 0)), 2, "101", "00101");

@@ -4,8 +4,8 @@
       sheet_to_smt [--check] <SHEET
 
   Each variable is declared as v0, v1, .., each row but an equation defined as
-  r0, r1, .., and each equation asserted, its narrower side with zero_extend;
-  then follows (check-sat).
+  r0, r1, .., and each equation that counts asserted, its narrower side with
+  zero_extend; then follows (check-sat).
 
   With --check the table is solved by lw_solve too, and what it answers is asked
   of the other solver, question by question: before each (check-sat) stands an
@@ -93,6 +93,17 @@ static void print_side(unsigned r, unsigned other)
         printf(" r%u", r);
 }
 
+/* Whether row r is an equation that counts: none behind it has its line number, which is above 0. */
+static bool counts(size_t r, size_t rows)
+{
+    if (table[4 * r] != LW_EQUATION)
+        return false;
+    for (size_t i = r + 1; i < rows; i++)
+        if (table[4 * i] == LW_EQUATION && table[4 * i + 3] == table[4 * r + 3] && table[4 * i + 3] != 0)
+            return false;
+    return true;
+}
+
 static void print_equation(unsigned a, unsigned b)
 {
     printf(" (=");
@@ -101,7 +112,7 @@ static void print_equation(unsigned a, unsigned b)
     putchar(')');
 }
 
-/* The declarations, the definitions, and the equations together as eqs. */
+/* The declarations, the definitions, and the equations that count together as eqs. */
 static void print_table(size_t rows)
 {
     printf("(set-logic QF_BV)\n");
@@ -109,7 +120,7 @@ static void print_table(size_t rows)
         print_row(r);
     printf("(define-fun eqs () Bool (and true");
     for (size_t r = 0; r < rows; r++)
-        if (table[4 * r] == LW_EQUATION)
+        if (counts(r, rows))
             print_equation(table[4 * r + 1], table[4 * r + 2]);
     printf("))\n");
 }
