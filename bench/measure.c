@@ -9,6 +9,7 @@
 
 #include "plain_page.h"
 #include "plain_solver.h"
+#include "tables.h"
 #include "timing.h"
 #include "z3.h"
 
@@ -64,10 +65,9 @@ static void lay_out(subject *in)
     }
 }
 
-bool prepare(subject *in)
+/* Whether the table that was made is solved as by the plain solver. */
+static bool ready(subject *in)
 {
-    clear(&in->d);
-    in->make(&in->d, in->size);
     lw_record check = ref_check(in->d.t.numbers, in->d.t.len, &in->facts);
     if (check.outcome != 0) {
         fprintf(stderr, "%s %zu: refused %u, row %u\n", in->name, in->size, check.outcome, check.row);
@@ -85,6 +85,22 @@ bool prepare(subject *in)
         return false;
     }
     return true;
+}
+
+bool prepare(subject *in)
+{
+    clear(&in->d);
+    in->make(&in->d, in->size);
+    return ready(in);
+}
+
+bool prepare_lines(subject *in, const subject *of, size_t lines)
+{
+    in->name = of->name;
+    in->calls = of->calls;
+    in->d = of->d;
+    give_lines(&in->d, lines);
+    return ready(in);
 }
 
 bool same_pairs(const subject *a, const subject *b)

@@ -67,6 +67,9 @@ typedef struct {
 /* Makes the table and lays out its pairs. Whether lw_solve's answer is that of the plain solver. */
 bool prepare(subject *in);
 
+/* The same for another table with so many different line numbers, in turn, for its equations. */
+bool prepare_lines(subject *in, const subject *of, size_t lines);
+
 /* Whether the two tables have the same pairs in the same order. */
 bool same_pairs(const subject *a, const subject *b);
 

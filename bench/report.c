@@ -156,6 +156,28 @@ bool print_growth(growth *g)
     return g->goal <= 0 || time <= g->goal;
 }
 
+bool print_lines(growth *g, size_t count)
+{
+    const double most = 1.1, most_revised = 1.0; /* goals */
+    bool met = true;
+
+    printf("\n## Line numbers\n\n"
+           "`lw_solve` on the largest tables with 64 line numbers, all different, and with 32, each of them twice, so\n"
+           "that 32 of the 64 equations are revised; against the same table without line numbers.\n\n");
+    printf("| table | none, µs | 64 different, µs | ratio | goal | 32 of 64 revised, µs | ratio | goal |\n");
+    printf("|---|---:|---:|---:|---|---:|---:|---|\n");
+    for (size_t k = 0; k < count; k++) {
+        double none = median(&g[k].steps[0].solve), all = median(&g[k].steps[1].solve);
+        double half = median(&g[k].steps[2].solve);
+        printf("| %s | %s | %s | %s | at most %.1f: %s ", g[k].title, micro(none), micro(all), figure(all / none), most,
+               all <= most * none ? "met" : "MISSED");
+        printf("| %s | %s | at most %.1f: %s |\n", micro(half), figure(half / none), most_revised,
+               half <= most_revised * none ? "met" : "MISSED");
+        met = met && all <= most * none && half <= most_revised * none;
+    }
+    return met;
+}
+
 bool print_pages(page_subject *in, size_t count)
 {
     const double most = 1.0, most_of_first = 1.1; /* goals */

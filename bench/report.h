@@ -22,6 +22,9 @@ void print_z3(subject *in, size_t count, bool z3);
 /* Whether the growth keeps to its goal. */
 bool print_growth(growth *g);
 
+/* Tables without line numbers, with 64 and with 32 of them, the steps of a growth each; whether the goals are met. */
+bool print_lines(growth *g, size_t count);
+
 /* Pages against the plain page maker, and against the first of them; whether the goals are met. */
 bool print_pages(page_subject *in, size_t count);
 

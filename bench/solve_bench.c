@@ -93,6 +93,12 @@ static growth growths[] = {
 
 enum { GROWTHS = sizeof growths / sizeof growths[0] };
 
+/* The largest tables: without line numbers, with as many as equations, and with half as many. */
+enum { LARGEST = 4 };
+
+static subject all_lines[LARGEST], half_revised[LARGEST];
+static growth lines[LARGEST];
+
 /* The first one has to be page 0, with which the others are compared. */
 static page_subject pages[] = {
     {.name = "page 0, 59 pieces", .number = 0},
@@ -117,6 +123,10 @@ static bool prepare_all(void)
     for (size_t k = 0; k < DEPTHS; k++)
         if (!same_pairs(&depths[0], &depths[k]))
             return false;
+    for (size_t k = 0; k < LARGEST; k++)
+        if (!prepare_lines(&all_lines[k], &subjects[TURNED + k], EQUATIONS) ||
+            !prepare_lines(&half_revised[k], &subjects[TURNED + k], EQUATIONS / 2))
+            return false;
     return same_pairs(&subjects[TURNED], &widths[WIDTHS - 1]);
 }
 
@@ -131,6 +141,13 @@ static void set_steps(void)
         add_step(&growths[2], &widths[k], widths[k].size, widths[k].d.rows, widths[k].pairs);
     for (size_t k = 0; k < DEPTHS; k++)
         add_step(&growths[3], &depths[k], depths[k].size, depths[k].d.rows, depths[k].pairs);
+    for (size_t k = 0; k < LARGEST; k++) {
+        const subject *none = &subjects[TURNED + k], *all = &all_lines[k], *half = &half_revised[k];
+        lines[k].title = none->name;
+        add_step(&lines[k], none, 0, none->d.rows, none->pairs);
+        add_step(&lines[k], all, EQUATIONS, all->d.rows, all->pairs);
+        add_step(&lines[k], half, EQUATIONS / 2, half->d.rows, half->pairs);
+    }
 }
 
 /* Whether the goals are met. */
@@ -146,6 +163,7 @@ static bool print_all(size_t rounds, bool z3)
            "![Time of lw_solve against bit pairs and against rows](growth.svg)\n");
     for (size_t i = 0; i < GROWTHS; i++)
         met &= print_growth(&growths[i]);
+    met &= print_lines(lines, LARGEST);
     met &= print_pages(pages, PAGES);
     return met;
 }
@@ -178,6 +196,8 @@ int main(int argc, char **argv)
         return 2;
     for (size_t i = 0; i < GROWTHS; i++)
         measure_growth(&growths[i], rounds);
+    for (size_t k = 0; k < LARGEST; k++)
+        measure_growth(&lines[k], rounds);
     if (!measure_pages(&subjects[TURNED], pages, PAGES, rounds))
         return 2;
     bool met = print_all(rounds, z3);

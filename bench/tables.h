@@ -59,6 +59,14 @@ static inline void equate(draft *d, const size_t *sides, size_t count)
     }
 }
 
+/* Line numbers for the equations, so many different ones, in turn: with 32 of them the last 32 of 64 revise the others. */
+static inline void give_lines(draft *d, size_t lines)
+{
+    for (size_t r = 0, e = 0; r < d->rows; r++)
+        if (d->t.numbers[4 * r] == LW_EQUATION)
+            d->t.numbers[4 * r + 3] = (uint16_t)(1 + e++ % lines);
+}
+
 /* Tables. The second argument is a width, a number of cuts, or whatever else the table is to have. */
 
 static inline void make_empty(draft *d, size_t none)
