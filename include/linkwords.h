@@ -27,7 +27,7 @@
      1 LW_FILL      fill, all bits alike    bit 0 or 1  width     0
      2 LW_JOIN      join, left part high    left row    right row 0
      3 LW_CUT       bits b down to c of a   row         high      low
-     4 LW_EQUATION  a and b are equal       left row    right row 0
+     4 LW_EQUATION  a and b are equal       left row    right row line
      5 LW_VALUE     marker, a value as bits value       width     0
 
   A row names only rows before it, and never an equation. Many rows may name
@@ -40,6 +40,17 @@
   comparator compares words, the narrower one filled with zeros at its high end
   up to the width of the other. Only the equation fills: rows keep their widths,
   values and normal forms.
+
+  An equation's column c is its line number, 0 to 65535, and 0 is none. Among
+  equations with the same line number above 0 only the last one counts: it takes
+  the place of those before it, and stands at its own row. Equations with line
+  number 0 all count. So a table is revised by rows added at its end, and no row
+  gets another number. A revised equation, one that does not count, is tested
+  like all others and is one of the 64; but it shuts out no pattern, gives no
+  tie and is never the row at which no pattern is left. The low of a cut is no
+  line number. With a variable x of 2 bits, two zeros and two ones as rows 0 to
+  2, the rows 4 0 1 7 and 4 0 2 7 say that x is two ones; 4 0 1 7 and 4 0 2 8
+  are met by no pattern.
 
   A table has at most 512 rows, 64 variables, 4096 variable bits (the widths of
   its variables together) and 64 equations. The variables are numbered from 0
@@ -90,9 +101,10 @@
 
                               Solved systems
 
-  A pattern meets a table if in each equation both sides have the same value,
-  once the narrower one is filled with zeros at its high end: that is, if both
-  are the same binary number. A table without equations is met by every pattern.
+  A pattern meets a table if in each equation that counts both sides have the
+  same value, once the narrower one is filled with zeros at its high end: that
+  is, if both are the same binary number. A table without equations is met by
+  every pattern.
 
   A variable bit is fixed if it is 0 in every pattern that meets the table, or 1
   in every such pattern. Two variable bits are tied if they are equal in every
@@ -249,8 +261,7 @@
                              is above 2048 (over 512 rows)
      12 LW_REFUSED_KIND      the kind is above 5                 that row
      13 LW_REFUSED_UNUSED    b or c of a variable is not 0, or   that row
-                             c of a fill, a join, an equation or
-                             a marker
+                             c of a fill, a join or a marker
      14 LW_REFUSED_NAME      a or b of a join or an equation,    that row
                              or a of a cut, is not the number
                              of an earlier row, or is the number
@@ -265,8 +276,9 @@
                              width of the row it cuts, or low is
                              above high
      17 LW_REFUSED_MAXIMUM   the row is the 65th variable or the that row
-                             65th equation, or a variable with
-                             which the variable bits exceed 4096
+                             65th equation, also if fewer count,
+                             or a variable with which the
+                             variable bits exceed 4096
 
   18 was the refusal of an equation whose sides differ in width. No call yields
   it any more, whatever the input, and the number is not used again.
@@ -523,8 +535,10 @@ lw_record lw_solve(const uint16_t *table, size_t table_len,
                    uint16_t *answer, size_t answer_len,
                    uint16_t *work, size_t work_len);
 /*
-     Solves the equations of the table. If some patterns meet it and some do
-     not, it writes the solved system as an answer table.
+     Solves the equations of the table that count (see The table). If some
+     patterns meet it and some do not, it writes the solved system as an answer
+     table. Wherever equations are named here, those that count are meant; which
+     they are is settled by the whole table, also for the rows before a never.
 
      An equation gives bit pairs: the high bits of its two sides, then the next
      lower ones, and so on. Where one side is wider, the pairs of its top bits
@@ -659,8 +673,9 @@ lw_record lw_marker_positions(const uint16_t *table, size_t table_len,
                               const uint16_t *words, size_t words_len,
                               uint32_t *list, size_t list_len);
 /*
-     Lists the starts in the run at which the words meet the table, for a table
-     whose variables all have 16 bits (see Runs and windows). words is the run.
+     Lists the starts in the run at which the words meet the table, that is its
+     equations that count, for a table whose variables all have 16 bits (see Runs
+     and windows). words is the run.
 
      If the call is accepted, outcome is LW_ACCEPTED, pieces is the number of
      all starts of windows that meet the table, and all other fields are 0. The
