@@ -46,6 +46,7 @@ static const revised_case revised_cases[] = {
 
     /* Numbers that are alike in part, and the greatest. */
     {"7 and 263", {1, 0, 0, 0, 8, 8}, {COUNTS(HIGH, ZEROS_8, 7), COUNTS(HIGH, ONES_8, 263)}},
+    {"7 and 32775", {1, 0, 0, 0, 8, 8}, {COUNTS(HIGH, ZEROS_8, 7), COUNTS(HIGH, ONES_8, 32775)}},
     {"256 is a line", {2, 2, 1, 8, 8, 0}, {GONE(HIGH, ZEROS_8, 256), COUNTS(HIGH, ONES_8, 256)}},
     {"1", {2, 2, 1, 8, 8, 0}, {GONE(HIGH, ZEROS_8, 1), COUNTS(HIGH, ONES_8, 1)}},
     {"65535", {2, 2, 1, 8, 8, 0}, {GONE(HIGH, ZEROS_8, 65535), COUNTS(HIGH, ONES_8, 65535)}},

@@ -767,6 +767,10 @@ static void test_revised(void)
     ACCEPT(TABLE(FRONT, LINE(1, 2, 65535)), NEVER(0, 3), NO_ANSWER);
 #undef FRONT
     ACCEPT(TABLE(VARIABLE(4), LINE(0, 0, 1)), ALWAYS(4), NO_ANSWER);
+    for (unsigned bit = 0; bit < 16; bit++) { /* two line numbers that differ in one bit */
+        const uint16_t line = 0x5a5a, other = (uint16_t)(line ^ 1U << bit);
+        ACCEPT(TABLE(FILL(0, 1), FILL(1, 1), LINE(0, 1, line), LINE(0, 0, other)), NEVER(0, 2), NO_ANSWER);
+    }
     ACCEPT(TABLE(FILL(0, 1), FILL(1, 1), LINE(0, 1, 1), LINE(0, 0, 1)), ALWAYS(0), NO_ANSWER);
     ACCEPT(TABLE(FILL(0, 1), FILL(1, 1), LINE(0, 0, 1), LINE(0, 1, 1)), NEVER(0, 3), NO_ANSWER);
 

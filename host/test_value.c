@@ -425,10 +425,11 @@ static void test_chains(void)
     ACCEPT_BYTES(ALL(t), 511, zeros, 1, grown, 511);
 }
 
-/* Refusals 11 to 17 and 40: refused_tables.h has the tables. (17 is among the limits.) */
+/* Refusals 11 to 17 and 40: refused_tables.h has the tables. */
 static void test_table_refusals(void)
 {
     refuse_one_by_one(refuse_table);
+    refuse_beyond_maximum(refuse_table);
 }
 
 static void test_two_table_refusals(void)
