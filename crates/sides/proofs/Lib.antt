@@ -3,8 +3,3 @@ pub mod Reading
 pub mod FormSources
 pub mod EquationPairs
 pub mod NextEquation
-pub mod Shortened
-pub mod SamePairs
-pub mod ShortTable
-pub mod Shortening
-pub mod Revised

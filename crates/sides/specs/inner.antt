@@ -1,4 +1,2 @@
 pub mod Reading
 pub mod Sides
-pub mod Shortened
-pub mod Revised

@@ -30,7 +30,8 @@ use Rattle.homes.specs.inner.Homes.{Orderly, PutsHomes}
 use Rattle.homes.proofs.Forms.{orderly-written}
 use Rattle.borders.specs.inner.Rows.{RowsPut, PutsRows}
 use Rattle.borders.proofs.Answering.{bits-most}
-use Rattle.solver.specs.inner.Equations.{EquationsTaken, ClassesTaken}
+use Rattle.taking.specs.inner.Equations.{EquationsTaken}
+use Rattle.linking.specs.inner.Classes.{ClassesTaken}
 use Rattle.solver.specs.inner.Call.{answerOver, Answered}
 
 -- a number below 2 ^ 32 stays

@@ -21,7 +21,7 @@ use Rattle.terms.proofs.Faults.{totals-small}
 use Rattle.terms.proofs.Places.{count-variable, count-other}
 use Rattle.terms.proofs.RowKinds.{of-variable, of-other, bits-variable, bits-other}
 use Rattle.terms.proofs.Rows.{rows-length}
-use Rattle.solver.specs.inner.Equations.{ClassesTaken}
+use Rattle.linking.specs.inner.Classes.{ClassesTaken}
 use Rattle.laws.specs.Lists.{countUp, below}
 use Rattle.laws.proofs.Bools.{same-test, and-parts}
 use Rattle.laws.proofs.Numbers.{dec-eq, lt-or-le}

@@ -170,7 +170,7 @@ fn plan_table(
     ensures { λ _. ⌜ Plans (now (table .entry)) (now (widths .entry)) (now (places .entry)) (now (links .entry)) k (now (plan .entry)) (now (plan .exit)) ⌝ }
 {
     let mut form = [0u16; 4096];
-    let taken = solver::table_classes(table, widths, places, &mut form[..], links);
+    let taken = linking::table_classes(table, widths, places, &mut form[..], links);
     let row = taken.row;
     if row < table.len() / 4 {
         put_never(plan);

@@ -1,25 +1,20 @@
 -- What the inner functions of a solve promise, once the table is accepted.
 use mathlib.Core.Path.{_≡_}
-use mathlib.Core.Bool.{cond}
 use mathlib.Core.List.{List}
-use Prim.Native.Nat.{ℕ, suc, _+_, _≤_, _<_}
-use lib.Dec.{eqb}
+use Prim.Native.Nat.{ℕ, _+_, _≤_, _<_}
 use lib.ListN.{length, getD, take}
-use Rattle.terms.specs.declared.Record.{Record}
 use Rattle.terms.specs.declared.Row.{Row}
 use Rattle.terms.specs.declared.Fault.the-variants.{Accepted}
 use Rattle.terms.specs.Table.{rowsOf, bitsOf, widthOf, countKind}
-use Rattle.laws.specs.Lists.{countUp}
 use Rattle.terms.specs.Faults.{firstFault}
 use Rattle.terms.specs.inner.Places.{sourceBefore}
+use mathlib.Core.Bool.{cond}
+use lib.Dec.{eqb}
+use Rattle.terms.specs.declared.Record.{Record}
 use Rattle.laws.specs.Buffers.{overwrite}
 use Rattle.answers.specs.Answer.{answerNumbers}
 use Rattle.answers.specs.Solve.{solvedRows, answerRecord}
-use Rattle.solver.specs.inner.Equations.{ClassesTaken}
-
--- Links that were undone: each source links to itself.
-abbrev pub Unlinks : List ℕ → List ℕ → Type 0
-Unlinks links links′ = length links ≤ 65536 → links′ ≡ countUp 0 (length links)
+use Rattle.linking.specs.inner.Classes.{ClassesTaken}
 
 -- The answer table of an accepted table: for outcome 2 the rows in front of what was there.
 unfoldable pub answerOver : List Row → List ℕ → List ℕ

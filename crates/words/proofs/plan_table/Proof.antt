@@ -9,7 +9,7 @@ use Rattle.words.proofs.plan_table.Statement.{statement}
 use Rattle.words.proofs.plan_table.Tie as tie
 use Rattle.words.proofs.plan_table.Reads as reads
 use Rattle.words.proofs.plan_table.Lts as lts
-use Rattle.solver.proofs.table_classes.Reads as table-classes-reads
+use Rattle.linking.proofs.table_classes.Reads as table-classes-reads
 use Rattle.words.proofs.put_never.Reads as put-never-reads
 use Rattle.words.proofs.put_rows.Reads as put-rows-reads
 

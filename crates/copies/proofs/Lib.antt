@@ -1,0 +1,5 @@
+pub mod Shortened
+pub mod SamePairs
+pub mod ShortTable
+pub mod Shortening
+pub mod Revised
