@@ -3,3 +3,4 @@ pub mod Reading
 pub mod FormSources
 pub mod EquationPairs
 pub mod NextEquation
+pub mod Prepared

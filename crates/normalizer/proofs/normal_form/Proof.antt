@@ -16,7 +16,7 @@ use Rattle.terms.proofs.AcceptedTable.{fault-none, accepted-table, term-there}
 use Rattle.checker.proofs.Checking.{fault-found, widths-left}
 use Rattle.terms.proofs.Rows.{rows-length}
 use Rattle.forms.specs.Form.{formOf, numbersOf}
-use Rattle.forms.specs.inner.Numbered.{Numbered}
+use Rattle.terms.specs.inner.Placed.{Numbered}
 use Rattle.forms.proofs.RowForms.{sources-wide, width-small, width-read}
 use Rattle.forms.proofs.FormCall.{stop-fault, stop-absent, stop-room, written, form-few}
 use Rattle.appender.proofs.Appending.{appended-form}
