@@ -17,8 +17,8 @@ use Rattle.laws.specs.Buffers.{overwrite}
 use Rattle.terms.specs.Calls.{completed}
 use Rattle.terms.proofs.AcceptedTable.{accepted-table}
 use Rattle.laws.proofs.Tallies.{tally-most}
-use Rattle.answers.specs.Pairs.{equationPairs}
-use Rattle.answers.specs.inner.Classes.{inClass}
+use Rattle.answers.specs.Pairs.{Pair, equationPairs}
+use Rattle.answers.specs.inner.Classes.{inClass, Represents}
 use Rattle.answers.specs.declared.AnswerRow.{AnswerRow}
 use Rattle.answers.specs.Answer.{appears, variableWidths, answerRows, answerNumbers, freshPieces, freeBits}
 use Rattle.answers.specs.inner.FourNumbers.{fourNumbers}
@@ -44,6 +44,10 @@ kept-short x l = omega arith
 pub same-record : {p p′ f f′ o o′ k k′ : ℕ} → p ≡ p′ → f ≡ f′ → o ≡ o′ → k ≡ k′
     → _≡_ {A = Record} (record { outcome = 2; pieces = p; fresh = f; free = o; ties = k; row = 0 }) (record { outcome = 2; pieces = p′; fresh = f′; free = o′; ties = k′; row = 0 })
 same-record a b c d = rw (a, b, c, d) refl
+
+-- representatives of so many bits
+as-many-bits : {n m : ℕ} {c : List ℕ} {seen : List Pair} → n ≡ m → Represents n c seen → Represents m c seen
+as-many-bits {c = c} {seen = seen} e r = subst (λ (k : ℕ). Represents k c seen) e r
 
 -- the table lent, and one with its variables whose equations were taken
 module _ (table other links answer : List ℕ) (row ties : ℕ) (F : TakenOf table other links row ties) where
@@ -98,7 +102,7 @@ module _ (table other links answer : List ℕ) (row ties : ℕ) (F : TakenOf tab
     unfolding foursOver
     conclude-solved lent z bits w answer′ pieces fresh P r e =
         let put : RowsPut table (tableClasses other accepted) answer answer′ pieces fresh =
-        subst (λ (c : List ℕ). PutsRows table c answer answer′ pieces fresh) classes-table P _ lent (rw same-bits (represent other accepted)) (apart-one other accepted some) in
+        subst (λ (c : List ℕ). PutsRows table c answer answer′ pieces fresh) classes-table P _ lent (as-many-bits (sym same-bits) (represent other accepted)) (apart-one other accepted some) in
         let rows : solvedRows t ≡ answerRows n (variableWidths t) (inClass (tableClasses other accepted)) = solved-rows other accepted some in
         let many : pieces ≡ length (solvedRows t) = rw (same-bits, ← F .variables) at (put .pieces-are) ∙ ap length (sym rows) in
         let appear : fresh ≡ tally n (appears n (variableWidths t) (inClass (tableClasses other accepted))) = rw (same-bits, ← F .variables) at (put .fresh-are) in

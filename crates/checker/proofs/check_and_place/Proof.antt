@@ -27,7 +27,8 @@ fault-record-requires c κs = search needs
 
 returns : tie.Need-returns
 returns c =
-    let found = c .before .before .before .check .ensures .0 ∙ fault-found _ _ (search needs) in
+    let size : length (now (c .before .before .before .before .before .before .args .widths)) ≡ 512 = search needs in
+    let found = c .before .before .before .check .ensures .0 ∙ fault-found _ _ size in
     (ap isAccepted (sym found) ∙ sym (c .before .before .accepted .ensures) ∙ not-true _ (c .before .if1 .taken), c .fault-record .ensures ∙ ap faultRecord found)
 
 place-requires : tie.Need-place-requires
@@ -39,8 +40,9 @@ returns-2 c =
     let wide : length (now (c .before .before .before .before .before .before .before .args .places)) ≡ 577 = search needs in
     let found : c .before .before .before .before .check .result ≡ firstFault (now (c .before .before .before .before .before .before .before .args .table)) = c .before .before .before .before .check .ensures .0 ∙ fault-found _ _ size in
     let accepted = fault-none (firstFault (now (c .before .before .before .before .before .before .before .args .table))) (ap isAccepted (sym found) ∙ sym (c .before .before .before .accepted .ensures) ∙ not-false _ (c .before .before .if1 .left)) in
-    let few = accepted-table (now (c .before .before .before .before .before .before .before .args .table)) accepted .few in (
-      record {
+    let few = accepted-table (now (c .before .before .before .before .before .before .before .args .table)) accepted .few in
+    record {
+      placed = record {
         numbered = record {
           accepted = accepted;
           widths-are = λ r h. ap (λ (l : List ℕ). getD l r 0) (c .before .before .before .before .check .ensures .1) ∙ widths-left _ (now (c .before .before .before .before .before .before .before .args .widths)) size accepted r h;
@@ -49,9 +51,11 @@ returns-2 c =
         sources-are = c .place .ensures .1 .1 accepted (omega (arith, wide));
         widths-room = omega (arith, few, size, c .before .before .before .before .check .kept .1 .0);
         places-room = omega (arith, wide, c .place .kept .1 .0);
-      },
-      c .place .ensures .0 ∙ ap bitsOf (take-all 512 (rowsOf (now (c .before .before .before .before .before .before .before .args .table))) few),
-    )
+      };
+      bits = c .place .ensures .0 ∙ ap bitsOf (take-all 512 (rowsOf (now (c .before .before .before .before .before .before .before .args .table))) few);
+      widths-size = c .before .before .before .before .check .kept .1 .0 ∙ size;
+      places-size = c .place .kept .1 .0 ∙ wide;
+    }
 
 pub check-and-place-spec : {M : Type 1} → statement M
 check-and-place-spec =

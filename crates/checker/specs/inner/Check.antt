@@ -56,7 +56,13 @@ NumbersVariables table room places = firstFault table ≡ Accepted → 512 ≤ r
 abbrev pub FindsSources : List ℕ → ℕ → List ℕ → Type 0
 FindsSources table room places = firstFault table ≡ Accepted → 577 ≤ room → SourcesAre (rowsOf table) places
 
--- What is said of a table with each answer of the check: the record of its first fault, or its variable bits, with widths and places.
+-- What is said of a table with each answer of the check: the record of its first fault; or its variable bits, with its widths and places.
+pub record PlacedTable (table widths places : List ℕ) (n : ℕ) : Type 0 where
+  pub placed : Placed table widths places
+  pub bits : n ≡ bitsOf (rowsOf table)
+  pub widths-size : length widths ≡ 512
+  pub places-size : length places ≡ 577
+
 abbrev pub CheckedTable : List ℕ → List ℕ → List ℕ → Checked → Type 0
 CheckedTable table widths places (Refused r) = (isAccepted (firstFault table) ≡ false) × (r ≡ faultRecord (firstFault table))
-CheckedTable table widths places (Bits n) = Placed table widths places × (n ≡ bitsOf (rowsOf table))
+CheckedTable table widths places (Bits n) = PlacedTable table widths places n
