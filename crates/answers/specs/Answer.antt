@@ -8,6 +8,7 @@ use lib.ListN.{getD, take, drop, replicate}
 use Rattle.terms.specs.declared.Row.{Row}
 use Rattle.answers.specs.declared.AnswerRow.{AnswerRow}
 use Rattle.terms.specs.Table.{ifVariable}
+use Rattle.laws.specs.Bools.{implies}
 use Rattle.laws.specs.Lists.{least, below, tally, distinct}
 
 -- The widths of the variables of a table, variable 0 first.
@@ -23,9 +24,6 @@ begins (w ∷ ws) i = cond (ltb i w) (eqb i 0) (begins ws (i - w))
 unfoldable pub variableAt : List ℕ → ℕ → ℕ
 variableAt [] i = 0
 variableAt (w ∷ ws) i = cond (ltb i w) 0 (suc (variableAt ws (i - w)))
-
-abbrev pub implies : Bool → Bool → Bool
-implies a b = not a || b
 
 -- Whether places i and j are tied; whether place i is fixed to the bit b; whether it is unfixed.
 abbrev pub tied : (ℕ → ℕ → Bool) → ℕ → ℕ → Bool

@@ -29,7 +29,7 @@ use Rattle.assignments.proofs.Theorems.{solved-form}
 use Rattle.homes.specs.inner.Homes.{Orderly, PutsHomes}
 use Rattle.homes.proofs.Forms.{orderly-written}
 use Rattle.borders.specs.inner.Rows.{RowsPut, PutsRows}
-use Rattle.borders.proofs.Answering.{bits-most}
+use Rattle.terms.proofs.AcceptedTable.{table-bits}
 use Rattle.taking.specs.inner.Equations.{EquationsTaken}
 use Rattle.linking.specs.inner.Classes.{ClassesTaken}
 use Rattle.solver.specs.inner.Call.{answerOver, Answered}
@@ -68,7 +68,7 @@ module _ (table : List ℕ) (accepted : firstFault table ≡ Accepted) (links an
       record { record-is = b; answer-is = rw a refl }
 
   few-bits : n ≤ 4096
-  few-bits = bits-most table accepted
+  few-bits = table-bits table accepted
 
   pub conclude-always : length t ≤ row → ties ≡ 0 → (bits : ℕ) → bits ≡ n → (r : Record) → r ≡ completed 0 (bits % 4294967296) → Answered t answer answer r
   unfolding answerOver

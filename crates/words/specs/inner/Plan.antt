@@ -13,7 +13,8 @@ use Rattle.terms.specs.Table.{rowsOf, bitsOf, widthOf, countKind, satisfies}
 use Rattle.terms.specs.Faults.{firstFault}
 use Rattle.terms.specs.inner.Places.{sourceBefore}
 use Rattle.laws.specs.Lists.{below}
-use Rattle.answers.specs.Answer.{implies, variableWidths}
+use Rattle.laws.specs.Bools.{implies}
+use Rattle.answers.specs.Answer.{variableWidths}
 use Rattle.groups.specs.inner.Places.{equalTest, fixedPlace, agreesAt}
 use Rattle.words.specs.Words.{wordsBits, sixteens}
 
