@@ -2,4 +2,3 @@ pub mod Spelling
 pub mod Reading
 pub mod FormSources
 pub mod EquationPairs
-pub mod NextEquation

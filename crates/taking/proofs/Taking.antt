@@ -24,7 +24,7 @@ use Rattle.classes.proofs.Roots.{roots-settled, taken-alike}
 use Rattle.classes.proofs.Taking.{tie-or-not, no-conflict, a-conflict}
 use Rattle.terms.proofs.RowKinds.{of-term}
 use Rattle.sides.specs.inner.Sides.{pairsFrom}
-use Rattle.sides.proofs.NextEquation.{Passed}
+use Rattle.terms.proofs.NextEquation.{Passed}
 use Rattle.taking.specs.inner.Equations.{EquationsTaken}
 
 -- ---- one pair more at the end of those taken

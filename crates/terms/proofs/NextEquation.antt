@@ -12,9 +12,8 @@ use lib.ListN.{length}
 use borrow.Author.Tests.{eq-eqb, ne-eqb, eqb-false}
 use Rattle.laws.specs.Lists.{least}
 use Rattle.laws.proofs.Least.{least-within, least-passed}
 use Rattle.terms.specs.declared.Row.{Row}
-use Rattle.terms.specs.Table.{rowsOf, rowAt}
-use Rattle.sides.specs.inner.Sides.{nextEquation}
+use Rattle.terms.specs.Table.{rowsOf, rowAt, nextEquation}
 
 -- the search at an equation, at another row, and behind the last
 module _ (t : List Row) (r rows : ℕ) where
