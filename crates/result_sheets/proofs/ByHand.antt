@@ -7,8 +7,8 @@ use Rattle.laws.specs.Lists.{countUp}
 use Rattle.terms.specs.Calls.{refusal}
 use Rattle.answers.specs.Answer.{answerRowsOf}
 use Rattle.sheets.specs.Writing.{digits}
-use Rattle.pages.specs.Page.{cell, lineOf, namesLine, pieceLine, outcomeLine, blankLine, pagePieces, listed, pageCount, pageLine, pageLines, joined, pageText}
-use Rattle.pages.specs.AllPages.{line}
+use Rattle.result_sheets.specs.Page.{cell, lineOf, namesLine, pieceLine, outcomeLine, blankLine, pagePieces, listed, pageCount, pageLine, pageLines, joined, pageText}
+use Rattle.result_sheets.specs.AllPages.{line}
 
 -- document 01's sheet, whatever stands in the answer table behind its five rows
 pub worked-page : (rest : List ℕ)

@@ -9,8 +9,8 @@ use Rattle.terms.proofs.Computed.{faultComputed, satisfiesComputed}
 use Rattle.laws.specs.Binary.{binary}
 use Rattle.laws.specs.Buffers.{overwrite}
 use Rattle.answers.specs.Answer.{variableWidths}
-use Rattle.words.specs.Words.{wordsBits, sixteens}
-use Rattle.positions.specs.Call.{meetsFront, startsFrom, positionsOf, breaks41, breaks42, positionsRecord, positionsAfter}
+use Rattle.windows.specs.Words.{wordsBits, sixteens}
+use Rattle.windows.specs.Call.{meetsFront, startsFrom, positionsOf, breaks41, breaks42, positionsRecord, positionsAfter}
 
 abbrev row : ℕ → ℕ → ℕ → ℕ → List ℕ
 row kind a b c = kind ∷ a ∷ b ∷ c ∷ []

@@ -19,8 +19,8 @@ use Rattle.sheets.specs.Sheet.{sheetFound}
 use Rattle.sheets.specs.Call.{sheetNumber, sheetRecord}
 use Rattle.answers.specs.Solve.{valid, unsatisfiable, answerRecord, solveRecord}
 use Rattle.assignments.specs.Call.{patternRecord}
-use Rattle.positions.specs.Call.{positionsRecord}
-use Rattle.linkwords.specs.Calls.{Call, lw-value, lw-normal-form, lw-read-sheet, lw-solve, lw-make-pattern, lw-marker-positions, lw-value-rows, lw-normal-form-rows, lw-solve-rows, recordOf}
+use Rattle.windows.specs.Call.{positionsRecord}
+use Rattle.calls.specs.Calls.{Call, lw-value, lw-normal-form, lw-read-sheet, lw-solve, lw-make-pattern, lw-marker-positions, lw-value-rows, lw-normal-form-rows, lw-solve-rows, recordOf}
 
 -- a record with another outcome
 abbrev Other : Record → Type 0

@@ -10,8 +10,8 @@ use lib.ListN.{length, getD, drop}
 use borrow.Author.Tests.{eq-eqb, ne-eqb, le-leb, lt-leb, lt-ltb, le-ltb}
 use Rattle.laws.specs.Lists.{countUp, member, distinct}
 use Rattle.laws.proofs.Numbers.{lt-or-le}
-use Rattle.positions.specs.Call.{startsFrom}
-use Rattle.positions.specs.Positions.{endingBy}
+use Rattle.windows.specs.Call.{startsFrom}
+use Rattle.windows.specs.Positions.{endingBy}
 
 ltb-suc : (j n : ℕ) → ltb (suc j) (suc n) ≡ ltb j n
 ltb-suc j n = go (lt-or-le j n)

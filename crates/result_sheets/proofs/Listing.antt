@@ -3,26 +3,19 @@ use mathlib.Core.Path.{_≡_, refl, _∙_, ap}
 use mathlib.Core.Bool.{Bool, true, false, cond}
 use mathlib.Core.List.{List, [], _∷_, map}
 use mathlib.Core.Logic.{_≢_}
-use Prim.Native.Nat.{ℕ, zero, suc, _+_, _/_, _<_, _≤_, min}
+use Prim.Native.Nat.{ℕ, zero, suc, _/_, _<_, _≤_, min}
 use native.Mathlib.Omega.{arith}
 use lib.Dec.{ltb}
 use lib.ListN.{length, getD, replicate, length-map, length-take, length-replicate, getD-replicate, List·getD-eq-default}
 use lib.Seq.{getD-take}
 use borrow.Author.Tests.{lt-ltb, le-ltb, eq-eqb, ne-eqb}
 use Rattle.laws.specs.Lists.{countUp}
-use Rattle.laws.proofs.CountUp.{count-up}
+use Rattle.laws.proofs.CountUp.{count-up, count-read}
 use Rattle.terms.specs.declared.Record.{Record}
 use Rattle.answers.specs.declared.AnswerRow.{AnswerRow}
 use Rattle.answers.specs.Answer.{answerRowsOf, answerRowAt, noAnswerRow}
 use Rattle.answers.proofs.AnswerNumbers.{answer-length}
-use Rattle.pages.specs.Page.{pieceLine, outcomeLine, blankLine, pagePieces, listed, pageCount, pageLine, pageLines}
-
--- numbers that count up, mapped
-pub count-read : {A : Type 0} (f : ℕ → A) (k n i : ℕ) (d : A) → i < n → getD (map f (countUp k n)) i d ≡ f (k + i)
-unfolding countUp
-count-read f k zero i d h = absurd (omega arith)
-count-read f k (suc n) zero d h = ap f (omega arith)
-count-read f k (suc n) (suc i) d h = count-read f (suc k) n i d (omega arith) ∙ ap f (omega arith)
+use Rattle.result_sheets.specs.Page.{pieceLine, outcomeLine, blankLine, pagePieces, listed, pageCount, pageLine, pageLines}
 
 module _ (found : Record) (answer : List ℕ) where
   pub pieces-length : length (pagePieces found answer) ≡ min (found .pieces) (length answer / 6)

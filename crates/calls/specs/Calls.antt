@@ -9,7 +9,7 @@ use Rattle.forms.specs.Call.{formRecord}
 use Rattle.sheets.specs.Call.{sheetRecord}
 use Rattle.answers.specs.Solve.{solveRecord}
 use Rattle.assignments.specs.Call.{patternRecord}
-use Rattle.positions.specs.Call.{positionsRecord}
+use Rattle.windows.specs.Call.{positionsRecord}
 
 -- A call with its input. Of a buffer that is lent to be written, the input is how much room it has.
 pub data Call : Type 0 where

@@ -9,10 +9,10 @@ use denote.Ref.{now}
 use Rattle.terms.specs.declared.Row.{Row}
 use Rattle.terms.specs.Table.{rowsOf}
 use Rattle.terms.proofs.Rows.{rows-length}
-use Rattle.positions.specs.inner.Starts.{windowOf}
-use Rattle.positions.proofs.Windows.{windowFrom, window-first, window-end, window-other, window-more, window-broken}
-use Rattle.positions.proofs.window_of.Statement.{statement}
-use Rattle.positions.proofs.window_of.Tie as tie
+use Rattle.words.specs.inner.Windows.{windowOf}
+use Rattle.words.proofs.Windows.{windowFrom, window-first, window-end, window-other, window-more, window-broken}
+use Rattle.words.proofs.window_of.Statement.{statement}
+use Rattle.words.proofs.window_of.Tie as tie
 
 abbrev Inv-loop : tie.InvT-loop
 Inv-loop table k₀ r₀ k r = (k ≤ r) × (r ≤ length table / 4) × (windowFrom k (drop r (rowsOf table)) ≡ windowOf (rowsOf table))

@@ -6,7 +6,7 @@ use Prim.Native.String as text
 use lib.Dec.{eqb, leb}
 use lib.ListN.{drop, replicate}
 use Rattle.terms.specs.declared.Record.{Record}
-use Rattle.pages.specs.Page.{word, blankLine, pageLines, joined}
+use Rattle.result_sheets.specs.Page.{word, blankLine, pageLines, joined}
 
 -- Whether a byte is a blank, a digit or a small letter.
 unfoldable pub isCharacter : ℕ → Bool

@@ -13,9 +13,9 @@ use Rattle.laws.specs.Lists.{countUp}
 use Rattle.terms.specs.declared.Record.{Record}
 use Rattle.answers.specs.declared.AnswerRow.{AnswerRow}
 use Rattle.answers.specs.Answer.{answerRowsOf, answerRowAt, noAnswerRow}
-use Rattle.pages.specs.Page.{cell, lineOf, namesLine, pieceLine, outcomeLine, blankLine, pagePieces, listed, pageCount, pageLine, pageLines, joined, pageText}
-use Rattle.pages.specs.AllPages.{blankPage, belowNames}
-use Rattle.pages.proofs.Listing.{listed-solved, listed-other, line-there, line-past, listed-past, listed-piece, piece-row, sixty}
+use Rattle.result_sheets.specs.Page.{cell, lineOf, namesLine, pieceLine, outcomeLine, blankLine, pagePieces, listed, pageCount, pageLine, pageLines, joined, pageText}
+use Rattle.result_sheets.specs.AllPages.{blankPage, belowNames}
+use Rattle.result_sheets.proofs.Listing.{listed-solved, listed-other, line-there, line-past, listed-past, listed-piece, piece-row, sixty}
 
 module _ (found : Record) (answer : List ℕ) where
   -- how many lines are listed below the names: as many as pieces, and one for any outcome but 2

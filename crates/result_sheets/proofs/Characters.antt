@@ -10,8 +10,8 @@ use borrow.Author.Tests.{le-leb, ne-eqb}
 use Rattle.answers.specs.declared.AnswerRow.{AnswerRow}
 use Rattle.sheets.specs.Writing.{digits}
 use Rattle.sheets.proofs.Lengths.{digits-few}
-use Rattle.pages.specs.Page.{word, cell, lineOf, namesLine, pieceLine, outcomeLine, blankLine}
-use Rattle.pages.specs.AllPages.{isCharacter}
+use Rattle.result_sheets.specs.Page.{word, cell, lineOf, namesLine, pieceLine, outcomeLine, blankLine}
+use Rattle.result_sheets.specs.AllPages.{isCharacter}
 
 -- Bytes each of which is a character.
 pub data Characters : List ℕ → Type 0 where

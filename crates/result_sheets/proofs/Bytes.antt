@@ -9,12 +9,13 @@ use lib.Dec.{ltb, eqb}
 use lib.ListN.{length, getD, replicate, length-append, getD-replicate, List·getD-append}
 use lib.Seq.{getD-append-add, getD-at}
 use Rattle.laws.specs.Lists.{countUp}
+use Rattle.laws.proofs.CountUp.{count-read}
 use Rattle.terms.specs.declared.Record.{Record}
 use Rattle.answers.specs.declared.AnswerRow.{AnswerRow}
-use Rattle.pages.specs.AllPages.{isCharacter}
-use Rattle.pages.specs.Page.{pieceLine, outcomeLine, blankLine, pagePieces, listed, onPage, pageCount, pageLine, pageLines, joined, pageText}
-use Rattle.pages.proofs.Characters.{IsLine, character-at, names-is, piece-is, outcome-is, blank-is, line-long}
-use Rattle.pages.proofs.Listing.{count-read, sixty}
+use Rattle.result_sheets.specs.AllPages.{isCharacter}
+use Rattle.result_sheets.specs.Page.{pieceLine, outcomeLine, blankLine, pagePieces, listed, onPage, pageCount, pageLine, pageLines, joined, pageText}
+use Rattle.result_sheets.proofs.Characters.{IsLine, character-at, names-is, piece-is, outcome-is, blank-is, line-long}
+use Rattle.result_sheets.proofs.Listing.{sixty}
 
 module _ (found : Record) (answer : List ℕ) where
   -- each is a line

@@ -11,7 +11,7 @@ use Rattle.terms.specs.Faults.{isAccepted, firstFault}
 use Rattle.terms.specs.Calls.{refusal, completed, faultRecord, stopAt}
 use Rattle.laws.specs.Buffers.{overwrite}
 use Rattle.answers.specs.Answer.{variableWidths}
-use Rattle.words.specs.Words.{wordsBits, sixteens}
+use Rattle.windows.specs.Words.{wordsBits, sixteens}
 
 -- Whether the first words of what is left of a run, one for each variable of a table, meet (satisfy) it. Word j is variable j.
 unfoldable pub meetsFront : List Row → List ℕ → Bool

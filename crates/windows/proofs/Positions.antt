@@ -1,37 +1,36 @@
 -- The theorems of marker positions (document 02, (ii)): which starts they are, that they rise, how they are counted, and what they depend
 -- on. Assumes nothing.
-use mathlib.Core.Path.{_≡_, refl, sym, _∙_, ap, fun-ext, subst}
-use mathlib.Core.Bool.{Bool, true, false, not, _&&_, cond}
+use mathlib.Core.Path.{_≡_, refl, sym, _∙_, ap, fun-ext}
+use mathlib.Core.Bool.{Bool, true, false, not, _&&_}
 use mathlib.Core.Logic.{_⊎_, inl, inr, _≢_}
 use mathlib.Core.List.{List, [], _∷_, _++_}
-use Prim.Native.Nat.{ℕ, zero, suc, _+_, _-_, _*_, _≤_, _<_}
+use Prim.Native.Nat.{ℕ, suc, _+_, _-_, _≤_, _<_}
 use native.Mathlib.Omega.{arith}
 use lib.Dec.{eqb, leb, ltb}
 use lib.ListN.{length, getD, take, drop, length-drop, length-append}
 use lib.Seq.{length-take-le, take-append-le}
-use borrow.Author.Tests.{eqb-true, leb-true, ltb-true, eq-eqb, ne-eqb, le-leb, lt-leb, lt-ltb, le-ltb, not-true}
+use borrow.Author.Tests.{leb-true, ltb-true, eq-eqb, ne-eqb, le-leb, lt-leb, lt-ltb, le-ltb, not-true}
 use Rattle.terms.specs.declared.Row.{Row}
 use Rattle.terms.specs.declared.Fault.{Fault}
 use Rattle.terms.specs.declared.Fault.the-variants.{Accepted}
 use Rattle.terms.specs.Assignments.{Assignment}
 use Rattle.terms.specs.Calls.{stopAt}
 use Rattle.terms.specs.Faults.{isAccepted, firstFault}
-use Rattle.terms.specs.Table.{rowsOf, bitsIn, bitsOf, countKind, satisfies}
+use Rattle.terms.specs.Table.{rowsOf, bitsOf, countKind, satisfies}
 use Rattle.terms.proofs.AcceptedTable.{fault-none}
 use Rattle.terms.proofs.Assignments.{every-at}
-use Rattle.terms.proofs.RowKinds.{by-variable, bits-variable, bits-other}
-use Rattle.laws.specs.Buffers.{overwrite}
 use Rattle.laws.specs.Lists.{countUp, member}
+use Rattle.laws.proofs.Buffers.{overwrite-first}
 use Rattle.laws.proofs.Bools.{and-parts, and-both, or-right}
 use Rattle.laws.proofs.Numbers.{lt-or-le}
 use Rattle.answers.specs.Answer.{variableWidths}
 use Rattle.answers.specs.Solve.{valid, unsatisfiable}
-use Rattle.words.specs.Words.{wordsBits, sixteens}
-use Rattle.words.proofs.WordsBits.{words-assignment}
-use Rattle.words.proofs.Satisfying.{sixteen-bits}
-use Rattle.positions.specs.Call.{meetsFront, startsFrom, positionsOf, breaks41, breaks42, positionsRecord, positionsAfter}
-use Rattle.positions.specs.Positions.{Found, Rising, Counted, EachSixteen, Refused, Ends, SamePatterns, Overlap}
-use Rattle.positions.proofs.Starts.{starts-are, starts-rise, starts-once, starts-none, starts-all, ending-inside}
+use Rattle.answers.proofs.Variables.{variables-count}
+use Rattle.windows.specs.Words.{wordsBits, sixteens}
+use Rattle.windows.proofs.Sixteens.{sixteens-of, sixteens-at, window-bits}
+use Rattle.windows.specs.Call.{meetsFront, startsFrom, positionsOf, breaks41, breaks42, positionsRecord, positionsAfter}
+use Rattle.windows.specs.Positions.{Found, Rising, Counted, EachSixteen, Refused, Ends, SamePatterns, Overlap}
+use Rattle.windows.proofs.Starts.{starts-are, starts-rise, starts-once, starts-none, starts-all, ending-inside}
 
 -- (a) Which they are.
 pub positions-found : (t : List Row) → 1 ≤ countKind 0 t → (words : List ℕ) (i : ℕ) → Found t words i
@@ -67,30 +66,10 @@ unfolding positionsOf
 positions-rise t words = record { rises = starts-rise (meetsFront t) 0 words; once = starts-once (meetsFront t) 0 words }
 
 -- ---- a table of 16-bit variables
-widths-count : (t : List Row) → length (variableWidths t) ≡ countKind 0 t
-unfolding variableWidths countKind
-widths-count [] = refl
-widths-count (r ∷ t) =
-    by-variable r (r .a ∷ variableWidths t) (variableWidths t) (λ (ws : List ℕ). length ws ≡ cond (eqb (r .kind) 0) 1 0 + countKind 0 t)
-    (λ e. rw (eq-eqb (r .kind) 0 e) (omega (arith, widths-count t)))
-    (λ n. rw (ne-eqb (r .kind) 0 n) (omega (arith, widths-count t)))
 
-sixteens-of : (ws : List ℕ) → ((v : ℕ) → v < length ws → getD ws v 0 ≡ 16) → sixteens ws ≡ true
-unfolding sixteens
-sixteens-of [] h = refl
-sixteens-of (w ∷ ws) h = and-both (eqb w 16) (sixteens ws) (eq-eqb w 16 (h 0 (omega arith))) (sixteens-of ws (λ v l. h (suc v) (omega arith)))
-
-sixteens-at : (ws : List ℕ) → sixteens ws ≡ true → (v : ℕ) → v < length ws → getD ws v 0 ≡ 16
-unfolding sixteens
-sixteens-at [] h v l = absurd (omega arith)
-sixteens-at (w ∷ ws) h zero l = eqb-true w 16 (and-parts (eqb w 16) (sixteens ws) h .0)
-sixteens-at (w ∷ ws) h (suc v) l = sixteens-at ws (and-parts (eqb w 16) (sixteens ws) h .1) v (omega arith)
-
-window-bits : (t : List Row) → EachSixteen t → (rest : List ℕ) → countKind 0 t ≤ length rest → Assignment (bitsOf t) (wordsBits (take (countKind 0 t) rest))
-window-bits t h rest l =
-    let e : 16 * length (take (countKind 0 t) rest) ≡ bitsOf t =
-    ap (λ (n : ℕ). 16 * n) (length-take-le (countKind 0 t) rest l) ∙ sym (sixteen-bits t (sixteens-of (variableWidths t) h)) in
-    subst (λ (n : ℕ). Assignment n (wordsBits (take (countKind 0 t) rest))) e (words-assignment (take (countKind 0 t) rest))
+-- the first words of what is left of a run are an assignment
+front-bits : (t : List Row) → EachSixteen t → (rest : List ℕ) → countKind 0 t ≤ length rest → Assignment (bitsOf t) (wordsBits (take (countKind 0 t) rest))
+front-bits t h rest l = window-bits t (sixteens-of (variableWidths t) h) (take (countKind 0 t) rest) (length-take-le (countKind 0 t) rest l)
 
 -- a window is missing, or it is there
 meets-short : (t : List Row) (rest : List ℕ) → length rest < countKind 0 t → meetsFront t rest ≡ false
@@ -107,13 +86,6 @@ none-short t i [] l = refl
 none-short t i (w ∷ rest) l = rw (meets-short t (w ∷ rest) l) (none-short t (suc i) rest (omega arith))
 
 -- ---- (c) the record and the list of an accepted call
-overwrite-first : (new old : List ℕ) → overwrite new old ≡ take (length old) new ++ drop (length new) old
-unfolding overwrite
-overwrite-first [] [] = refl
-overwrite-first [] (y ∷ old) = refl
-overwrite-first (x ∷ new) [] = refl
-overwrite-first (x ∷ new) (y ∷ old) = ap (λ (l : List ℕ). x ∷ l) (overwrite-first new old)
-
 keeps-41 : (t : List Row) → 1 ≤ countKind 0 t → EachSixteen t → breaks41 t ≡ false
 unfolding breaks41
 keeps-41 t one h = rw (ne-eqb (countKind 0 t) 0 (λ e. omega arith), sixteens-of (variableWidths t) h) refl
@@ -165,7 +137,7 @@ positions-ends t one h words = record { short-none = none-short t 0 words; never
         fails rest (inl l) = meets-short t rest l
         fails rest (inr l) =
             meets-there t rest l
-            ∙ not-true (satisfies t (wordsBits (take (countKind 0 t) rest))) (every-at (bitsOf t) (λ p. not (satisfies t p)) u (wordsBits (take (countKind 0 t) rest)) (window-bits t h rest l))
+            ∙ not-true (satisfies t (wordsBits (take (countKind 0 t) rest))) (every-at (bitsOf t) (λ p. not (satisfies t p)) u (wordsBits (take (countKind 0 t) rest)) (front-bits t h rest l))
 
     always : valid t ≡ true → startsFrom (meetsFront t) 0 words ≡ countUp 0 (length words + 1 - countKind 0 t)
     always v = ap (λ (f : List ℕ → Bool). startsFrom f 0 words) (fun-ext (λ rest. asks rest (lt-or-le (length rest) (countKind 0 t)))) ∙ starts-all (countKind 0 t) one 0 words
@@ -173,7 +145,7 @@ positions-ends t one h words = record { short-none = none-short t 0 words; never
         asks : (rest : List ℕ) → (length rest < countKind 0 t) ⊎ (countKind 0 t ≤ length rest) → meetsFront t rest ≡ leb (countKind 0 t) (length rest)
         asks rest (inl l) = meets-short t rest l ∙ sym (lt-leb (countKind 0 t) (length rest) l)
         asks rest (inr l) =
-            meets-there t rest l ∙ every-at (bitsOf t) (satisfies t) v (wordsBits (take (countKind 0 t) rest)) (window-bits t h rest l) ∙ sym (le-leb (countKind 0 t) (length rest) l)
+            meets-there t rest l ∙ every-at (bitsOf t) (satisfies t) v (wordsBits (take (countKind 0 t) rest)) (front-bits t h rest l) ∙ sym (le-leb (countKind 0 t) (length rest) l)
 
 -- (f) The same variables and the same patterns give the same positions.
 pub positions-same : (t u : List Row) → EachSixteen t → variableWidths t ≡ variableWidths u → SamePatterns t u → (words : List ℕ) → positionsOf t words ≡ positionsOf u words
@@ -181,12 +153,12 @@ unfolding positionsOf
 positions-same t u h w s words = ap (λ (f : List ℕ → Bool). startsFrom f 0 words) (fun-ext (λ rest. alike rest (lt-or-le (length rest) (countKind 0 t))))
   where
     k : countKind 0 t ≡ countKind 0 u
-    k = sym (widths-count t) ∙ ap length w ∙ widths-count u
+    k = sym (variables-count t) ∙ ap length w ∙ variables-count u
 
     alike : (rest : List ℕ) → (length rest < countKind 0 t) ⊎ (countKind 0 t ≤ length rest) → meetsFront t rest ≡ meetsFront u rest
     alike rest (inl l) = meets-short t rest l ∙ sym (meets-short u rest (omega (arith, k)))
     alike rest (inr l) =
-        meets-there t rest l ∙ s (wordsBits (take (countKind 0 t) rest)) (window-bits t h rest l)
+        meets-there t rest l ∙ s (wordsBits (take (countKind 0 t) rest)) (front-bits t h rest l)
         ∙ ap (λ (n : ℕ). satisfies u (wordsBits (take n rest))) k ∙ sym (meets-there u rest (omega (arith, k)))
 
 -- (g) Windows overlap freely.

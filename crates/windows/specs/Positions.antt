@@ -16,8 +16,8 @@ use Rattle.terms.specs.Table.{rowsOf, bitsOf, countKind, satisfies}
 use Rattle.laws.specs.Lists.{countUp, member, distinct}
 use Rattle.answers.specs.Answer.{variableWidths}
 use Rattle.answers.specs.Solve.{valid, unsatisfiable}
-use Rattle.words.specs.Words.{wordsBits}
-use Rattle.positions.specs.Call.{positionsOf, positionsRecord, positionsAfter}
+use Rattle.windows.specs.Words.{wordsBits}
+use Rattle.windows.specs.Call.{positionsOf, positionsRecord, positionsAfter}
 
 -- (a) Number i is one of them exactly if a window that starts there lies in the run and its pattern meets the table.
 abbrev pub Found : List Row → List ℕ → ℕ → Type 0

@@ -1,18 +1,16 @@
 -- The bits of words: how many they are, each of them, and that they are an assignment. Assumes nothing.
-use mathlib.Core.Path.{_≡_, refl, sym, _∙_, ap, ap₂}
+use mathlib.Core.Path.{_≡_, refl, sym, _∙_, ap}
 use mathlib.Core.List.{List, [], _∷_, _++_}
-use Prim.Native.Nat.{ℕ, zero, suc, _+_, _-_, _*_, _/_, _%_, _^_, _≤_, _<_}
+use Prim.Native.Nat.{ℕ, zero, suc, _+_, _-_, _*_, _/_, _%_, _^_, _<_}
 use native.Mathlib.Omega.{arith}
 use native.Mathlib.Nat.{zero-div}
-use lib.ListN.{length, getD, length-append, List·getD-append}
+use lib.ListN.{length, getD, List·getD-append}
 use lib.Seq.{getD-append-add}
 use Rattle.laws.specs.Binary.{binary}
 use Rattle.laws.proofs.Binary.{binary-length, binary-at}
 use Rattle.terms.specs.Assignments.{Assignment}
-use Rattle.terms.specs.Table.{bitOf}
 use Rattle.terms.proofs.Assignments.{assignment-of}
-use Rattle.groups.specs.inner.Places.{sourceBit}
-use Rattle.words.specs.Words.{wordsBits}
+use Rattle.windows.specs.Words.{wordsBits}
 
 pub words-length : (window : List ℕ) → length (wordsBits window) ≡ 16 * length window
 unfolding wordsBits binary
@@ -30,15 +28,6 @@ words-at (w ∷ ws) zero q h =
 words-at (w ∷ ws) (suc v) q h =
     let e : 16 * suc v + q ≡ length (binary 16 w) + (16 * v + q) = omega (arith, binary-length 16 w) in
     ap (λ (i : ℕ). getD (binary 16 w ++ wordsBits ws) i 0) e ∙ getD-append-add (binary 16 w) (wordsBits ws) (16 * v + q) 0 ∙ words-at ws v q h
-
--- The bit of a source is that of the window's bits.
-pub source-bit : (window : List ℕ) (s : ℕ) → bitOf (wordsBits window) s ≡ sourceBit window s
-unfolding bitOf sourceBit
-source-bit window zero = refl
-source-bit window (suc zero) = refl
-source-bit window (suc (suc i)) =
-    let e : i ≡ 16 * (i / 16) + i % 16 = omega arith in
-    ap (λ (n : ℕ). getD (wordsBits window) n 0) e ∙ words-at window (i / 16) (i % 16) (omega arith)
 
 pub words-assignment : (window : List ℕ) → Assignment (16 * length window) (wordsBits window)
 words-assignment window =
