@@ -14,7 +14,7 @@ use Rattle.laws.proofs.Bools.{and-first, and-second, clash, cond-most}
 use Rattle.laws.proofs.Least.{least-passed}
 use Rattle.laws.proofs.Numbers.{lt-or-le, at-or-after}
 use Rattle.answers.specs.declared.AnswerRow.{AnswerRow}
-use Rattle.answers.specs.Answer.{answerRowAt, noAnswerRow, answerRowsOf, answerNumbers, isFresh, freshNumbers, freshWidth, widthIn}
+use Rattle.answers.specs.Answer.{answerRowAt, noAnswerRow, answerRowsOf, answerNumbers, isFresh, freshNumbers, freshWidth, widthInRows}
 use Rattle.answers.proofs.AnswerNumbers.{rows-back}
 use Rattle.assignments.specs.Form.{variableFine, kindFine, widthFine, variableWide, patternBits, patternWide, fillFine, neighboursFine, lowestUnseen, freshFine, rowFine, rowsFine, homesFine, hasForm}
 use Rattle.assignments.proofs.Turning.{variable-after}
@@ -75,8 +75,8 @@ bits-behind zero rows = omega arith
 bits-behind (suc j) [] = omega arith
 bits-behind (suc j) (r ∷ rows) = omega (arith, bits-behind j rows)
 
-in-variable : (rows : List AnswerRow) (v : ℕ) → widthIn rows v ≤ patternBits rows
-unfolding widthIn patternBits
+in-variable : (rows : List AnswerRow) (v : ℕ) → widthInRows rows v ≤ patternBits rows
+unfolding widthInRows patternBits
 in-variable [] v = omega arith
 in-variable (r ∷ rows) v = omega (arith, in-variable rows v, cond-most (eqb (r .variable) v) (r .width))
 

@@ -9,7 +9,7 @@ use lib.Dec.{eqb}
 use lib.ListN.{take}
 use borrow.Author.Tests.{le-ltb}
 use Rattle.answers.specs.declared.AnswerRow.{AnswerRow}
-use Rattle.answers.specs.Answer.{isFresh, freshNumbers, freshWidth, freshStart, widthIn}
+use Rattle.answers.specs.Answer.{isFresh, freshNumbers, freshWidth, freshStart, widthInRows}
 use Rattle.laws.specs.Lists.{member}
 use Rattle.laws.proofs.Numbers.{dec-eq, eqb-turn}
 use Rattle.assignments.specs.Form.{variableFine, neighboursFine, patternBits}
@@ -35,8 +35,8 @@ neighbours-fresh (a ∷ []) r l = rw (le-ltb (r .kind) 2 l)
 neighbours-fresh (a ∷ b ∷ rows) r l = neighbours-fresh (b ∷ rows) r l
 
 -- widths
-pub width-more : (before : List AnswerRow) (s : AnswerRow) (v : ℕ) → widthIn (before ++ (s ∷ [])) v ≡ widthIn before v + cond (eqb (s .variable) v) (s .width) 0
-unfolding widthIn
+pub width-more : (before : List AnswerRow) (s : AnswerRow) (v : ℕ) → widthInRows (before ++ (s ∷ [])) v ≡ widthInRows before v + cond (eqb (s .variable) v) (s .width) 0
+unfolding widthInRows
 width-more [] s v = omega arith
 width-more (a ∷ before) s v = omega (arith, width-more before s v)
 

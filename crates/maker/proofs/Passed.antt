@@ -9,7 +9,7 @@ use lib.Dec.{eqb, ltb}
 use lib.ListN.{length, getD}
 use borrow.Author.Tests.{eqb-true, ne-eqb, lt-ltb, le-ltb}
 use Rattle.answers.specs.declared.AnswerRow.{AnswerRow}
-use Rattle.answers.specs.Answer.{isFresh, freshNumbers, freshWidth, freshStart, widthIn}
+use Rattle.answers.specs.Answer.{isFresh, freshNumbers, freshWidth, freshStart, widthInRows}
 use Rattle.laws.specs.Lists.{member}
 use Rattle.laws.proofs.Numbers.{lt-or-le}
 use Rattle.laws.proofs.Bools.{and-second}
@@ -30,7 +30,7 @@ pub record Passed (before : List AnswerRow) (p : Progress) (widths starts : List
   pub variable-is : (r : AnswerRow) → variableFine before r ≡ ltb (r .variable) 64 && (eqb (r .variable) (p .variable) || eqb (r .variable) (p .next))
   pub rising : p .variable ≤ p .next
   pub neighbours-are : (r : AnswerRow) → r .kind < 2 → neighboursFine before r ≡ not (eqb (r .variable) (p .variable) && eqb (r .kind) (p .kind))
-  pub width-is : (v : ℕ) → p .variable ≤ v → widthIn before v ≡ widthBefore p v
+  pub width-is : (v : ℕ) → p .variable ≤ v → widthInRows before v ≡ widthBefore p v
   pub bits-are : p .bits ≡ patternBits before
   pub few-bits : p .bits ≤ 4096
   pub few-rows : length before ≤ p .bits
@@ -66,7 +66,7 @@ same-either true = refl
 same-either false = refl
 
 pub passed-none : (widths starts : List ℕ) → Passed [] atFirst widths starts
-unfolding variableFine neighboursFine widthIn widthBefore patternBits freshNumbers member freshStart
+unfolding variableFine neighboursFine widthInRows widthBefore patternBits freshNumbers member freshStart
 passed-none widths starts = record {
   variable-is = λ r. first-variable (r .variable);
   rising = omega arith;

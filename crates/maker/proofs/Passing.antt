@@ -11,7 +11,7 @@ use lib.ListN.{length, getD, set, length-append, List·getD-append}
 use lib.Seq.{getD-set-same, getD-set-other, getD-append-seam}
 use borrow.Author.Tests.{eqb-true, eq-eqb, ne-eqb, lt-ltb, le-ltb, ltb-true}
 use Rattle.answers.specs.declared.AnswerRow.{AnswerRow}
-use Rattle.answers.specs.Answer.{isFresh, freshNumbers, freshWidth, freshStart, widthIn}
+use Rattle.answers.specs.Answer.{isFresh, freshNumbers, freshWidth, freshStart, widthInRows}
 use Rattle.laws.specs.Lists.{member}
 use Rattle.laws.proofs.Numbers.{dec-eq}
 use Rattle.laws.proofs.Numbers.{lt-or-le}
@@ -168,17 +168,17 @@ module _ (before : List AnswerRow) (p : Progress) (widths starts : List ℕ) (k 
       go (inl h) = rw (lt-ltb (r .kind) 2 h, eqb-turn (r .variable) (q .variable), eqb-turn (r .kind) (q .kind)) (not-and (eqb (q .variable) (r .variable)) (eqb (q .kind) (r .kind)))
       go (inr h) = rw (le-ltb (r .kind) 2 h, ne-eqb (q .kind) (r .kind) (omega arith), and-false (eqb (q .variable) (r .variable)))
 
-  width-then : (v : ℕ) → r .variable ≤ v → widthIn after v ≡ widthBefore then v
+  width-then : (v : ℕ) → r .variable ≤ v → widthInRows after v ≡ widthBefore then v
   width-then v l = width-more before s v ∙ go (dec-eq v (r .variable))
     where
-      go : (v ≡ r .variable) ⊎ (v ≢ r .variable) → widthIn before v + cond (eqb (r .variable) v) (r .width) 0 ≡ widthBefore then v
+      go : (v ≡ r .variable) ⊎ (v ≢ r .variable) → widthInRows before v + cond (eqb (r .variable) v) (r .width) 0 ≡ widthBefore then v
       go (inl e) = unfold widthBefore in rw (e, eq-eqb (r .variable) (r .variable) refl) (ap (λ (x : ℕ). x + r .width) (here))
         where
-          here : widthIn before (r .variable) ≡ cond (eqb (r .variable) (p .variable)) (p .width) 0
+          here : widthInRows before (r .variable) ≡ cond (eqb (r .variable) (p .variable)) (p .width) 0
           here = unfold widthBefore in (k .width-is (r .variable) reaches)
       go (inr e) = unfold widthBefore in rw (ne-eqb (r .variable) v (λ q. e (sym q)), ne-eqb v (r .variable) e) (omega (arith, above))
         where
-          above : widthIn before v ≡ 0
+          above : widthInRows before v ≡ 0
           above = k .width-is v (omega (arith, reaches)) ∙ (unfold widthBefore in rw (ne-eqb v (p .variable) (λ q. e (omega (arith, reaches)))))
 
   widths-old : (j : ℕ) → j < p .pieces → freshWidth after j ≡ freshWidth before j

@@ -4,36 +4,14 @@ ghost use mathlib.Core.Path.{_≡_};
 ghost use mathlib.Core.Bool.{cond};
 ghost use Prim.Native.Nat.{_+_, _≤_, _<_};
 ghost use lib.ListN.{length, set};
-ghost use Rattle.terms.specs.Table.{rowsOf};
 ghost use Rattle.laws.specs.Buffers.{overwrite};
 ghost use Rattle.words.specs.inner.Plan.{meetsPlan};
-ghost use Rattle.positions.specs.Call.{startsFrom, positionsRecord, positionsAfter};
-ghost use Rattle.positions.specs.inner.Starts.{windowOf, meetsAhead};
+ghost use Rattle.windows.specs.Call.{startsFrom, positionsRecord, positionsAfter};
+ghost use Rattle.positions.specs.inner.Starts.{meetsAhead};
 use terms::Record;
 
 // How many words a run has at most.
 pub const MAX_WORDS: usize = 1048576;
-
-// How many words a window has: one for each variable, if each has 16 bits; else 0.
-fn window_of(table: &[u16]) -> usize
-    ensures { λ r. ⌜ r ≡ windowOf (rowsOf (now (table .entry))) ⌝ }
-{
-    let mut k = 0;
-    let mut r = 0;
-    while r < table.len() / 4 {
-        let row = rows::row_at(table, r);
-        let kind = row.kind;
-        let width = row.a;
-        if kind == terms::VARIABLE {
-            if width != 16 {
-                return 0;
-            }
-            k += 1;
-        }
-        r += 1;
-    }
-    k
-}
 
 // Takes one start: if its window meets the plan it is counted, and written where the list has room.
 fn take_start(plan: &[u16], window: &[u16], i: usize, found: usize, list: &mut [u32]) -> usize
@@ -79,7 +57,7 @@ pub fn marker_positions(table: &[u16], words: &[u16], list: &mut [u32]) -> Recor
     if !records::accepted(fault) {
         return records::fault_record(fault);
     }
-    let k = window_of(table);
+    let k = words::window_of(table);
     if k == 0 {
         return records::refuse(41, 0);
     }

@@ -32,7 +32,7 @@ use Rattle.assignments.proofs.Theorems.{solved-form}
 use Rattle.homes.specs.inner.Homes.{Orderly, PutsHomes}
 use Rattle.homes.proofs.Forms.{orderly-written}
 use Rattle.borders.specs.inner.Rows.{RowsPut, PutsRows}
-use Rattle.borders.proofs.Answering.{bits-most}
+use Rattle.terms.proofs.AcceptedTable.{table-bits}
 use Rattle.linking.specs.inner.Classes.{ClassesTaken}
 use Rattle.solver.specs.inner.Call.{answerOver, foursOver, Concluded, Answered, TakenOf}
 
@@ -67,7 +67,7 @@ module _ (table other links answer : List ℕ) (row ties : ℕ) (F : TakenOf tab
   same-bits = sym (widths-sum (rowsOf table)) ∙ ap widthSum (sym (F .variables)) ∙ widths-sum (rowsOf other)
 
   few-bits : n ≤ 4096
-  few-bits = bits-most other accepted
+  few-bits = table-bits other accepted
 
   pub conclude-never : row < length (rowsOf table) → (r : Record) → r ≡ neverRecord (ties % 4294967296) (row % 4294967296) → Concluded (rowsOf other) answer answer r
   unfolding foursOver

@@ -10,7 +10,7 @@ use Rattle.terms.specs.declared.Row.{Row}
 use Rattle.terms.specs.Table.{rowAt}
 use Rattle.terms.proofs.RowKinds.{of-term}
 use Rattle.sides.specs.inner.Sides.{leftSide, rightSide, sideWritten, SidesWritten}
-use Rattle.sides.proofs.NextEquation.{Passed}
+use Rattle.terms.proofs.NextEquation.{Passed}
 use Rattle.taking.specs.inner.Equations.{formsWritten, FormsLeft}
 
 -- a row that is no equation writes nothing

@@ -22,7 +22,7 @@ use Rattle.classes.proofs.Roots.{roots-length, stands-roots, taken-alike}
 use Rattle.classes.proofs.Taking.{tie-or-not, no-conflict, a-conflict}
 use Rattle.terms.proofs.RowKinds.{of-term}
 use Rattle.sides.specs.inner.Sides.{pairsFrom}
-use Rattle.sides.proofs.NextEquation.{Passed}
+use Rattle.terms.proofs.NextEquation.{Passed}
 use Rattle.taking.specs.inner.Equations.{Holding, EquationsTaken}
 
 -- ---- one pair more at the end of those taken

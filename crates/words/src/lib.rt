@@ -5,6 +5,8 @@ ghost use Prim.Native.Nat.{_+_, _≤_, _<_, min};
 ghost use lib.ListN.{length, getD};
 ghost use Rattle.laws.specs.Lists.{below};
 ghost use Rattle.groups.specs.inner.Places.{equalTest};
+ghost use Rattle.terms.specs.Table.{rowsOf};
+ghost use Rattle.words.specs.inner.Windows.{windowOf};
 ghost use Rattle.words.specs.inner.Plan.{fixedTest, meetsPlan, FixedBits, FixedRowPut, PutsFixed, PutsRows, PutsNever, Plans, Prepares};
 
 // How many numbers a plan has: row 0, and room for 64 fixed rows and 1,023 equal rows.
@@ -177,6 +179,27 @@ fn plan_table(
         return;
     }
     put_rows(links, k, plan);
+}
+
+// How many words a window has: one for each variable, if each has 16 bits; else 0.
+pub fn window_of(table: &[u16]) -> usize
+    ensures { λ r. ⌜ r ≡ windowOf (rowsOf (now (table .entry))) ⌝ }
+{
+    let mut k = 0;
+    let mut r = 0;
+    while r < table.len() / 4 {
+        let row = rows::row_at(table, r);
+        let kind = row.kind;
+        let width = row.a;
+        if kind == terms::VARIABLE {
+            if width != 16 {
+                return 0;
+            }
+            k += 1;
+        }
+        r += 1;
+    }
+    k
 }
 
 // The plan of an accepted table whose variables have 16 bits each, from the widths of its rows, in room for PLAN numbers: `meets` tells

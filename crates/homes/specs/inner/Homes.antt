@@ -7,7 +7,7 @@ use lib.Dec.{eqb, ltb}
 use lib.ListN.{length, getD, set, drop}
 use Rattle.laws.specs.Buffers.{overwrite, setFour}
 use Rattle.answers.specs.declared.AnswerRow.{AnswerRow}
-use Rattle.answers.specs.Answer.{answerRowAt, isFresh, widthIn, highBit, homeRow, answerNumbers, answerRowsOf}
+use Rattle.answers.specs.Answer.{answerRowAt, isFresh, widthInRows, highBit, homeRow, answerNumbers, answerRowsOf}
 use Rattle.answers.specs.inner.FourNumbers.{fourNumbers}
 
 -- The row whose own four numbers stand from a place on.
@@ -18,7 +18,7 @@ columnsAt t at = record { variable = getD t at 0; kind = getD t (at + 1) 0; widt
 pub record Orderly (rows : List AnswerRow) : Type 0 where
   pub few : length rows ≤ 4096
   pub rising : (i j : ℕ) → i ≤ j → j < length rows → answerRowAt rows i .variable ≤ answerRowAt rows j .variable
-  pub short : (j v : ℕ) → widthIn (drop j rows) v ≤ 4096
+  pub short : (j v : ℕ) → widthInRows (drop j rows) v ≤ 4096
   pub numbered : (j seen : ℕ) → j < length rows → isFresh (answerRowAt rows j) ≡ true
       → ((i : ℕ) → i < j → isFresh (answerRowAt rows i) ≡ true → answerRowAt rows i .fresh < seen) → answerRowAt rows j .fresh ≤ seen
 

@@ -12,7 +12,8 @@ use Rattle.terms.specs.Calls.{faultRecord}
 use Rattle.terms.specs.Faults.{isAccepted, firstFault}
 use Rattle.terms.proofs.AcceptedTable.{fault-none}
 use Rattle.checker.proofs.Checking.{fault-found, widths-left}
-use Rattle.positions.proofs.Stops.{window-there, stop-fault, stop-41, stop-42, found-all}
+use Rattle.words.proofs.Windows.{window-there}
+use Rattle.positions.proofs.Stops.{stop-fault, stop-41, stop-42, found-all}
 use borrow.Author.Needs.{needs}
 use Rattle.positions.proofs.marker_positions.Statement.{statement}
 use Rattle.positions.proofs.marker_positions.Tie as tie

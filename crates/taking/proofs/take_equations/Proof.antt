@@ -17,7 +17,7 @@ use Rattle.classes.specs.inner.Links.{numberOf, rootsOf, PairTaken}
 use Rattle.terms.specs.inner.Placed.{Numbered}
 use Rattle.sides.specs.inner.Reading.{Stands}
 use Rattle.sides.specs.inner.Sides.{Prepared, SidesWritten, SidesRead, leftSide, rightSide, pairsFrom}
-use Rattle.sides.proofs.NextEquation.{next-forth, next-passed}
+use Rattle.terms.proofs.NextEquation.{next-forth, next-passed}
 use Rattle.sides.proofs.EquationPairs.{sides-read}
 use Rattle.taking.specs.inner.Equations.{Holding}
 use Rattle.taking.proofs.Passing.{pairs-left, eight-alike, eight-on, eight-stand}

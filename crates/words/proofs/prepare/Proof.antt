@@ -7,7 +7,8 @@ use lib.Seq.{length-take-le, take-all}
 use denote.Ref.{now}
 use Rattle.terms.specs.Table.{rowsOf, bitsOf, countKind}
 use Rattle.terms.proofs.AcceptedTable.{accepted-table}
-use Rattle.words.proofs.Satisfying.{sixteen-bits, few-variables}
+use Rattle.terms.proofs.AcceptedTable.{few-variables}
+use Rattle.windows.proofs.Sixteens.{sixteen-bits}
 use borrow.Author.Needs.{needs}
 use Rattle.words.proofs.prepare.Statement.{statement}
 use Rattle.words.proofs.prepare.Tie as tie

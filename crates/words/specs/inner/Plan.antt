@@ -2,20 +2,21 @@
 -- there are. Fixed rows stand from row 1 on (at most 64), equal rows from row 65 on (at most 1,023).
 use mathlib.Core.Path.{_≡_}
 use mathlib.Core.Logic.{_⊎_}
-use mathlib.Core.Bool.{Bool, true, false, not, _&&_}
+use mathlib.Core.Bool.{Bool, true, false, _&&_}
 use mathlib.Core.List.{List}
 use Prim.Native.Nat.{ℕ, suc, _+_, _*_, _/_, _%_, _^_, _-_, _≤_, _<_, min}
 use lib.Bits.{bitAnd}
-use lib.Dec.{eqb, leb, ltb}
+use lib.Dec.{eqb, leb}
 use lib.ListN.{length, getD, take}
 use Rattle.terms.specs.declared.Fault.the-variants.{Accepted}
 use Rattle.terms.specs.Table.{rowsOf, bitsOf, widthOf, countKind, satisfies}
 use Rattle.terms.specs.Faults.{firstFault}
 use Rattle.terms.specs.inner.Places.{sourceBefore}
 use Rattle.laws.specs.Lists.{below}
-use Rattle.answers.specs.Answer.{implies, variableWidths}
+use Rattle.laws.specs.Bools.{implies}
+use Rattle.answers.specs.Answer.{variableWidths}
 use Rattle.groups.specs.inner.Places.{equalTest, fixedPlace, agreesAt}
-use Rattle.words.specs.Words.{wordsBits, sixteens}
+use Rattle.windows.specs.Words.{wordsBits, sixteens}
 
 -- A fixed row is x, mask, value, 0: the bits of word x that the mask has are the value.
 unfoldable pub fixedTest : List ℕ → List ℕ → ℕ → Bool
