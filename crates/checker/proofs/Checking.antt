@@ -6,7 +6,7 @@ use mathlib.Core.List.{List, [], _∷_}
 use Prim.Native.Nat.{ℕ, suc, _+_, _-_, _%_, _<_, _≤_}
 use native.Mathlib.Omega.{arith}
 use native.Mathlib.Numerals.{add-one}
-use borrow.Author.Tests.{lt-ltb, le-ltb, ne-eqb, eqb-true, eqb-false}
+use borrow.Author.Tests.{lt-ltb, le-ltb, ltb-false, ne-eqb, eqb-true, eqb-false}
 use borrow.Author.Count.{below-more}
 use lib.Dec.{eqb, ltb}
 use lib.ListN.{length, getD, take, set}
@@ -217,12 +217,20 @@ module _ (table ws₀ ws : List ℕ) (variables bits equations r : ℕ) (k : Che
       ∙ ap (λ (n : ℕ). overwrite (widthsOf (take n rows)) ws₀) (let same : r ≡ length rows = omega (arith, k .within) in same ∙ sym (ap (λ (f : Fault). rowsBefore f (length rows)) e))
 
 -- the check with room for 512 widths
-pub fault-found : (room : ℕ) (table : List ℕ) → room ≡ 512 → faultIn room table ≡ firstFault table
+pub fault-found : (room : ℕ) (table : List ℕ) → 512 ≤ room → faultIn room table ≡ firstFault table
 unfolding faultIn
-fault-found room table e = rw e
+fault-found room table h = rw (le-ltb room 512 h) refl
+
+pub room-found : (room : ℕ) (table : List ℕ) → faultIn room table ≡ Accepted → 512 ≤ room
+unfolding faultIn
+room-found room table e = go (ltb room 512) refl e
+  where
+    go : (b : Bool) → ltb room 512 ≡ b → cond b Shape (firstFault table) ≡ Accepted → 512 ≤ room
+    go true t z = let w : _≡_ {A = ℕ} 0 1 = cc in absurd (omega arith)
+    go false t z = omega (arith, ltb-false room 512 t)
 
 -- the widths that an accepted table leaves
-pub widths-left : (table old : List ℕ) → length old ≡ 512 → firstFault table ≡ Accepted → (r : ℕ) → r < length (rowsOf table)
+pub widths-left : (table old : List ℕ) → 512 ≤ length old → firstFault table ≡ Accepted → (r : ℕ) → r < length (rowsOf table)
     → getD (overwrite (widthsOf (rowsPassed (length old) table)) old) r 0 ≡ widthOf (rowsOf table) r
 unfolding rowsPassed
 widths-left table old n f r h =

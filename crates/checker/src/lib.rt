@@ -5,10 +5,9 @@ ghost use Prim.Native.Nat.{_+_, _-_, _%_, _≤_};
 ghost use lib.ListN.{getD, length, take};
 ghost use Rattle.terms.specs.Table.{rowsOf, widthIn, widthsOf, bitsIn, bitsOf};
 ghost use Rattle.terms.specs.Faults.{unusedColumn, notTerm, misnamed, wrongWidth, wrongValue, wrongBounds, tooMany, firstRule};
-ghost use Rattle.checker.specs.inner.Check.{rulesIn, faultIn, rowsPassed, NumbersVariables, FindsSources, CheckedTable};
+ghost use Rattle.checker.specs.inner.Check.{rulesIn, faultIn, rowsPassed, NumbersVariables, FindsSources, NumbersTable, PlacesTable};
 ghost use Rattle.laws.specs.Buffers.{overwrite};
 use terms::Fault;
-use terms::Record;
 use terms::Row;
 
 // Rule 13: an unused column is not 0.
@@ -239,7 +238,7 @@ pub fn row_bits(row: Row) -> u32
 }
 
 // The check of a table. `widths` has room for 512 numbers, and afterwards the width of each row that was passed.
-pub fn check(table: &[u16], widths: &mut [u16]) -> Fault
+fn check(table: &[u16], widths: &mut [u16]) -> Fault
     ensures fault { λ f. ⌜ f ≡ faultIn (length (now (widths .entry))) (now (table .entry)) ⌝ }
     ensures widths { λ f. ⌜ now (widths .exit) ≡ overwrite (widthsOf (rowsPassed (length (now (widths .entry))) (now (table .entry)))) (now (widths .entry)) ⌝ }
 {
@@ -273,7 +272,7 @@ pub fn check(table: &[u16], widths: &mut [u16]) -> Fault
 
 // How many variable bits the first 512 rows have. `places` has afterwards, for each row of an accepted table, how many variables stand
 // before it, and from number 512 on, for each variable, the source before it, as far as there is room.
-pub fn place(table: &[u16], places: &mut [u16]) -> usize
+fn place(table: &[u16], places: &mut [u16]) -> usize
     ensures bits { λ n. ⌜ n ≡ bitsOf (take 512 (rowsOf (now (table .entry)))) ⌝ }
     ensures variables { λ _. ⌜ NumbersVariables (now (table .entry)) (length (now (places .entry))) (now (places .exit)) ⌝ }
     ensures sources { λ _. ⌜ FindsSources (now (table .entry)) (length (now (places .entry))) (now (places .exit)) ⌝ }
@@ -299,19 +298,20 @@ pub fn place(table: &[u16], places: &mut [u16]) -> usize
     bits
 }
 
-// What a table is found to be: refused, with its record; or accepted, with so many variable bits.
-pub enum Checked {
-    Refused(Record),
-    Bits(usize),
-}
+// Where the number of variable bits stands among the places.
+pub const BITS: usize = 577;
 
-// Checks a table, and places its variables: how each call on a table begins.
-pub fn check_and_place(table: &[u16], widths: &mut [u16; 512], places: &mut [u16; 577]) -> Checked
-    ensures { λ c. ⌜ CheckedTable (now (table .entry)) (now (widths .exit)) (now (places .exit)) c ⌝ }
+// Checks a table, and places the variables of an accepted one: how each call on a table begins. `widths` has room for 512 numbers; `places`
+// has what `place` leaves there, and at number 577, if there is room, how many variable bits the table has.
+pub fn check_and_place(table: &[u16], widths: &mut [u16], places: &mut [u16]) -> Fault
+    ensures fault { λ f. ⌜ f ≡ faultIn (length (now (widths .entry))) (now (table .entry)) ⌝ }
+    ensures numbered { λ f. ⌜ NumbersTable (now (table .entry)) (length (now (places .entry))) (now (widths .exit)) (now (places .exit)) f ⌝ }
+    ensures placed { λ f. ⌜ PlacesTable (now (table .entry)) (length (now (places .entry))) (now (widths .exit)) (now (places .exit)) f ⌝ }
 {
-    let fault = check(table, &mut widths[..]);
-    if !records::accepted(fault) {
-        return Checked::Refused(records::fault_record(fault));
+    let fault = check(table, widths);
+    if records::accepted(fault) {
+        let bits = place(table, places);
+        numbers::store(places, BITS, numbers::narrow(bits));
     }
-    Checked::Bits(place(table, &mut places[..]))
+    fault
 }

@@ -90,6 +90,7 @@ module _ (table copy : List ℕ) (accepted : firstFault table ≡ Accepted) (C :
         sources-are =
             λ v h.
             P .sources-are v (omega (arith, alike-count 4 0 (rowsOf copy) s equations, alike-count 3 0 s t cuts)) ∙ ap (λ (n : ℕ). n + 1) (sym (copy-places v));
+        bits-are = P .bits-are ∙ sym copy-bits;
         widths-room = omega (arith, copy-count, P .widths-room);
         places-room = P .places-room;
       }

@@ -150,17 +150,11 @@ pub fn value(table: &[u16], row: usize, pattern: &[u8], output: &mut [u8]) -> Re
     ensures output { λ r. ⌜ now (output .exit) ≡ valueAfter (now (table .entry)) row (now (pattern .entry)) (now (output .entry)) ⌝ }
 {
     let mut widths = [0u16; 512];
-    let mut places = [0u16; 577];
-    match checker::check_and_place(table, &mut widths, &mut places) {
-        checker::Checked::Refused(r) => r,
-        checker::Checked::Bits(bits) => value_in(
-            table,
-            &widths[..],
-            &places[..],
-            bits,
-            row,
-            pattern,
-            output,
-        ),
+    let mut places = [0u16; 578];
+    let fault = checker::check_and_place(table, &mut widths[..], &mut places[..]);
+    if !records::accepted(fault) {
+        return records::fault_record(fault);
     }
+    let bits = numbers::wide(places[checker::BITS]);
+    value_in(table, &widths[..], &places[..], bits, row, pattern, output)
 }

@@ -82,16 +82,11 @@ pub fn marker_positions(table: &[u16], words: &[u16], list: &mut [u32]) -> Recor
     ensures list { λ _. ⌜ now (list .exit) ≡ positionsAfter (now (table .entry)) (now (words .entry)) (now (list .entry)) ⌝ }
 {
     let mut widths = [0u16; 512];
-    let mut places = [0u16; 577];
-    match checker::check_and_place(table, &mut widths, &mut places) {
-        checker::Checked::Refused(r) => r,
-        checker::Checked::Bits(bits) => positions_in(
-            table,
-            &widths[..],
-            &places[..],
-            bits,
-            words,
-            list,
-        ),
+    let mut places = [0u16; 578];
+    let fault = checker::check_and_place(table, &mut widths[..], &mut places[..]);
+    if !records::accepted(fault) {
+        return records::fault_record(fault);
     }
+    let bits = numbers::wide(places[checker::BITS]);
+    positions_in(table, &widths[..], &places[..], bits, words, list)
 }

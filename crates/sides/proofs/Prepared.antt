@@ -12,7 +12,7 @@ use Rattle.terms.proofs.Faults.{totals-small}
 use Rattle.sides.specs.inner.Sides.{Prepared}
 
 -- behind 513 numbers stand the low sources
-lows-part : (places : List ℕ) (l v : ℕ) → l ≡ min 513 (length places) → 577 ≤ length places → v < 64
+lows-part : (places : List ℕ) (l v : ℕ) → l ≡ min 513 (length places) → 578 ≤ length places → v < 64
     → getD (take (length places - l) (drop l places)) v 0 ≡ getD places (512 + suc v) 0
 lows-part places l v e room h =
     let n : l + v ≡ 512 + suc v = omega arith in

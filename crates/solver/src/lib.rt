@@ -161,13 +161,13 @@ pub fn solve(table: &[u16], answer: &mut [u16], work: &mut [u16]) -> Record
         return records::refuse(10, 0);
     }
     let mut widths = [0u16; 512];
-    let mut places = [0u16; 577];
-    match checker::check_and_place(table, &mut widths, &mut places) {
-        checker::Checked::Refused(r) => r,
-        checker::Checked::Bits(bits) => {
-            let found = solve_placed(table, &widths[..], &places[..], bits, work, answer);
-            numbers::clear(work);
-            found
-        }
+    let mut places = [0u16; 578];
+    let fault = checker::check_and_place(table, &mut widths[..], &mut places[..]);
+    if !records::accepted(fault) {
+        return records::fault_record(fault);
     }
+    let bits = numbers::wide(places[checker::BITS]);
+    let found = solve_placed(table, &widths[..], &places[..], bits, work, answer);
+    numbers::clear(work);
+    found
 }

@@ -1,18 +1,14 @@
--- `check_and_place` meets its contract. Assumes nothing.
-use borrow.Author.Needs.{needs}
+-- `check_and_place` meets its contract: what is left where the table is accepted is in proofs/Placed.antt. Assumes nothing.
 use mathlib.Core.Path.{_≡_, sym, ap, _∙_}
-use mathlib.Core.List.{List}
+use mathlib.Core.Bool.{true, false}
 use Prim.Native.Nat.{ℕ}
 use native.Mathlib.Omega.{arith}
-use lib.ListN.{length, getD}
-use lib.Seq.{take-all}
 use denote.Ref.{now}
-use borrow.Author.Tests.{not-true, not-false}
-use Rattle.terms.specs.Table.{rowsOf, bitsOf}
-use Rattle.terms.specs.Faults.{isAccepted, firstFault}
-use Rattle.terms.proofs.AcceptedTable.{fault-none, accepted-table}
-use Rattle.terms.specs.Calls.{faultRecord}
-use Rattle.checker.proofs.Checking.{fault-found, widths-left}
+use Rattle.terms.specs.declared.Fault.the-variants.{Accepted}
+use Rattle.terms.specs.Faults.{isAccepted}
+use Rattle.laws.proofs.Bools.{clash}
+use Rattle.checker.proofs.Placed.{table-numbered, table-placed}
+use borrow.Author.Needs.{needs}
 use Rattle.checker.proofs.check_and_place.Statement.{statement}
 use Rattle.checker.proofs.check_and_place.Tie as tie
 
@@ -22,40 +18,42 @@ check-requires c κs = search needs
 accepted-requires : tie.Need-accepted-requires
 accepted-requires c κs = search needs
 
-fault-record-requires : tie.Need-fault-record-requires
-fault-record-requires c κs = search needs
-
-returns : tie.Need-returns
-returns c =
-    let size : length (now (c .before .before .before .before .before .before .args .widths)) ≡ 512 = search needs in
-    let found = c .before .before .before .check .ensures .0 ∙ fault-found _ _ size in
-    (ap isAccepted (sym found) ∙ sym (c .before .before .accepted .ensures) ∙ not-true _ (c .before .if1 .taken), c .fault-record .ensures ∙ ap faultRecord found)
-
 place-requires : tie.Need-place-requires
 place-requires c κs = search needs
 
+narrow-requires : tie.Need-narrow-requires
+narrow-requires c κs = search needs
+
+store-requires : tie.Need-store-requires
+store-requires c κs = search needs
+
+same-length : tie.Need-same-length
+same-length c = search needs
+
+same-length-2 : tie.Need-same-length-2
+same-length-2 c = search needs
+
+returns : tie.Need-returns
+returns c =
+    let w = now (c .before .before .before .before .before .before .before .before .before .before .before .before .before .before .before .before .before .before .args .widths) in
+    let k = c .before .before .before .before .before .before .before .before .before .before .before .before .before .check in
+    let p = c .before .before .before .before .before .before .before .place in (
+      k .ensures .0,
+      (
+        λ a h. table-numbered _ w _ (p .last .1 .0) _ _ _ _ (sym (k .ensures .0) ∙ a) (k .ensures .1) (k .kept .1 .0) (p .ensures .1 .0) (p .ensures .1 .1) (p .kept .1 .0) (p .ensures .0) (c .before .before .before .narrow .ensures) (c .before .before .store .ensures) h,
+        λ a h. table-placed _ w _ (p .last .1 .0) _ _ _ _ (sym (k .ensures .0) ∙ a) (k .ensures .1) (k .kept .1 .0) (p .ensures .1 .0) (p .ensures .1 .1) (p .kept .1 .0) (p .ensures .0) (c .before .before .before .narrow .ensures) (c .before .before .store .ensures) h,
+      ),
+    )
+
+same-length-3 : tie.Need-same-length-3
+same-length-3 c = search needs
+
 returns-2 : tie.Need-returns-2
 returns-2 c =
-    let size : length (now (c .before .before .before .before .before .before .before .args .widths)) ≡ 512 = search needs in
-    let wide : length (now (c .before .before .before .before .before .before .before .args .places)) ≡ 577 = search needs in
-    let found : c .before .before .before .before .check .result ≡ firstFault (now (c .before .before .before .before .before .before .before .args .table)) = c .before .before .before .before .check .ensures .0 ∙ fault-found _ _ size in
-    let accepted = fault-none (firstFault (now (c .before .before .before .before .before .before .before .args .table))) (ap isAccepted (sym found) ∙ sym (c .before .before .before .accepted .ensures) ∙ not-false _ (c .before .before .if1 .left)) in
-    let few = accepted-table (now (c .before .before .before .before .before .before .before .args .table)) accepted .few in
-    record {
-      placed = record {
-        numbered = record {
-          accepted = accepted;
-          widths-are = λ r h. ap (λ (l : List ℕ). getD l r 0) (c .before .before .before .before .check .ensures .1) ∙ widths-left _ (now (c .before .before .before .before .before .before .before .args .widths)) size accepted r h;
-          variables-are = c .place .ensures .1 .0 accepted (omega (arith, wide));
-        };
-        sources-are = c .place .ensures .1 .1 accepted (omega (arith, wide));
-        widths-room = omega (arith, few, size, c .before .before .before .before .check .kept .1 .0);
-        places-room = omega (arith, wide, c .place .kept .1 .0);
-      };
-      bits = c .place .ensures .0 ∙ ap bitsOf (take-all 512 (rowsOf (now (c .before .before .before .before .before .before .before .args .table))) few);
-      widths-size = c .before .before .before .before .check .kept .1 .0 ∙ size;
-      places-size = c .place .kept .1 .0 ∙ wide;
-    }
+    let k = c .before .before .before .before .check in
+    let no : k .result ≡ Accepted → isAccepted (k .result) ≡ true = λ a. ap isAccepted a in
+    let bad : isAccepted (k .result) ≡ false = sym (c .before .accepted .ensures) ∙ c .if1 .left in
+    (k .ensures .0, (λ a h. clash _ (no a) bad, λ a h. clash _ (no a) bad))
 
 pub check-and-place-spec : {M : Type 1} → statement M
 check-and-place-spec =
@@ -63,7 +61,11 @@ check-and-place-spec =
     (tie.spec
     check-requires
     accepted-requires
-    fault-record-requires
-    returns
     place-requires
+    narrow-requires
+    store-requires
+    same-length
+    same-length-2
+    returns
+    same-length-3
     returns-2)

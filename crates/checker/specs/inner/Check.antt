@@ -1,7 +1,7 @@
 -- What the check of a table promises: the rules as it asks them of a row, what it finds, the rows that it passes, and where its variables
 -- stand.
 use mathlib.Core.Path.{_≡_}
-use mathlib.Core.Bool.{Bool, false, cond}
+use mathlib.Core.Bool.{Bool, cond}
 use mathlib.Core.List.{List, [], _∷_}
 use Prim.Native.Nat.{ℕ, _%_, _≤_}
 use lib.Dec.{ltb}
@@ -9,12 +9,9 @@ use lib.ListN.{length, getD, take}
 use Rattle.terms.specs.declared.Row.{Row}
 use Rattle.terms.specs.declared.Fault.{Fault}
 use Rattle.terms.specs.declared.Fault.the-variants.{Accepted, Shape, Kind, Unused, Named, Width, Value, Bounds, Count}
-use Rattle.terms.specs.Table.{rowsOf, bitsOf, widthIn}
-use Rattle.terms.specs.Faults.{unusedColumn, misnamed, wrongWidth, wrongValue, wrongBounds, tooMany, isAccepted, firstFault}
-use Rattle.terms.specs.Calls.{faultRecord}
-use Rattle.terms.specs.inner.Placed.{VariablesAre, SourcesAre, Placed}
-use Rattle.checker.specs.declared.Checked.{Checked}
-use Rattle.checker.specs.declared.Checked.the-variants.{Refused, Bits}
+use Rattle.terms.specs.Table.{rowsOf, widthIn}
+use Rattle.terms.specs.Faults.{unusedColumn, misnamed, wrongWidth, wrongValue, wrongBounds, tooMany, firstFault}
+use Rattle.terms.specs.inner.Placed.{VariablesAre, SourcesAre, Numbered, Placed}
 
 -- The rules of row r as they are asked of it: ws has the widths of the rows before it, and the totals count it too.
 unfoldable pub rulesIn : List Row → List ℕ → ℕ → Row → ℕ → ℕ → ℕ → List (Bool × Fault)
@@ -56,13 +53,10 @@ NumbersVariables table room places = firstFault table ≡ Accepted → 512 ≤ r
 abbrev pub FindsSources : List ℕ → ℕ → List ℕ → Type 0
 FindsSources table room places = firstFault table ≡ Accepted → 577 ≤ room → SourcesAre (rowsOf table) places
 
--- What is said of a table with each answer of the check: the record of its first fault; or its variable bits, with its widths and places.
-pub record PlacedTable (table widths places : List ℕ) (n : ℕ) : Type 0 where
-  pub placed : Placed table widths places
-  pub bits : n ≡ bitsOf (rowsOf table)
-  pub widths-size : length widths ≡ 512
-  pub places-size : length places ≡ 577
+-- What the check that places promises, with the answer f: of an accepted table the widths and the variables before each row, with room for
+-- 512 numbers of places; with room for 578 all that is placed.
+abbrev pub NumbersTable : List ℕ → ℕ → List ℕ → List ℕ → Fault → Type 0
+NumbersTable table room widths places f = f ≡ Accepted → 512 ≤ room → Numbered table widths places
 
-abbrev pub CheckedTable : List ℕ → List ℕ → List ℕ → Checked → Type 0
-CheckedTable table widths places (Refused r) = (isAccepted (firstFault table) ≡ false) × (r ≡ faultRecord (firstFault table))
-CheckedTable table widths places (Bits n) = PlacedTable table widths places n
+abbrev pub PlacesTable : List ℕ → ℕ → List ℕ → List ℕ → Fault → Type 0
+PlacesTable table room widths places f = f ≡ Accepted → 578 ≤ room → Placed table widths places

@@ -96,7 +96,7 @@ bit-wide-requires-2 t c κs = tt
 bit-source-before-requires : (t : ℕ) → bit-lts.Need-source-before-requires (calls t) (bit-at t) bit.Post
 bit-source-before-requires t c κs =
     let d = c .before in
-    (row-small _ _ _ _ (is-ready t d) _ (is-term t d), (number-small _ _ _ _ (is-ready t d) _ (is-term t d), is-ready t d .placed .places-room))
+    (row-small _ _ _ _ (is-ready t d) _ (is-term t d), (number-small _ _ _ _ (is-ready t d) _ (is-term t d), omega (arith, is-ready t d .placed .places-room)))
 
 bit-add-result : (t : ℕ) → bit-lts.Need-add-result (calls t) (bit-at t) bit.Post
 bit-add-result t c = omega (arith, bit-within t c .1)

@@ -1,39 +1,65 @@
 -- `marker_positions` meets its contract: a table that is refused, and one that is placed. Assumes nothing.
-use mathlib.Core.Path.{sym, subst}
+use mathlib.Core.Path.{_≡_, sym, _∙_, ap}
+use mathlib.Core.Bool.{true}
+use native.Mathlib.Omega.{arith}
 use denote.Ref.{now}
-use Rattle.checker.specs.inner.Check.{PlacedTable, CheckedTable}
+use borrow.Author.Tests.{not-true, not-false}
+use Rattle.terms.specs.declared.Fault.the-variants.{Accepted}
+use Rattle.terms.specs.Faults.{isAccepted, firstFault}
+use Rattle.terms.specs.Calls.{faultRecord}
+use Rattle.terms.specs.inner.Placed.{Placed}
+use Rattle.terms.proofs.AcceptedTable.{fault-none}
+use Rattle.checker.proofs.Checking.{fault-found}
 use Rattle.positions.proofs.Stops.{stop-fault}
 use borrow.Author.Needs.{needs}
 use Rattle.positions.proofs.marker_positions.Statement.{statement}
 use Rattle.positions.proofs.marker_positions.Tie as tie
 
+-- the fault that the check found is the table's
+found : (d : tie.After-check-and-place) → d .check-and-place .result ≡ firstFault (now (d .before .before .before .before .before .before .args .table))
+found d = d .check-and-place .ensures .0 ∙ fault-found _ _ (omega arith)
+
+no-fault : (d : tie.Else1) → firstFault (now (d .before .before .before .before .before .before .before .before .before .before .args .table)) ≡ Accepted
+no-fault d = fault-none _ (ap isAccepted (sym (found (d .before .before .before .before))) ∙ sym (d .before .accepted .ensures) ∙ not-false _ (d .if1 .left))
+
+-- the table was placed
+is-placed : (d : tie.Else1) → Placed (now (d .before .before .before .before .before .before .before .before .before .before .args .table)) (d .before .before .before .before .check-and-place .last .1 .0) (d .before .before .before .before .check-and-place .last .1 .1 .0)
+is-placed d = d .before .before .before .before .check-and-place .ensures .1 .1 (found (d .before .before .before .before) ∙ no-fault d) (omega arith)
+
+slice-aggregate-check-and-place : tie.Need-slice-aggregate-check-and-place
+slice-aggregate-check-and-place c = search needs
+
+slice-aggregate-check-and-place-2 : tie.Need-slice-aggregate-check-and-place-2
+slice-aggregate-check-and-place-2 c = search needs
+
 check-and-place-requires : tie.Need-check-and-place-requires
 check-and-place-requires c κs = search needs
 
-enum-known-r : tie.Need-enum-known-r
-enum-known-r c = search needs
+accepted-requires : tie.Need-accepted-requires
+accepted-requires c κs = search needs
 
-enum-known-bits : tie.Need-enum-known-bits
-enum-known-bits c = search needs
-
--- the table was accepted
-checked : (d : tie.After-bits) → PlacedTable (now (d .before .before .before .before .before .before .before .before .args .table)) (d .before .before .check-and-place .last .1 .0) (d .before .before .check-and-place .last .1 .1 .0) (d .bits .given .0 .0)
-checked d = subst (CheckedTable (now (d .before .before .before .before .before .before .before .before .args .table)) (d .before .before .check-and-place .last .1 .0) (d .before .before .check-and-place .last .1 .1 .0)) (d .bits .given .1) (d .before .before .check-and-place .ensures)
-
-slice-aggregate-positions-in : tie.Need-slice-aggregate-positions-in
-slice-aggregate-positions-in c = sym (checked (c .before .before) .widths-size)
-
-slice-aggregate-positions-in-2 : tie.Need-slice-aggregate-positions-in-2
-slice-aggregate-positions-in-2 c = sym (checked (c .before .before .before) .places-size)
-
-positions-in-requires : tie.Need-positions-in-requires
-positions-in-requires c κs = (checked (c .before .before .before .before) .placed, checked (c .before .before .before .before) .bits)
+fault-record-requires : tie.Need-fault-record-requires
+fault-record-requires c κs = search needs
 
 returns : tie.Need-returns
 returns c =
-    let k = c .before .before .before .check-and-place in
-    let refused = subst (CheckedTable (now (c .before .before .before .before .before .before .before .before .before .args .table)) (k .last .1 .0) (k .last .1 .1 .0)) (c .before .r .given .1) (k .ensures) in
-    stop-fault _ _ _ (refused .0) _ (refused .1)
+    let bad = ap isAccepted (sym (found (c .before .before .before .before .before))) ∙ sym (c .before .before .accepted .ensures) ∙ not-true _ (c .before .if1 .taken) in
+    stop-fault _ _ _ bad _ (c .fault-record .ensures ∙ ap faultRecord (found (c .before .before .before .before .before)))
+
+array-read-wide : tie.Need-array-read-wide
+array-read-wide c = search needs
+
+wide-requires : tie.Need-wide-requires
+wide-requires c κs = search needs
+
+slice-aggregate-positions-in : tie.Need-slice-aggregate-positions-in
+slice-aggregate-positions-in c = search needs
+
+slice-aggregate-positions-in-2 : tie.Need-slice-aggregate-positions-in-2
+slice-aggregate-positions-in-2 c = search needs
+
+positions-in-requires : tie.Need-positions-in-requires
+positions-in-requires c κs = (is-placed (c .before .before .before .before), c .before .before .before .wide .ensures .0 ∙ is-placed (c .before .before .before .before) .bits-are)
 
 same-length : tie.Need-same-length
 same-length c = search needs
@@ -45,12 +71,16 @@ pub marker-positions-spec : {M : Type 1} → statement M
 marker-positions-spec =
     tie.close
     (tie.spec
+    slice-aggregate-check-and-place
+    slice-aggregate-check-and-place-2
     check-and-place-requires
-    enum-known-r
-    enum-known-bits
+    accepted-requires
+    fault-record-requires
+    returns
+    array-read-wide
+    wide-requires
     slice-aggregate-positions-in
     slice-aggregate-positions-in-2
     positions-in-requires
-    returns
     same-length
     returns-2)

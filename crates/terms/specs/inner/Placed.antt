@@ -1,12 +1,12 @@
 -- An accepted table and what a pass over it leaves for those who work with it: the width of each row, and in one run of numbers how many
--- variables stand before each row and, from number 512 on, the source before each variable.
+-- variables stand before each row, from number 512 on the source before each variable, and at number 577 how many variable bits there are.
 use mathlib.Core.Path.{_≡_}
 use mathlib.Core.List.{List}
 use Prim.Native.Nat.{ℕ, _+_, _≤_, _<_}
 use lib.ListN.{length, getD, take}
 use Rattle.terms.specs.declared.Row.{Row}
 use Rattle.terms.specs.declared.Fault.the-variants.{Accepted}
-use Rattle.terms.specs.Table.{rowsOf, widthOf, countKind}
+use Rattle.terms.specs.Table.{rowsOf, bitsOf, widthOf, countKind}
 use Rattle.terms.specs.Faults.{firstFault}
 use Rattle.terms.specs.inner.Places.{sourceBefore}
 
@@ -28,9 +28,10 @@ pub record Numbered (table widths variables : List ℕ) : Type 0 where
   pub widths-are : WidthsAre (rowsOf table) widths
   pub variables-are : VariablesAre (rowsOf table) variables
 
--- The same with the source before each variable, and room for all of them.
+-- The same with the source before each variable and the number of variable bits, and room for all of them.
 pub record Placed (table widths places : List ℕ) : Type 0 where
   pub numbered : Numbered table widths places
   pub sources-are : SourcesAre (rowsOf table) places
+  pub bits-are : getD places 577 0 ≡ bitsOf (rowsOf table)
   pub widths-room : length (rowsOf table) ≤ length widths
-  pub places-room : 577 ≤ length places
+  pub places-room : 578 ≤ length places
