@@ -1,7 +1,7 @@
 -- The answer's rows have the slots of the places: what stands in them, how wide the fresh pieces are, and which there are.
 use mathlib.Core.Path.{_≡_, refl, sym, ap, ap₂, _∙_, subst}
 use mathlib.Core.Logic.{_⊎_, inl, inr}
-use mathlib.Core.Bool.{Bool, true, false, not, _&&_, _||_, cond}
+use mathlib.Core.Bool.{Bool, true, false, not, _&&_, cond}
 use mathlib.Core.List.{List, [], _∷_, _++_, append-assoc}
 use Prim.Native.Nat.{ℕ, zero, suc, _+_, _-_, _≤_, _<_}
 use native.Mathlib.Omega.{arith}
@@ -14,12 +14,19 @@ use Rattle.laws.specs.Lists.{tally, member}
 use Rattle.answers.specs.Answer.{begins, unfixed, goesOn, lowest, appears, placeRow, widened, placed, rowsTo, isFresh, freshNumbers}
 use Rattle.answers.specs.declared.AnswerRow.{AnswerRow}
 use Rattle.laws.proofs.Bools.{and-second}
+use Rattle.laws.proofs.Lists.{copies-snoc}
 use Rattle.laws.proofs.Numbers.{lt-or-le}
-use Rattle.laws.proofs.Tallies.{tally-mono}
+use Rattle.laws.proofs.Tallies.{tally-mono, member-more}
 use Rattle.answers.proofs.Slots.{Slot, fill, part, glued}
 use Rattle.answers.proofs.Gluing.{glued-e, place, front, reach}
 use Rattle.answers.proofs.OurPieces.{mark-place, mark, home, number, slot, wide, slot-loose, slot-fixed, slot-next, wide-is, home-le, front-le, home-mark}
 use Rattle.answers.proofs.Relation.{fixed-is, unfixed-is, goes-loose, goes-fixed, lowest-is, appears-is}
+
+-- a row that begins stands before the others
+pub placed-new : (r : AnswerRow) (rows : List AnswerRow) → placed false r rows ≡ r ∷ rows
+unfolding placed
+placed-new r [] = refl
+placed-new r (s ∷ rows) = refl
 
 -- the slots of a row
 unfoldable pub partsFrom : ℕ → ℕ → ℕ → List Slot
@@ -39,10 +46,6 @@ unfolding partsFrom
 parts-more f o zero = ap (λ (x : ℕ). part f x ∷ []) (omega arith)
 parts-more f o (suc w) = ap (λ (l : List Slot). part f o ∷ l) (parts-more f (suc o) w ∙ ap (λ (x : ℕ). partsFrom f (suc o) w ++ (part f x ∷ [])) (omega arith))
 
-fills-more : (w : ℕ) (x : Slot) → replicate (suc w) x ≡ replicate w x ++ (x ∷ [])
-fills-more zero x = refl
-fills-more (suc w) x = ap (λ (l : List Slot). x ∷ l) (fills-more w x)
-
 -- the slot behind a row
 unfoldable pub following : AnswerRow → Slot
 following r = cond (isFresh r) (part (r .fresh) (r .width)) (fill (r .kind))
@@ -54,7 +57,7 @@ wider-slots r = go (isFresh r)
     go : (b : Bool) → cond b (partsFrom (r .fresh) 0 (suc (r .width))) (replicate (suc (r .width)) (fill (r .kind)))
         ≡ cond b (partsFrom (r .fresh) 0 (r .width)) (replicate (r .width) (fill (r .kind))) ++ (cond b (part (r .fresh) (r .width)) (fill (r .kind)) ∷ [])
     go true = parts-more (r .fresh) 0 (r .width) ∙ ap (λ (x : ℕ). partsFrom (r .fresh) 0 (r .width) ++ (part (r .fresh) x ∷ [])) (omega arith)
-    go false = fills-more (r .width) (fill (r .kind))
+    go false = sym (copies-snoc (r .width) (fill (r .kind)))
 
 -- something of every row
 abbrev pub Each : (AnswerRow → Type 0) → List AnswerRow → Type 0
@@ -187,15 +190,6 @@ module _ (n : ℕ) (c : List ℕ) (seen : List Pair) (inv : Represents n c seen)
       bit (inl l) f = omega (arith, h .fixed l .1)
       bit (inr l) f = let z : false ≡ true = sym f ∙ h .piece l .0 in let y : _≡_ {A = ℕ} 0 1 = cc in absurd (omega arith)
 
-  member-first : (b : Bool) (x k : ℕ) (l : List ℕ) → member k l ≡ true → member k (cond b (x ∷ l) l) ≡ true
-  unfolding member
-  member-first false x k l h = h
-  member-first true x k l h = go (eqb k x)
-    where
-      go : (t : Bool) → t || member k l ≡ true
-      go true = refl
-      go false = h
-
   -- a new number appears exactly where a fresh piece does
   module _ (j : ℕ) (rows : List AnswerRow) (before : (k : ℕ) → k < tally j marked → member k (freshNumbers rows) ≡ true) where
     new-numbers : goesOn n ws (inClass c) j ≡ false → (k : ℕ) → k < tally (suc j) marked → member k (freshNumbers (placeRow n ws (inClass c) j ∷ rows)) ≡ true
@@ -204,7 +198,7 @@ module _ (n : ℕ) (c : List ℕ) (seen : List Pair) (inv : Represents n c seen)
       where
         go : (b : Bool) → marked j ≡ b → (k < tally j marked) ⊎ (tally j marked ≤ k)
             → member k (cond (isFresh (placeRow n ws (inClass c) j)) (placeRow n ws (inClass c) j .fresh ∷ freshNumbers rows) (freshNumbers rows)) ≡ true
-        go b e (inl q) = member-first (isFresh (placeRow n ws (inClass c) j)) (placeRow n ws (inClass c) j .fresh) k (freshNumbers rows) (before k q)
+        go b e (inl q) = member-more (isFresh (placeRow n ws (inClass c) j)) (placeRow n ws (inClass c) j .fresh) k (freshNumbers rows) (before k q)
         go false e (inr q) = absurd (omega (arith, rw e at l))
         go true e (inr q) =
             let m = mark-place n c seen inv one start begin last j e in

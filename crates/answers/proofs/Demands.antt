@@ -18,6 +18,7 @@ use Rattle.answers.specs.Pairs.{Pair, equationPairs, satisfiesPairs, equ
 use Rattle.answers.specs.inner.Classes.{rep, inClass, roots, Represents}
 use Rattle.answers.specs.declared.AnswerRow.{AnswerRow}
 use Rattle.answers.specs.Answer.{variableWidths, begins, appears, answerRows, freshPieces, freeBits, instantiate}
+use Rattle.laws.proofs.Bools.{clash}
 use Rattle.laws.specs.Lists.{tally}
 use Rattle.answers.specs.Systems.{Part, SolvedSystem, freshCount, systemBits, Gives}
 use Rattle.answers.specs.Solve.{valid, unsatisfiable, unsatRow, pairsTogether, tiesTo, solvedRows, alwaysRecord, neverRecord, solvedRecord, answerRecord}
@@ -146,9 +147,6 @@ module _ (table : List ℕ) (accepted : firstFault table ≡ Accepted) where
   whole-all : count n (satisfies t) ≡ 2 ^ n → valid t ≡ true
   unfolding valid
   whole-all e = every-of n (satisfies t) (count-all-at n (satisfies t) e)
-
-  clash : {A : Type 0} (b : Bool) → b ≡ true → b ≡ false → A
-  clash b h k = let z : _≡_ {A = ℕ} 0 1 = cc in absurd (omega arith)
 
   -- Demand 3.
   pub demand-3 : Demand3 t

@@ -3,12 +3,12 @@
 use mathlib.Core.Path.{_≡_, refl, sym, ap, _∙_}
 use mathlib.Core.Logic.{_⊎_, inl, inr, _≢_}
 use mathlib.Core.Bool.{Bool, true, false, not, _&&_, _||_, cond}
-use Prim.Native.Nat.{ℕ, zero, suc, _+_, _-_, _≤_, _<_, pred}
+use Prim.Native.Nat.{ℕ, zero, suc, _+_, _≤_, _<_, pred}
 use native.Mathlib.Omega.{arith}
 use lib.Dec.{eqb}
-use borrow.Author.Tests.{eqb-true, eq-eqb, leb-true, le-leb}
+use borrow.Author.Tests.{eqb-true, eq-eqb, leb-true, le-leb, not-true}
 use Rattle.laws.specs.Lists.{below}
-use Rattle.laws.proofs.Bools.{and-first, and-second, and-both, same-test}
+use Rattle.laws.proofs.Bools.{and-first, and-second, and-both, same-test, clash}
 use Rattle.laws.proofs.Numbers.{dec-eq}
 use Rattle.laws.proofs.Tallies.{below-of, below-at, implied}
 use Rattle.answers.proofs.Slots.{loose, glued, heads}
@@ -22,22 +22,18 @@ pub record Glue (n : ℕ) (start : ℕ → Bool) (C : ℕ → ℕ) (i : ℕ) : T
   pub onward : (k : ℕ) → k < n → C k ≡ C i → (start (suc k) ≡ false) × (C (suc k) ≡ C (suc i))
 
 module _ (n : ℕ) (start : ℕ → Bool) (C : ℕ → ℕ) where
-  pub not-e : (b : Bool) → not b ≡ true → b ≡ false
-  not-e true h = cc
-  not-e false h = refl
-
   pub glued-e : (i : ℕ) → glued n start C i ≡ true → Glue n start C i
   unfolding glued
   glued-e i h = record {
     here = leb-true 2 (C i) (and-first (loose C i) (loose C (suc i)) h3);
     there = leb-true 2 (C (suc i)) (and-second (loose C i) (loose C (suc i)) h3);
-    open' = not-e (start (suc i)) (and-second (loose C i && loose C (suc i)) (not (start (suc i))) h2);
+    open' = not-true (start (suc i)) (and-second (loose C i && loose C (suc i)) (not (start (suc i))) h2);
     back = λ k l e.
         let t = implied (eqb (C k) (C (suc i))) (not (start k) && eqb (C (pred k)) (C i)) (below-at n bk h1b k l) (eq-eqb (C k) (C (suc i)) e) in
-        (not-e (start k) (and-first (not (start k)) (eqb (C (pred k)) (C i)) t), eqb-true (C (pred k)) (C i) (and-second (not (start k)) (eqb (C (pred k)) (C i)) t));
+        (not-true (start k) (and-first (not (start k)) (eqb (C (pred k)) (C i)) t), eqb-true (C (pred k)) (C i) (and-second (not (start k)) (eqb (C (pred k)) (C i)) t));
     onward = λ k l e.
         let t = implied (eqb (C k) (C i)) (not (start (suc k)) && eqb (C (suc k)) (C (suc i))) (below-at n fw h0 k l) (eq-eqb (C k) (C i) e) in
-        (not-e (start (suc k)) (and-first (not (start (suc k))) (eqb (C (suc k)) (C (suc i))) t), eqb-true (C (suc k)) (C (suc i)) (and-second (not (start (suc k))) (eqb (C (suc k)) (C (suc i))) t));
+        (not-true (start (suc k)) (and-first (not (start (suc k))) (eqb (C (suc k)) (C (suc i))) t), eqb-true (C (suc k)) (C (suc i)) (and-second (not (start (suc k))) (eqb (C (suc k)) (C (suc i))) t));
   }
     where
       bk : ℕ → Bool
@@ -136,16 +132,20 @@ module _ (n : ℕ) (start : ℕ → Bool) (C : ℕ → ℕ) (begin : start 0 ≡
       go true e = omega arith
       go false e = omega arith
 
-  pub differ : (t : Bool) → t ≡ true → t ≡ false → ⊥
-  differ t a b = let z : _≡_ {A = ℕ} 0 1 = cc in omega arith
-
   -- a piece does not go on past the end
   pub glue-in : (i : ℕ) → i < n → glued n start C i ≡ true → suc i < n
   glue-in i l h = go (dec-eq (suc i) n)
     where
       go : (suc i ≡ n) ⊎ (suc i ≢ n) → suc i < n
-      go (inl e) = absurd (differ (start (suc i)) (ap start e ∙ last) (glued-e n start C i h .open'))
+      go (inl e) = clash (start (suc i)) (ap start e ∙ last) (glued-e n start C i h .open')
       go (inr e) = omega arith
+
+  pub glue-end : (j : ℕ) → n ≡ suc j → glued n start C j ≡ false
+  glue-end j e = go (glued n start C j) refl
+    where
+      go : (t : Bool) → glued n start C j ≡ t → glued n start C j ≡ false
+      go true h = absurd (omega (arith, glue-in j (omega arith) h))
+      go false h = h
 
   -- both bits are glued to the one before them, or neither is
   pub place-class : (i j : ℕ) → i < n → j < n → C i ≡ C j → (place n start C i ≡ place n start C j) × (C (front n start C i) ≡ C (front n start C j))
@@ -155,12 +155,12 @@ module _ (n : ℕ) (start : ℕ → Bool) (C : ℕ → ℕ) (begin : start 0 ≡
     where
       go : (t : Bool) → glued n start C i ≡ t → (cond t (suc (place n start C i)) 0 ≡ 0) × (C (cond t (front n start C i) (suc i)) ≡ C 0)
       go false h = (refl, e)
-      go true h = absurd (differ (start 0) begin (glued-e n start C i h .back 0 b (sym e) .0))
+      go true h = clash (start 0) begin (glued-e n start C i h .back 0 b (sym e) .0)
   place-class zero (suc j) a b e = go (glued n start C j) refl
     where
       go : (t : Bool) → glued n start C j ≡ t → (0 ≡ cond t (suc (place n start C j)) 0) × (C 0 ≡ C (cond t (front n start C j) (suc j)))
       go false h = (refl, e)
-      go true h = absurd (differ (start 0) begin (glued-e n start C j h .back 0 a e .0))
+      go true h = clash (start 0) begin (glued-e n start C j h .back 0 a e .0)
   place-class (suc i) (suc j) a b e = go (glued n start C i) (glued n start C j) refl refl (λ (q : C i ≡ C j). place-class i j (omega arith) (omega arith) q)
     where
       go : (s t : Bool) → glued n start C i ≡ s → glued n start C j ≡ t
@@ -169,8 +169,8 @@ module _ (n : ℕ) (start : ℕ → Bool) (C : ℕ → ℕ) (begin : start 0 ≡
           × (C (cond s (front n start C i) (suc i)) ≡ C (cond t (front n start C j) (suc j)))
       go false false h k r = (refl, e)
       go true true h k r = let w = r (sym (glued-e n start C i h .back (suc j) b (sym e) .1)) in (ap suc (w .0), w .1)
-      go true false h k r = absurd (differ (glued n start C j) (glue-under n start C i j a b e h) k)
-      go false true h k r = absurd (differ (glued n start C i) (glue-under n start C j i b a (sym e) k) h)
+      go true false h k r = clash (glued n start C j) (glue-under n start C i j a b e h) k
+      go false true h k r = clash (glued n start C i) (glue-under n start C j i b a (sym e) k) h
 
   -- pieces of one class go on equally far
   pub reach-class : (d e i j : ℕ) → n ≤ d + i → n ≤ e + j → i < n → j < n → C i ≡ C j → reach n start C d i ≡ reach n start C e j
@@ -257,6 +257,6 @@ module _ (n : ℕ) (start : ℕ → Bool) (C : ℕ → ℕ) (begin : start 0 ≡
     where
       go : (t : Bool) → glued n start C j ≡ t → loose C (suc j) && not t ≡ true
       go false k = and-both (loose C (suc j)) true (rw (← e) h) refl
-      go true k = absurd (differ (start 0) begin (glued-e n start C j k .back 0 a e .0))
+      go true k = clash (start 0) begin (glued-e n start C j k .back 0 a e .0)
   heads-class (suc i) zero a b e h = rw (← e) (and-first (loose C (suc i)) (not (glued n start C i)) h)
   heads-class (suc i) (suc j) a b e h = rw (← glue-both n start C i j a b e, ← e) h

@@ -8,16 +8,15 @@ use Prim.Native.Nat.{ℕ, _*_, _≤_, _<_}
 use native.Mathlib.Omega.{arith}
 use lib.Dec.{ltb}
 use lib.ListN.{length, take, drop, replicate}
-use lib.Seq.{take-at, take-length}
+use lib.Seq.{take-at}
 use borrow.Author.Tests.{le-ltb, lt-ltb}
 use Rattle.terms.specs.declared.Fault.the-variants.{Accepted}
 use Rattle.terms.specs.Acceptance.{Exactly}
 use Rattle.terms.specs.Calls.{faultNumber, refusal, stopAt}
 use Rattle.terms.specs.Faults.{firstFault, isAccepted}
 use Rattle.terms.specs.Table.{rowsOf, bitsOf, satisfies}
-use Rattle.terms.proofs.AcceptedTable.{accepted-table, fault-none, fault-high}
+use Rattle.terms.proofs.AcceptedTable.{fault-none, fault-high, table-bits}
 use Rattle.laws.proofs.Buffers.{overwrite-fits}
-use Rattle.terms.proofs.Faults.{totals-small}
 use Rattle.answers.specs.Answer.{variableWidths, answerNumbers}
 use Rattle.answers.specs.Pairs.{equalUnder}
 use Rattle.answers.specs.Solve.{solvedRows, answerRecord, solveRecord, answerAfter, workAfter}
@@ -38,8 +37,7 @@ no-work-room table answerRoom workRoom l = rw (lt-ltb workRoom 16384 l, or-true 
 pub few-numbers : (table : List ℕ) → firstFault table ≡ Accepted → length (answerNumbers (solvedRows (rowsOf table))) ≤ 24576
 unfolding solvedRows
 few-numbers table accepted =
-    let small : bitsOf (rowsOf table) ≤ 4096 = rw (take-length (rowsOf table)) at (totals-small (rowsOf table) (length (rowsOf table)) (accepted-table table accepted .sound) .1) in
-    omega (arith, numbers-length (solvedRows (rowsOf table)), rows-few (bitsOf (rowsOf table)) (variableWidths (rowsOf table)) (equalUnder (bitsOf (rowsOf table)) (satisfies (rowsOf table))))
+    omega (arith, table-bits table accepted, numbers-length (solvedRows (rowsOf table)), rows-few (bitsOf (rowsOf table)) (variableWidths (rowsOf table)) (equalUnder (bitsOf (rowsOf table)) (satisfies (rowsOf table))))
 
 module _ (table : List ℕ) (accepted : firstFault table ≡ Accepted) (old work : List ℕ) (room : 24576 ≤ length old) (memory : 16384 ≤ length work) where
   -- A call with room is refused only for a fault of its table.

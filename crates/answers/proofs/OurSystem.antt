@@ -21,7 +21,7 @@ use Rattle.laws.specs.Lists.{distinct}
 use Rattle.answers.specs.Systems.{fill as fillPart, fresh as freshPart, FinePart, SolvedSystem, labelsOf, freshCount, pieceBits, partBits, sideBits, systemBits, Filling, Gives}
 use Rattle.answers.specs.Solve.{valid, unsatisfiable, pairsTogether, solvedRows, answerRecord}
 use Rattle.answers.proofs.Agreement.{satisfies-reverse}
-use Rattle.answers.proofs.Slots.{Slot, fill, part, value, tab-assignment}
+use Rattle.answers.proofs.Slots.{Slot, fill, value, slots-assignment}
 use Rattle.laws.proofs.Lists.{tab, tab-at, tab-length, tab-more}
 use Rattle.answers.proofs.OurPieces.{slot, wide, slot-bits, slot-gives, slot-reads, filled}
 use Rattle.answers.proofs.AnswerRows.{partsFrom, rowSlots, slotsTo, Each, slotsBelow, Whole, rows-are}
@@ -60,10 +60,6 @@ rows-slots φ (x ∷ xs) ys =
     ∙ ap (λ (l : List ℕ). map (value φ) (slotsTo xs) ++ (l ++ sideBits φ (map partOf ys))) (row-slots φ x)
     ∙ sym (append-assoc (map (value φ) (slotsTo xs)) (map (value φ) (rowSlots x)) (sideBits φ (map partOf ys)))
     ∙ ap (λ (l : List ℕ). l ++ sideBits φ (map partOf ys)) (sym (map-append (value φ) (slotsTo xs) (rowSlots x)))
-
-value-bit : (φ : ℕ → ℕ → ℕ) → Filling φ → (x : Slot) → ((b : ℕ) → x ≡ fill b → b ≤ 1) → value φ x ≤ 1
-value-bit φ h (fill b) k = k b refl
-value-bit φ h (part g o) k = h g o
 
 module _ (n : ℕ) (c : List ℕ) (seen : List Pair) (inv : Represents n c seen) (one : rep c 1 ≡ 1) (ws : List ℕ) (begin : begins ws 0 ≡ true) (last : begins ws n ≡ true) (sum : widthSum ws ≡ n) where
   abbrev answer : List AnswerRow
@@ -128,9 +124,7 @@ module _ (n : ℕ) (c : List ℕ) (seen : List Pair) (inv : Represents n c seen)
       turned = unfold answerRows sideBits in (rows-slots φ (rowsTo n ws (inClass c) n) [] ∙ append-nil (map (value φ) (slotsTo (rowsTo n ws (inClass c) n))))
 
   answer-assignment : (φ : ℕ → ℕ → ℕ) → Filling φ → Assignment n (systemBits φ (sidesOf ws (answerRows n ws (inClass c))))
-  answer-assignment φ h =
-      rw (system-is φ)
-      (tab-assignment n (λ i. value φ (slotOf i)) (λ i. value-bit φ h (slotOf i) (slot-bits n c seen inv one (begins ws) begin last i)))
+  answer-assignment φ h = rw (system-is φ) (slots-assignment n slotOf (slot-bits n c seen inv one (begins ws) begin last) φ h)
 
   answer-gives : Gives n (λ p. satisfiesPairs p seen) (sidesOf ws (answerRows n ws (inClass c)))
   answer-gives =

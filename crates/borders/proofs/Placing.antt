@@ -21,6 +21,7 @@ use Rattle.answers.specs.declared.AnswerRow.{AnswerRow}
 use Rattle.laws.proofs.Bools.{same-test}
 use Rattle.laws.proofs.Numbers.{dec-eq}
 use Rattle.laws.proofs.Numbers.{lt-or-le}
+use Rattle.answers.proofs.AnswerRows.{placed-new}
 use Rattle.answers.proofs.Relation.{fixed-is, unfixed-is, lowest-is}
 use Rattle.borders.specs.declared.Progress.{Progress}
 use Rattle.borders.specs.inner.Borders.{goesIn, numberIn, stepIn, rowWritten, Bordered, PutsPlaces}
@@ -28,11 +29,6 @@ use Rattle.borders.proofs.Neighbours.{goes-is}
 use Rattle.borders.specs.inner.Borders.{rowOf}
 use Rattle.borders.proofs.RowNumbers.{row-next, row-none}
 use Rattle.laws.proofs.Tallies.{tally-most}
-
-placed-new : (r : AnswerRow) (rows : List AnswerRow) → placed false r rows ≡ r ∷ rows
-unfolding placed
-placed-new r [] = refl
-placed-new r (s ∷ rows) = refl
 
 -- the state after the first i places: the last row, which may go on, is not written yet
 pub record Going (n : ℕ) (ws c numbers old answer : List ℕ) (p : Progress) (i : ℕ) : Type 0 where

@@ -1,4 +1,4 @@
--- What an accepted table is: at most 512 whole rows, none of which breaks a rule.
+-- What an accepted table is: at most 512 whole rows, none of which breaks a rule; and what it has at the most.
 use mathlib.Core.Path.{_≡_, refl, ap}
 use mathlib.Core.Bool.{true, false}
 use mathlib.Core.List.{List}
@@ -6,17 +6,18 @@ use Prim.Native.Nat.{ℕ, zero, suc, _+_, _%_, _<_, _≤_}
 use native.Mathlib.Omega.{arith}
 use lib.Dec.{eqb}
 use lib.ListN.{length}
+use lib.Seq.{take-length}
 use borrow.Author.Tests.{ne-eqb, eq-eqb, le-ltb}
 use Rattle.terms.specs.declared.Row.{Row}
 use Rattle.terms.specs.declared.Fault.{Fault}
 use Rattle.terms.specs.declared.Fault.the-variants.{Accepted, Shape, Kind, Unused, Named, Width, Value, Bounds, Count}
-use Rattle.terms.specs.Table.{rowsOf, rowAt}
+use Rattle.terms.specs.Table.{rowsOf, rowAt, bitsOf, countKind}
 use Rattle.terms.specs.Calls.{faultNumber}
 use Rattle.terms.specs.Faults.{breaks11, faultAt, isAccepted, lowestFault, firstFault, absent}
 use Rattle.laws.proofs.Bools.{not-both}
 use Rattle.terms.proofs.RuleOrder.{told-none}
 use Rattle.terms.proofs.Acceptance.{fault-exactly}
-use Rattle.terms.proofs.Faults.{term, Term, term-named}
+use Rattle.terms.proofs.Faults.{term, Term, term-named, totals-small}
 use Rattle.terms.specs.Sound.{Sound}
 
 pub fault-none : (f : Fault) → isAccepted f ≡ true → f ≡ Accepted
@@ -43,6 +44,14 @@ accepted-table numbers e =
       whole = says .0 .whole;
       sound = λ r h. ap isAccepted (told-none (rowsOf numbers) r (says .1 r h));
     }
+
+-- how many variables, variable bits and equations it has at the most
+pub table-totals : (numbers : List ℕ) → firstFault numbers ≡ Accepted
+    → (countKind 0 (rowsOf numbers) ≤ 64) × (bitsOf (rowsOf numbers) ≤ 4096) × (countKind 4 (rowsOf numbers) ≤ 64)
+table-totals numbers e = rw (take-length (rowsOf numbers)) at (totals-small (rowsOf numbers) (length (rowsOf numbers)) (accepted-table numbers e .sound))
+
+pub table-bits : (numbers : List ℕ) → firstFault numbers ≡ Accepted → bitsOf (rowsOf numbers) ≤ 4096
+table-bits numbers e = table-totals numbers e .1
 
 -- a table no row of which breaks a rule has no lowest fault
 none-lowest : (t : List Row) (r n : ℕ) → ((i : ℕ) → r ≤ i → i < r + n → isAccepted (faultAt t i) ≡ true) → lowestFault t r n ≡ Accepted

@@ -21,16 +21,11 @@ use Rattle.answers.specs.Pairs.{equalUnder}
 use Rattle.laws.specs.Lists.{distinct, below, tally, member}
 use Rattle.answers.specs.Solve.{solvedRows, answerRecord, solvedRecord}
 use Rattle.laws.proofs.Tallies.{below-at}
+use Rattle.answers.proofs.AnswerRows.{placed-new}
 use Rattle.answers.proofs.Variables.{begins-first}
 use Rattle.worked.specs.Cases.{Solved, Holds, piece, times, figures}
 use Rattle.worked.proofs.Holding.{every-fails, met-by-some, solved-case}
 use Rattle.worked.proofs.PieceNumbers.{rowOf, piece-numbers, fill-numbers}
-
--- a row that is put behind others
-pub begun : (r : AnswerRow) (rows : List AnswerRow) → placed false r rows ≡ r ∷ rows
-unfolding placed
-begun r [] = refl
-begun r (s ∷ rows) = refl
 
 -- what fails at one number
 pub below-fails : (n : ℕ) (f : ℕ → Bool) (i : ℕ) → i < n → f i ≡ false → below n f ≡ false
@@ -109,7 +104,7 @@ module _ (w : ℕ) (same : ℕ → ℕ → Bool) where
     tied-to : (i : ℕ) → i ≤ w → rowsTo w (w ∷ []) same i ≡ replicate i (rowOf 2 1 0)
     unfolding rowsTo
     tied-to zero h = refl
-    tied-to (suc i) h = rw (tied-on i h, tied-row i h, tied-to i (omega arith)) (begun (rowOf 2 1 0) (replicate i (rowOf 2 1 0)))
+    tied-to (suc i) h = rw (tied-on i h, tied-row i h, tied-to i (omega arith)) (placed-new (rowOf 2 1 0) (replicate i (rowOf 2 1 0)))
 
     one-piece : answerRows w (w ∷ []) same ≡ replicate w (rowOf 2 1 0)
     unfolding answerRows

@@ -15,8 +15,9 @@ use Rattle.laws.proofs.Numbers.{dec-eq}
 use Rattle.laws.proofs.Tallies.{below-of, tally-none, tally-apart}
 use Rattle.answers.specs.declared.AnswerRow.{AnswerRow}
 use Rattle.answers.specs.Answer.{begins, implies, tied, fixedTo, contiguous, fixedAlike, goesOn, lowest, appears, placeRow, widened, placed, rowsTo, answerRows}
+use Rattle.answers.proofs.AnswerRows.{placed-new}
 use Rattle.worked.proofs.PieceNumbers.{rowOf}
-use Rattle.worked.proofs.OneWord.{begun, inside, variable-0, below-fails}
+use Rattle.worked.proofs.OneWord.{inside, variable-0, below-fails}
 use Rattle.worked.proofs.Overlaps.{label, home, Stands, first, last, between, label-first, label-last, label-between, label-odd, label-even, stands, home-least, home-label}
 
 -- Rows that stand k times before others.
@@ -197,7 +198,7 @@ module _ (w : ℕ) (five : 5 ≤ w) (same : ℕ → ℕ → Bool)
   begins-row : (i : ℕ) → suc i < w → one-piece i ≡ false
       → rows-to (suc (suc i)) ≡ row-at (suc i) ∷ rows-to (suc i)
   unfolding rowsTo
-  begins-row i l e = rw (on i l, e) (begun (row-at (suc i)) (rows-to (suc i)))
+  begins-row i l e = rw (on i l, e) (placed-new (row-at (suc i)) (rows-to (suc i)))
 
   goes-on : (i : ℕ) (r : AnswerRow) (rows : List AnswerRow) → suc i < w → one-piece i ≡ true
       → rows-to (suc i) ≡ r ∷ rows → rows-to (suc (suc i)) ≡ widened r ∷ rows
