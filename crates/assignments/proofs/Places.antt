@@ -3,24 +3,23 @@ use mathlib.Core.Path.{_≡_, refl, sym, ap, _∙_}
 use mathlib.Core.Logic.{_⊎_, inl, inr}
 use mathlib.Core.Bool.{Bool, true, false, cond}
 use mathlib.Core.List.{List, [], _∷_}
-use Prim.Native.Nat.{ℕ, suc, _+_, _-_, _≤_, _<_}
+use Prim.Native.Nat.{ℕ, suc, _-_, _≤_, _<_}
 use native.Mathlib.Omega.{arith}
-use lib.Dec.{eqb, ltb}
+use lib.Dec.{ltb}
 use lib.ListN.{length}
-use lib.Seq.{take-length}
-use borrow.Author.Tests.{eq-eqb, ne-eqb, lt-ltb, le-ltb}
+use borrow.Author.Tests.{ne-eqb, lt-ltb, le-ltb}
 use Rattle.terms.specs.declared.Row.{Row}
 use Rattle.terms.specs.declared.Fault.the-variants.{Accepted}
 use Rattle.terms.specs.Faults.{firstFault}
-use Rattle.terms.specs.Table.{rowsOf, rowAt, bitsOf, countKind}
+use Rattle.terms.specs.Table.{rowsOf, rowAt}
 use Rattle.terms.proofs.RowKinds.{by-variable}
-use Rattle.terms.proofs.AcceptedTable.{accepted-table}
-use Rattle.terms.proofs.Faults.{kept, kept-width, totals-small}
+use Rattle.terms.proofs.AcceptedTable.{accepted-table, table-totals}
+use Rattle.terms.proofs.Faults.{kept, kept-width}
 use Rattle.terms.proofs.Values.{width-variable}
 use Rattle.answers.specs.Answer.{variableWidths, begins, variableAt}
 use Rattle.laws.proofs.Numbers.{lt-or-le}
 use Rattle.answers.proofs.GeneralSystems.{widthSum}
-use Rattle.answers.proofs.Variables.{begins-first}
+use Rattle.answers.proofs.Variables.{widths-count, begins-first}
 use Rattle.laws.proofs.Bools.{clash}
 
 -- widths of variables: from 1 to 1,024
@@ -96,15 +95,6 @@ widths-sized (r ∷ t) h =
     (λ e. let k = h 0 (omega arith) e in (k .0, k .1, later))
     (λ n. later)
 
-widths-count : (t : List Row) → length (variableWidths t) ≡ countKind 0 t
-unfolding variableWidths countKind
-widths-count [] = refl
-widths-count (r ∷ t) =
-    let later = widths-count t in
-    by-variable r (r .a ∷ variableWidths t) (variableWidths t) (λ (ws : List ℕ). length ws ≡ cond (eqb (r .kind) 0) 1 0 + countKind 0 t)
-    (λ e. rw (eq-eqb (r .kind) 0 e) (omega arith))
-    (λ n. rw (ne-eqb (r .kind) 0 n) (omega arith))
-
 module _ (table : List ℕ) (accepted : firstFault table ≡ Accepted) where
   pub table-sized : Sized (variableWidths (rowsOf table))
   table-sized =
@@ -114,9 +104,4 @@ module _ (table : List ℕ) (accepted : firstFault table ≡ Accepted) where
       (omega (arith, k .0), omega (arith, k .1)))
 
   pub table-variables : length (variableWidths (rowsOf table)) ≤ 64
-  table-variables =
-      let small : countKind 0 (rowsOf table) ≤ 64 = rw (take-length (rowsOf table)) at (totals-small (rowsOf table) (length (rowsOf table)) (accepted-table table accepted .sound) .0) in
-      omega (arith, widths-count (rowsOf table))
-
-  pub table-bits : bitsOf (rowsOf table) ≤ 4096
-  table-bits = rw (take-length (rowsOf table)) at (totals-small (rowsOf table) (length (rowsOf table)) (accepted-table table accepted .sound) .1)
+  table-variables = omega (arith, widths-count (rowsOf table), table-totals table accepted .0)

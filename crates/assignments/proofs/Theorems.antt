@@ -15,6 +15,7 @@ use Rattle.terms.specs.Assignments.{Assignment, done, off, on}
 use Rattle.terms.specs.Calls.{completed, stopAt}
 use Rattle.terms.specs.Faults.{firstFault}
 use Rattle.terms.specs.Table.{rowsOf, bitsOf, sameWord, satisfies}
+use Rattle.terms.proofs.AcceptedTable.{table-bits}
 use Rattle.terms.proofs.Assignments.{assignment-length}
 use Rattle.terms.proofs.Satisfies.{word-same}
 use Rattle.laws.proofs.Buffers.{overwrite-fits}
@@ -31,7 +32,7 @@ use Rattle.answers.proofs.Demands.{demand-2, demand-3}
 use Rattle.answers.proofs.OurSystem.{some-left}
 use Rattle.assignments.specs.Form.{patternBits, rowsFine, homesFine, hasForm}
 use Rattle.assignments.specs.Call.{wrongFresh, patternRecord, patternAfter}
-use Rattle.assignments.proofs.Places.{table-sized, table-variables, table-bits}
+use Rattle.assignments.proofs.Places.{table-sized, table-variables}
 use Rattle.assignments.proofs.FineRows.{answer-fine}
 use Rattle.assignments.proofs.RowPlaces.{all-bits}
 use Rattle.assignments.specs.Made.{MadeFromSolved, Makes, patternOf}
