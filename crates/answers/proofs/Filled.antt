@@ -20,7 +20,7 @@ use Rattle.answers.specs.Pairs.{Pair, paired, pairsOf}
 use Rattle.answers.specs.Filled.{FilledPairs, Unfilled, AsJoined}
 
 -- words of one length have so many pairs
-paired-count : (xs ys : List ℕ) → length xs ≡ length ys → length (paired xs ys) ≡ length xs
+pub paired-count : (xs ys : List ℕ) → length xs ≡ length ys → length (paired xs ys) ≡ length xs
 unfolding paired
 paired-count [] ys e = refl
 paired-count (x ∷ xs) [] e = absurd (omega arith)

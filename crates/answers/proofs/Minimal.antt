@@ -12,7 +12,7 @@ use Rattle.terms.specs.Table.{bitOf}
 use Rattle.answers.specs.Pairs.{Pair, satisfiesPairs}
 use Rattle.answers.specs.inner.Classes.{rep, Represents}
 use Rattle.laws.specs.Lists.{below, member, distinct}
-use Rattle.laws.proofs.Bools.{and-first, and-second, clash}
+use Rattle.laws.proofs.Bools.{and-first, and-second, one-most, clash}
 use Rattle.laws.proofs.Numbers.{lt-or-le}
 use Rattle.answers.proofs.Exact.{equals-to}
 use Rattle.laws.proofs.Tallies.{pigeon}
@@ -57,11 +57,7 @@ module _ (n : ℕ) (c : List ℕ) (seen : List Pair) (inv : Represents n c seen)
 
   mark-le : (f o g u : ℕ) → mark f o g u ≤ 1
   unfolding mark
-  mark-le f o g u = go (eqb g f && eqb u o)
-    where
-      go : (t : Bool) → cond {A = ℕ} t 1 0 ≤ 1
-      go true = omega arith
-      go false = omega arith
+  mark-le f o g u = one-most (eqb g f && eqb u o)
 
   mark-self : (f o : ℕ) → mark f o f o ≡ 1
   unfolding mark

@@ -1,6 +1,6 @@
 -- The solver's answer, place by place, is a solved system.
 use mathlib.Core.Path.{_≡_, refl, sym, ap, ap₂, _∙_}
-use mathlib.Core.Logic.{_⊎_, inl, inr, _≢_}
+use mathlib.Core.Logic.{_⊎_, inl, inr}
 use mathlib.Core.Bool.{Bool, true, false, not, _&&_, cond}
 use mathlib.Core.List.{List}
 use Prim.Native.Nat.{ℕ, zero, suc, _+_, _-_, _≤_, _<_}
@@ -13,14 +13,13 @@ use Rattle.terms.specs.Table.{bitOf}
 use Rattle.answers.specs.Pairs.{Pair, satisfiesPairs}
 use Rattle.answers.specs.inner.Classes.{rep, Represents}
 use Rattle.laws.specs.Lists.{tally}
-use Rattle.laws.proofs.Bools.{and-first, and-second, and-both, clash}
-use Rattle.laws.proofs.Numbers.{dec-eq}
+use Rattle.laws.proofs.Bools.{and-first, and-second, and-both}
 use Rattle.answers.proofs.Agreement.{place-bit, fixed-bit, fixed-class, bit-past}
 use Rattle.laws.proofs.Numbers.{lt-or-le}
 use Rattle.laws.proofs.Tallies.{tally-mono, select, select-rank, select-mark}
 use Rattle.laws.proofs.Lists.{tab}
 use Rattle.answers.proofs.Slots.{slots-assignment, slots-at, Slot, fill, part, value, loose, glued, heads}
-use Rattle.answers.proofs.Gluing.{glued-e, place, front, reach, front-place, place-class, reach-class, reach-pos, reach-front, reach-two, front-head, front-loose, heads-class}
+use Rattle.answers.proofs.Gluing.{glued-e, start-in, place, front, reach, front-place, place-class, reach-class, reach-pos, reach-front, reach-two, front-head, front-loose, heads-class}
 
 module _ (n : ℕ) (c : List ℕ) (seen : List Pair) (inv : Represents n c seen) (one : rep c 1 ≡ 1) (start : ℕ → Bool) (begin : start 0 ≡ true) (last : start n ≡ true) where
   abbrev C : ℕ → ℕ
@@ -223,15 +222,8 @@ module _ (n : ℕ) (c : List ℕ) (seen : List Pair) (inv : Represents n c seen)
       let h = slot-there k o l (omega arith) in
       let a = slot-after (select n mark k + o) k o (h .0) (h .1) w in
       let e : select n mark k + suc o ≡ suc (select n mark k + o) = omega arith in
-      let i : suc (select n mark k + o) < n = inside (select n mark k + o) (h .0) (a .0) in
+      let i : suc (select n mark k + o) < n = start-in n start C begin last (select n mark k + o) (h .0) (a .0) in
       (omega (arith, i), ap slot e ∙ a .1)
-    where
-      inside : (i : ℕ) → i < n → start (suc i) ≡ false → suc i < n
-      inside i l s = go (dec-eq (suc i) n)
-        where
-          go : (suc i ≡ n) ⊎ (suc i ≢ n) → suc i < n
-          go (inl e) = clash (start (suc i)) (ap start e ∙ last) s
-          go (inr e) = omega arith
 
   -- a slot of a fresh piece is one of its places
   pub slot-inside : (i f o : ℕ) → i < n → slot i ≡ part f o → (f < tally n mark) × (o < wide f)

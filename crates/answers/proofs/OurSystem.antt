@@ -20,15 +20,14 @@ use Rattle.answers.specs.declared.AnswerRow.{AnswerRow}
 use Rattle.laws.specs.Lists.{distinct}
 use Rattle.answers.specs.Systems.{fill as fillPart, fresh as freshPart, FinePart, SolvedSystem, labelsOf, freshCount, pieceBits, partBits, sideBits, systemBits, Filling, Gives}
 use Rattle.answers.specs.Solve.{valid, unsatisfiable, pairsTogether, solvedRows, answerRecord}
-use Rattle.answers.proofs.Agreement.{satisfies-reverse}
 use Rattle.answers.proofs.Slots.{Slot, fill, value, slots-assignment}
 use Rattle.laws.proofs.Lists.{tab, tab-at, tab-length, tab-more}
 use Rattle.answers.proofs.OurPieces.{slot, wide, slot-bits, slot-gives, slot-reads, filled}
 use Rattle.answers.proofs.AnswerRows.{partsFrom, rowSlots, slotsTo, Each, slotsBelow, Whole, rows-are}
 use Rattle.answers.proofs.Instantiating.{fills-value, answer-whole}
 use Rattle.answers.proofs.GeneralSystems.{widthSum}
-use Rattle.answers.proofs.Variables.{widths-sum, begins-first, begins-behind}
-use Rattle.answers.proofs.Tables.{tableClasses, represent, satisfies-is, apart-one, solved-rows}
+use Rattle.answers.proofs.Variables.{widths-sum, begins-first, begins-last}
+use Rattle.answers.proofs.Tables.{tableClasses, represent, satisfies-seen, apart-one, solved-rows}
 use Rattle.answers.proofs.Demands.{demand-3}
 use Rattle.answers.proofs.RowSides.{flat, labels-flat, bits-flat, row-labels, flat-rows, fine-sides, InOrder, in-order}
 use Rattle.answers.specs.Demands.{partOf, sidesOf, AnswerSystem}
@@ -178,10 +177,7 @@ module _ (table : List ℕ) (accepted : firstFault table ≡ Accepted) (solved :
   one = apart-one table accepted some
 
   ending : begins ws n ≡ true
-  ending = ap (begins ws) (sym (widths-sum t)) ∙ begins-behind ws
-
-  by-seen : (p : List ℕ) → Assignment n p → satisfies t p ≡ satisfiesPairs p seen
-  by-seen p a = satisfies-is table accepted p a ∙ sym (satisfies-reverse p (pairsTogether (equationPairs t)))
+  ending = begins-last t
 
   rows-are-those : solvedRows t ≡ answerRows n ws (inClass c)
   rows-are-those = solved-rows table accepted some
@@ -191,10 +187,10 @@ module _ (table : List ℕ) (accepted : firstFault table ≡ Accepted) (solved :
       let G = answer-gives n c seen (represent table accepted) one ws (begins-first ws) ending (widths-sum t) in
       record {
         passes = λ φ h.
-            by-seen (systemBits φ (sidesOf ws (answerRows n ws (inClass c))))
+            satisfies-seen table accepted (systemBits φ (sidesOf ws (answerRows n ws (inClass c))))
             (answer-assignment n c seen (represent table accepted) one ws (begins-first ws) ending (widths-sum t) φ h)
             ∙ G .passes φ h;
-        reaches = λ p a s. G .reaches p a (sym (by-seen p a) ∙ s);
+        reaches = λ p a s. G .reaches p a (sym (satisfies-seen table accepted p a) ∙ s);
       }
 
   -- The answer is a solved system with the table's patterns.

@@ -1,19 +1,19 @@
 -- The widths of the variables of a table: they are as many as its variables and add up to its variable bits, and a variable begins at place 0 and behind the last place.
-use mathlib.Core.Path.{_≡_, refl, _∙_, ap}
+use mathlib.Core.Path.{_≡_, refl, sym, _∙_, ap}
 use mathlib.Core.Bool.{Bool, true, false, cond}
 use mathlib.Core.List.{List, [], _∷_, _++_, map}
 use Prim.Native.Nat.{ℕ, zero, suc, _+_, _-_, _≤_}
 use native.Mathlib.Omega.{arith}
 use lib.Dec.{eqb, ltb}
 use lib.ListN.{length, replicate}
-use borrow.Author.Tests.{ltb-true, eq-eqb, ne-eqb}
+use borrow.Author.Tests.{eq-eqb, ne-eqb}
 use Rattle.terms.specs.declared.Row.{Row}
 use Rattle.terms.specs.Assignments.{Assignment, done, off, on}
 use Rattle.terms.specs.Table.{bitsIn, bitsOf, countKind}
 use Rattle.terms.proofs.RowKinds.{by-variable, bits-variable, bits-other}
 use Rattle.answers.specs.Answer.{variableWidths, begins}
 use Rattle.answers.specs.Systems.{Part, fill, fresh, partWidth, sideWidth, FinePart, FineSide, FineSides, SolvedSystem, pieceBits, partBits, sideBits, systemBits, Filling}
-use Rattle.answers.proofs.GeneralSystems.{widthSum}
+use Rattle.answers.proofs.GeneralSystems.{widthSum, begins-end}
 
 pub widths-sum : (t : List Row) → widthSum (variableWidths t) ≡ bitsOf t
 unfolding widthSum variableWidths bitsOf
@@ -45,17 +45,8 @@ begins-first (w ∷ ws) = go (ltb 0 w) (begins-first ws)
     go true h = refl
     go false h = ap (begins ws) z ∙ h
 
-pub begins-behind : (ws : List ℕ) → begins ws (widthSum ws) ≡ true
-unfolding begins widthSum
-begins-behind [] = refl
-begins-behind (w ∷ ws) = go (ltb (w + widthSum ws) w) refl (begins-behind ws)
-  where
-    z : w + widthSum ws - w ≡ widthSum ws
-    z = omega arith
-
-    go : (b : Bool) → ltb (w + widthSum ws) w ≡ b → begins ws (widthSum ws) ≡ true → cond b (eqb (w + widthSum ws) 0) (begins ws (w + widthSum ws - w)) ≡ true
-    go true e h = absurd (omega (arith, ltb-true (w + widthSum ws) w e))
-    go false e h = ap (begins ws) z ∙ h
+pub begins-last : (t : List Row) → begins (variableWidths t) (bitsOf t) ≡ true
+begins-last t = ap (begins (variableWidths t)) (sym (widths-sum t)) ∙ begins-end (variableWidths t)
 
 -- a system's assignment has the bits of its variables
 bit-first : (b n : ℕ) (p : List ℕ) → b ≤ 1 → Assignment n p → Assignment (suc n) (b ∷ p)
