@@ -21,7 +21,7 @@ use Rattle.answers.proofs.Gluing.{glued-e, place, front, reach}
 use Rattle.answers.proofs.OurPieces.{mark-place, mark, home, number, slot, wide, slot-loose, slot-fixed, slot-next, wide-is, home-le, front-le, home-mark}
 use Rattle.answers.proofs.Relation.{fixed-is, unfixed-is, goes-loose, goes-fixed, lowest-is, appears-is}
 
--- a row that is put behind others
+-- a row that begins stands before the others
 pub placed-new : (r : AnswerRow) (rows : List AnswerRow) → placed false r rows ≡ r ∷ rows
 unfolding placed
 placed-new r [] = refl

@@ -21,7 +21,7 @@ use Rattle.laws.proofs.Numbers.{dec-eq}
 use Rattle.laws.proofs.Numbers.{lt-or-le}
 use Rattle.laws.proofs.Tallies.{select, member-more, distinct-is}
 use Rattle.answers.proofs.Slots.{tab-assignment, Slot, fill, part, value, glued}
-use Rattle.laws.proofs.Lists.{tab, tab-at, tab-length, tab-more}
+use Rattle.laws.proofs.Lists.{tab, tab-at, tab-length}
 use Rattle.answers.proofs.Gluing.{glued-e}
 use Rattle.answers.proofs.OurPieces.{mark, slot, wide, slot-gives, slot-bits, filled, slot-reads, slot-there, slot-inside}
 use Rattle.answers.proofs.AnswerRows.{partsFrom, rowSlots, slotsTo, Each, slotsBelow, Whole, Rows, rows-are, ended}
@@ -231,6 +231,11 @@ module _ (n : ℕ) (c : List ℕ) (seen : List Pair) (inv : Represents n c seen)
         ∙ ap (λ (t : List ℕ). map (value (bitOfPiece f)) (slotsTo xs) ++ (t ++ bitsOfRows answer f ys)) (row-value x (h .0))
         ∙ sym (append-assoc (map (value (bitOfPiece f)) (slotsTo xs)) (map (value (bitOfPiece f)) (rowSlots x)) (bitsOfRows answer f ys))
         ∙ ap (λ (t : List ℕ). t ++ bitsOfRows answer f ys) (sym (map-append (value (bitOfPiece f)) (slotsTo xs) (rowSlots x)))
+
+    tab-more : (m : ℕ) (g : ℕ → ℕ) → tab (suc m) g ≡ tab m g ++ (g m ∷ [])
+    unfolding tab
+    tab-more zero g = refl
+    tab-more (suc m) g = ap (λ (t : List ℕ). g 0 ∷ t) (tab-more m (λ i. g (suc i)))
 
     below-tab : (m : ℕ) → map (value (bitOfPiece f)) (slotsBelow n c seen inv one ws begin last m) ≡ tab m (λ i. value (bitOfPiece f) (slotOf i))
     unfolding slotsBelow

@@ -1,5 +1,4 @@
--- The widths of the variables of a table: they add up to its variable bits, there is one for each variable, and a variable begins at
--- place 0 and behind the last place.
+-- The widths of the variables of a table: they are as many as its variables and add up to its variable bits, and a variable begins at place 0 and behind the last place.
 use mathlib.Core.Path.{_≡_, refl, _∙_, ap}
 use mathlib.Core.Bool.{Bool, true, false, cond}
 use mathlib.Core.List.{List, [], _∷_, _++_, map}
@@ -7,7 +6,7 @@ use Prim.Native.Nat.{ℕ, zero, suc, _+_, _-_, _≤_}
 use native.Mathlib.Omega.{arith}
 use lib.Dec.{eqb, ltb}
 use lib.ListN.{length, replicate}
-use borrow.Author.Tests.{eq-eqb, ne-eqb, ltb-true}
+use borrow.Author.Tests.{ltb-true, eq-eqb, ne-eqb}
 use Rattle.terms.specs.declared.Row.{Row}
 use Rattle.terms.specs.Assignments.{Assignment, done, off, on}
 use Rattle.terms.specs.Table.{bitsIn, bitsOf, countKind}
@@ -25,11 +24,11 @@ widths-sum (r ∷ t) =
     (λ e. omega (arith, bits-variable r e))
     (λ h. omega (arith, bits-other r h))
 
-pub variables-count : (t : List Row) → length (variableWidths t) ≡ countKind 0 t
+pub widths-count : (t : List Row) → length (variableWidths t) ≡ countKind 0 t
 unfolding variableWidths countKind
-variables-count [] = refl
-variables-count (r ∷ t) =
-    let later = variables-count t in
+widths-count [] = refl
+widths-count (r ∷ t) =
+    let later = widths-count t in
     by-variable r (r .a ∷ variableWidths t) (variableWidths t) (λ (ws : List ℕ). length ws ≡ cond (eqb (r .kind) 0) 1 0 + countKind 0 t)
     (λ e. rw (eq-eqb (r .kind) 0 e) (omega arith))
     (λ n. rw (ne-eqb (r .kind) 0 n) (omega arith))

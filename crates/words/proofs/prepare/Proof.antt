@@ -7,7 +7,7 @@ use lib.Seq.{length-take-le, take-all}
 use denote.Ref.{now}
 use Rattle.terms.specs.Table.{rowsOf, bitsOf, countKind}
 use Rattle.terms.proofs.AcceptedTable.{accepted-table}
-use Rattle.terms.proofs.AcceptedTable.{few-variables}
+use Rattle.terms.proofs.AcceptedTable.{table-totals}
 use Rattle.windows.proofs.Sixteens.{sixteen-bits}
 use borrow.Author.Needs.{needs}
 use Rattle.words.proofs.prepare.Statement.{statement}
@@ -60,7 +60,7 @@ returns c =
     let t = now (b .before .before .before .before .before .args .table) in
     let rows : b .place .result ≡ bitsOf (rowsOf t) = b .place .ensures .0 ∙ ap bitsOf (take-all 512 (rowsOf t) (accepted-table t accepted .few)) in
     let sixteen-each : bitsOf (rowsOf t) ≡ 16 * countKind 0 (rowsOf t) = sixteen-bits (rowsOf t) sixteen in
-    let few : countKind 0 (rowsOf t) ≤ 64 = few-variables t accepted in
+    let few : countKind 0 (rowsOf t) ≤ 64 = table-totals t accepted .0 in
     p .plan-table .ensures accepted widths (b .place .ensures .1 .0 accepted (omega arith)) (b .place .ensures .1 .1 accepted (omega arith))
     (omega (arith, b .place .kept .1 .0))
     (length-take-le (l .lesser .result + 2) (replicate 1026 0) (omega (arith, l .lesser .ensures .1, length-replicate {A = ℕ} 1026 0)) ∙ omega (arith, l .lesser .ensures .0))
