@@ -37,7 +37,7 @@ pub rows-put : (table c answer answer′ marks₀ marks after₀ after before₀
     → MarksBegins table marks₀ marks n → MarksUneven marks c 1 n after₀ after → MarksUneven marks c 0 n before₀ before
     → PutsPlaces n marks c after before numbers answer answer′ pieces fresh
     → PutsWith table c marks₀ after₀ before₀ (length numbers) answer answer′ pieces fresh
-rows-put table c answer answer′ marks₀ marks after₀ after before₀ before numbers n pieces fresh b a e p zm za ze lm la le ln seen f inv one _ =
+rows-put table c answer answer′ marks₀ marks after₀ after before₀ before numbers n pieces fresh b a e p zm za ze lm la le ln seen f inv one =
     let small = table-bits table f in
     let k : BeginsMarked table marks n = b f zm (omega (arith, inv .len)) in
     let marked : (side : ℕ) (u₀ u : List ℕ) → Zeros u₀ → length c ≤ length u₀ → MarksUneven marks c side n u₀ u → (r : ℕ) → r < n + 2 → getD u r 0 ≡ cond (evenAt marks c side r n) 0 1 =

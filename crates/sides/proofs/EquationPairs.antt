@@ -21,7 +21,7 @@ use Rattle.terms.proofs.Sources.{source-length}
 use Rattle.answers.specs.Pairs.{Pair, paired, pairsOf}
 use Rattle.answers.proofs.Filled.{paired-count}
 use Rattle.forms.specs.Form.{formFrom, numbersOf}
-use Rattle.forms.specs.inner.Numbered.{Numbered}
+use Rattle.terms.specs.inner.Placed.{Numbered}
 use Rattle.sides.specs.inner.Sides.{Prepared, leftSide, rightSide, sideWritten, pairsFrom, SidesWritten, SidesRead}
 use Rattle.sides.proofs.FormSources.{filled-below, below-read, side-read, side-ends}
 

@@ -20,7 +20,7 @@ use Rattle.laws.proofs.CountUp.{count-up}
 use Rattle.terms.specs.Sound.{Sound}
 use Rattle.forms.specs.declared.Piece.{Piece}
 use Rattle.forms.specs.Form.{fill, formFrom, numbersOf}
-use Rattle.forms.specs.inner.Numbered.{Numbered}
+use Rattle.terms.specs.inner.Placed.{Numbered}
 use Rattle.pieces.proofs.Buffer.{form-piece}
 use Rattle.appender.specs.inner.Append.{Appended}
 use Rattle.forms.proofs.RowForms.{sources-wide, width-small, width-read}

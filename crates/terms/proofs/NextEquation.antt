@@ -8,12 +8,11 @@ use Prim.Native.Nat.{ℕ, suc, _+_, _-_, _≤_, _<_}
 use native.Mathlib.Omega.{arith}
 use native.Mathlib.Numerals.{add-one}
 use lib.Dec.{eqb}
-use lib.ListN.{length}
 use borrow.Author.Tests.{eq-eqb, ne-eqb, eqb-false}
 use Rattle.laws.specs.Lists.{least}
 use Rattle.laws.proofs.Least.{least-within, least-passed}
 use Rattle.terms.specs.declared.Row.{Row}
-use Rattle.terms.specs.Table.{rowsOf, rowAt, nextEquation}
+use Rattle.terms.specs.Table.{rowAt, nextEquation}
 
 -- the search at an equation, at another row, and behind the last
 module _ (t : List Row) (r rows : ℕ) where
@@ -40,17 +39,16 @@ pub next-forth : (t : List Row) (from rows n : ℕ) → n ≡ nextEquation t fro
 unfolding nextEquation
 next-forth t from rows n e = omega (arith, least-within (λ r. eqb (rowAt t r .kind) 4) from (rows - from) .0)
 
--- The rows of a table from one row to another: none of them is an equation.
-pub record Passed (t : List Row) (from n : ℕ) : Type 0 where
+-- The rows of a table from one row to another, which is at most `to`: none of them is an equation.
+pub record Passed (t : List Row) (from to n : ℕ) : Type 0 where
   pub forth : from ≤ n
-  pub most : n ≤ length t
+  pub most : n ≤ to
   pub none : (i : ℕ) → from ≤ i → i < n → rowAt t i .kind ≢ 4
 
-pub next-passed : (table : List ℕ) (from rows n : ℕ) → from ≤ rows → rows ≡ length (rowsOf table)
-    → n ≡ nextEquation (rowsOf table) from rows → Passed (rowsOf table) from n
+pub next-passed : (t : List Row) (from to rows n : ℕ) → from ≤ to → rows ≡ to → n ≡ nextEquation t from rows → Passed t from to n
 unfolding nextEquation
-next-passed table from rows n l whole e =
-    let test : ℕ → Bool = λ r. eqb (rowAt (rowsOf table) r .kind) 4 in
+next-passed t from to rows n l whole e =
+    let test : ℕ → Bool = λ r. eqb (rowAt t r .kind) 4 in
     let w = least-within test from (rows - from) in
     record {
       forth = omega (arith, w .0);

@@ -118,12 +118,12 @@ module _ (table links : List ℕ) (row ties k : ℕ) (plan plan′ : List ℕ) (
   pub tells-never : row < length table / 4 → PutsNever plan plan′ → Tells table plan′
   tells-never l put window w =
       put room window
-      ∙ sym (never-satisfied table accepted window (window-bits (rowsOf table) sixteen window w) (omega (arith, taken .taken .row-is, rows-length table)))
+      ∙ sym (never-satisfied table accepted window (window-bits (rowsOf table) sixteen window w) (omega (arith, taken .row-is, rows-length table)))
 
   pub tells-rows : length table / 4 ≤ row → k ≡ countKind 0 (rowsOf table) → PutsRows links k plan plan′ → Tells table plan′
   tells-rows l e put window w =
-      let whole : row ≡ length (rowsOf table) = omega (arith, taken .taken .row-is, conflict-most table accepted, rows-length table) in
-      let left : conflictAt (countUp 0 (suc (suc (bitsOf (rowsOf table))))) (equationPairs (rowsOf table)) ≡ length (rowsOf table) = sym (taken .taken .row-is) ∙ whole in
+      let whole : row ≡ length (rowsOf table) = omega (arith, taken .row-is, conflict-most table accepted, rows-length table) in
+      let left : conflictAt (countUp 0 (suc (suc (bitsOf (rowsOf table))))) (equationPairs (rowsOf table)) ≡ length (rowsOf table) = sym (taken .row-is) ∙ whole in
       let bits : Assignment (bitsOf (rowsOf table)) (wordsBits window) = window-bits (rowsOf table) sixteen window w in
       let n : 16 * k ≡ bitsOf (rowsOf table) = omega (arith, sixteen-bits (rowsOf table) sixteen) in
       put (omega (arith, table-totals table accepted .0)) room (links-low table accepted window bits left links (taken .settled whole)) window

@@ -202,19 +202,17 @@ pub fn window_of(table: &[u16]) -> usize
     k
 }
 
-// The plan of an accepted table whose variables have 16 bits each, from the widths of its rows, in room for PLAN numbers: `meets` tells
-// of a window of as many words as there are variables whether its bits satisfy the table.
-pub fn prepare(table: &[u16], widths: &[u16], plan: &mut [u16])
-    ensures { λ _. ⌜ Prepares (now (table .entry)) (now (widths .entry)) (now (plan .entry)) (now (plan .exit)) ⌝ }
+// The plan of a table that was checked and placed and whose variables have 16 bits each, in room for PLAN numbers: `meets` tells of a window
+// of as many words as there are variables whether its bits satisfy the table.
+pub fn prepare(table: &[u16], widths: &[u16], places: &[u16], bits: usize, plan: &mut [u16])
+    ensures { λ _. ⌜ Prepares (now (table .entry)) (now (widths .entry)) (now (places .entry)) bits (now (plan .entry)) (now (plan .exit)) ⌝ }
 {
-    let mut places = [0u16; 577];
-    let bits = checker::place(table, &mut places[..]);
     let mut links = [0u16; 1026];
     let sources = numbers::lesser(bits, 1024) + 2;
     plan_table(
         table,
         widths,
-        &places[..],
+        places,
         numbers::lesser(bits / 16, 64),
         &mut links[..sources],
         plan,

@@ -11,7 +11,7 @@ use Rattle.terms.specs.Table.{rowsOf, rowAt, bitsOf, countKind, sourceOf, evene
 use Rattle.terms.specs.Faults.{absent}
 use Rattle.terms.specs.inner.Places.{lowSource}
 use Rattle.forms.specs.Form.{formFrom, numbersOf}
-use Rattle.forms.specs.inner.Numbered.{Numbered}
+use Rattle.terms.specs.inner.Placed.{Numbered}
 use Rattle.answers.specs.Pairs.{Pair, pairsOf}
 use Rattle.sides.specs.declared.Reader.{Reader}
 use Rattle.sides.specs.inner.Reading.{Stands}
