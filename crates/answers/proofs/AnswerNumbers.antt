@@ -8,7 +8,7 @@ use lib.ListN.{length, getD, take, length-map, List·getD-append, List·getD-eq-
 use lib.Seq.{getD-append-add}
 use Rattle.laws.proofs.Lists.{map-take}
 use Rattle.answers.specs.declared.AnswerRow.{AnswerRow}
-use Rattle.answers.specs.Answer.{noAnswerRow, answerRowAt, rowNumbers, numbersFrom, answerNumbers, answerRowsOf}
+use Rattle.answers.specs.Answer.{noAnswerRow, answerRowAt, answerRowNumbers, numbersFrom, answerNumbers, answerRowsOf}
 use Rattle.answers.specs.inner.FourNumbers.{fourNumbers, answerColumns}
 use Rattle.answers.specs.RightSide.{rowVariables}
 
@@ -40,7 +40,7 @@ four-columns (p ∷ rows) (suc r) h =
 
 -- the numbers of a table: how many, and number i of row j
 from-length : (rows : List AnswerRow) (j : ℕ) (rs : List AnswerRow) → length (numbersFrom rows j rs) ≡ length rs * 6
-unfolding numbersFrom rowNumbers
+unfolding numbersFrom answerRowNumbers
 from-length rows j [] = refl
 from-length rows j (r ∷ rs) = omega (arith, from-length rows (suc j) rs)
 
@@ -48,36 +48,36 @@ pub numbers-length : (rows : List AnswerRow) → length (answerNumbers rows) ≡
 unfolding answerNumbers
 numbers-length rows = from-length rows 0 rows
 
-six : (rows : List AnswerRow) (j : ℕ) → length (rowNumbers rows j) ≡ 6
-unfolding rowNumbers
+six : (rows : List AnswerRow) (j : ℕ) → length (answerRowNumbers rows j) ≡ 6
+unfolding answerRowNumbers
 six rows j = refl
 
 from-at : (rows : List AnswerRow) (k : ℕ) (rs : List AnswerRow) (j i : ℕ) → j < length rs → i < 6
-    → getD (numbersFrom rows k rs) (j * 6 + i) 0 ≡ getD (rowNumbers rows (k + j)) i 0
+    → getD (numbersFrom rows k rs) (j * 6 + i) 0 ≡ getD (answerRowNumbers rows (k + j)) i 0
 unfolding numbersFrom
 from-at rows k [] j i h l = absurd (omega arith)
 from-at rows k (r ∷ rs) zero i h l =
     let e : k + 0 ≡ k = omega arith in
     let a : 0 * 6 + i ≡ i = omega arith in
-    ap (λ (n : ℕ). getD (rowNumbers rows k ++ numbersFrom rows (suc k) rs) n 0) a
-    ∙ List·getD-append (rowNumbers rows k) (numbersFrom rows (suc k) rs) 0 i (omega (arith, six rows k))
-    ∙ ap (λ (n : ℕ). getD (rowNumbers rows n) i 0) (sym e)
+    ap (λ (n : ℕ). getD (answerRowNumbers rows k ++ numbersFrom rows (suc k) rs) n 0) a
+    ∙ List·getD-append (answerRowNumbers rows k) (numbersFrom rows (suc k) rs) 0 i (omega (arith, six rows k))
+    ∙ ap (λ (n : ℕ). getD (answerRowNumbers rows n) i 0) (sym e)
 from-at rows k (r ∷ rs) (suc j) i h l =
     let e : suc k + j ≡ k + suc j = omega arith in
-    let a : suc j * 6 + i ≡ length (rowNumbers rows k) + (j * 6 + i) = omega (arith, six rows k) in
-    ap (λ (n : ℕ). getD (rowNumbers rows k ++ numbersFrom rows (suc k) rs) n 0) a
-    ∙ getD-append-add (rowNumbers rows k) (numbersFrom rows (suc k) rs) (j * 6 + i) 0
+    let a : suc j * 6 + i ≡ length (answerRowNumbers rows k) + (j * 6 + i) = omega (arith, six rows k) in
+    ap (λ (n : ℕ). getD (answerRowNumbers rows k ++ numbersFrom rows (suc k) rs) n 0) a
+    ∙ getD-append-add (answerRowNumbers rows k) (numbersFrom rows (suc k) rs) (j * 6 + i) 0
     ∙ from-at rows (suc k) rs j i (omega arith) l
-    ∙ ap (λ (n : ℕ). getD (rowNumbers rows n) i 0) e
+    ∙ ap (λ (n : ℕ). getD (answerRowNumbers rows n) i 0) e
 
-pub number-at : (rows : List AnswerRow) (j i : ℕ) → j < length rows → i < 6 → getD (answerNumbers rows) (j * 6 + i) 0 ≡ getD (rowNumbers rows j) i 0
+pub number-at : (rows : List AnswerRow) (j i : ℕ) → j < length rows → i < 6 → getD (answerNumbers rows) (j * 6 + i) 0 ≡ getD (answerRowNumbers rows j) i 0
 unfolding answerNumbers
-number-at rows j i h l = let e : 0 + j ≡ j = omega arith in from-at rows 0 rows j i h l ∙ ap (λ (n : ℕ). getD (rowNumbers rows n) i 0) e
+number-at rows j i h l = let e : 0 + j ≡ j = omega arith in from-at rows 0 rows j i h l ∙ ap (λ (n : ℕ). getD (answerRowNumbers rows n) i 0) e
 
 -- what was written is read as it was
 from-back : (rows : List AnswerRow) (j : ℕ) (rs : List AnswerRow) → ((i : ℕ) → i < length rs → answerRowAt rows (j + i) ≡ answerRowAt rs i)
     → answerRowsOf (numbersFrom rows j rs) ≡ rs
-unfolding answerRowsOf numbersFrom rowNumbers
+unfolding answerRowsOf numbersFrom answerRowNumbers
 from-back rows j [] h = refl
 from-back rows j (r ∷ rs) h =
     let e : answerRowAt rows j ≡ r = let a : j + 0 ≡ j = omega arith in rw a at (h 0 (omega arith)) in

@@ -6,7 +6,7 @@ use mathlib.Core.Logic.{⊎-elim}
 use Prim.Native.Nat.{ℕ, zero, suc, _<_, _≤_}
 use native.Mathlib.Omega.{arith}
 use lib.Dec.{eqb}
-use lib.ListN.{length, drop}
+use lib.ListN.{length, take, drop}
 use Rattle.terms.specs.declared.Row.{Row}
 use Rattle.terms.specs.Table.{rowAt, bitsOf, ifEquation, bitOf, valuesOf, valueOf, sourceOf, sameWord, evened, sidesAgree, allRows, silentRow, counting, satisfies}
 use Rattle.terms.proofs.RowKinds.{Equation, equation-or-not, of-equation, of-term}
@@ -95,25 +95,26 @@ module _ (t : List Row) (p : List ℕ) (sound : Sound t) (whole : length p ≡ b
   unfolding satisfies
   table-pairs = rows-pairs (counting t) counting-pairs
 
--- the bit pairs of row r stand at place r, and none behind the last row
-from-row : (t rs : List Row) (r : ℕ) → r < length rs → drop r (pairsIn t rs) ≡ pairsOf t (rowAt rs r) ∷ drop (suc r) (pairsIn t rs)
+-- of the bit pairs of n rows, those of row r stand at place r, and none behind the last
+from-row : (t rs : List Row) (n r : ℕ) → r < n → r < length rs → drop r (take n (pairsIn t rs)) ≡ pairsOf t (rowAt rs r) ∷ drop (suc r) (take n (pairsIn t rs))
 unfolding pairsIn
-from-row t [] r l = absurd (omega arith)
-from-row t (x ∷ rs) zero l = refl
-from-row t (x ∷ rs) (suc r) l = from-row t rs r (omega arith)
+from-row t rs zero r l h = absurd (omega arith)
+from-row t [] (suc n) r l h = absurd (omega arith)
+from-row t (x ∷ rs) (suc n) zero l h = refl
+from-row t (x ∷ rs) (suc n) (suc r) l h = from-row t rs n r (omega arith) (omega arith)
 
-past-rows : (t rs : List Row) (r : ℕ) → length rs ≤ r → drop r (pairsIn t rs) ≡ []
-unfolding pairsIn
-past-rows t [] zero l = refl
-past-rows t [] (suc r) l = refl
-past-rows t (x ∷ rs) zero l = absurd (omega arith)
-past-rows t (x ∷ rs) (suc r) l = past-rows t rs r (omega arith)
+past-rows : (n r : ℕ) (es : List (List Pair)) → n ≤ r → drop r (take n es) ≡ []
+past-rows zero zero es l = refl
+past-rows zero (suc r) es l = refl
+past-rows (suc n) zero es l = absurd (omega arith)
+past-rows (suc n) (suc r) [] l = refl
+past-rows (suc n) (suc r) (x ∷ es) l = past-rows n r es (omega arith)
 
-pub pairs-from : (t : List Row) (r : ℕ) → r < length t → drop r (pairsIn t t) ≡ pairsOf t (rowAt t r) ∷ drop (suc r) (pairsIn t t)
+pub pairs-from : (t : List Row) (n r : ℕ) → r < n → r < length t → drop r (take n (pairsIn t t)) ≡ pairsOf t (rowAt t r) ∷ drop (suc r) (take n (pairsIn t t))
 pairs-from t = from-row t t
 
-pub pairs-past : (t : List Row) (r : ℕ) → length t ≤ r → drop r (pairsIn t t) ≡ []
-pairs-past t = past-rows t t
+pub pairs-past : (t : List Row) (n r : ℕ) → n ≤ r → drop r (take n (pairsIn t t)) ≡ []
+pairs-past t n r = past-rows n r (pairsIn t t)
 
 -- rows have the same bit pairs if each row has
 pub pairs-same : (u t us ts : List Row) → length us ≡ length ts → ((r : ℕ) → r < length ts → pairsOf u (rowAt us r) ≡ pairsOf t (rowAt ts r))

@@ -15,7 +15,7 @@ use Rattle.laws.proofs.Bools.{and-first, and-second, and-both, clash}
 use Rattle.laws.proofs.Numbers.{lt-or-le}
 use Rattle.laws.proofs.Least.{least-is, least-within, least-passed, least-found}
 use Rattle.answers.specs.declared.AnswerRow.{AnswerRow}
-use Rattle.answers.specs.Answer.{noAnswerRow, answerRowAt, isFresh, freshPieces, freshWidth, freeBits, rowBits, instantiate, widthIn, highBit, homeRow}
+use Rattle.answers.specs.Answer.{noAnswerRow, answerRowAt, isFresh, freshPieces, freshWidth, freeBits, rowBits, instantiate, widthInRows, highBit, homeRow}
 use Rattle.answers.specs.Homes.{FirstPlaces, WholePieces, sideBitsOf, HomeHasBits, Untouched}
 use Rattle.answers.proofs.AnswerNumbers.{rows-back}
 
@@ -80,12 +80,12 @@ module _ (rows : List AnswerRow) where
 -- The bits of a variable's rows are as many as these are wide.
 module _ (rows : List AnswerRow) (f : List ℕ) (v : ℕ) where
   side-length : (rs : List AnswerRow) → ((j : ℕ) → j < length rs → length (rowBits rows f (answerRowAt rs j)) ≡ answerRowAt rs j .width)
-      → length (sideBitsOf rows f v rs) ≡ widthIn rs v
-  unfolding sideBitsOf widthIn
+      → length (sideBitsOf rows f v rs) ≡ widthInRows rs v
+  unfolding sideBitsOf widthInRows
   side-length [] h = refl
   side-length (r ∷ rs) h = go (eqb (r .variable) v) (side-length rs (λ j l. h (suc j) (omega arith)))
     where
-      go : (b : Bool) → length (sideBitsOf rows f v rs) ≡ widthIn rs v → length (cond b (rowBits rows f r) [] ++ sideBitsOf rows f v rs) ≡ cond b (r .width) 0 + widthIn rs v
+      go : (b : Bool) → length (sideBitsOf rows f v rs) ≡ widthInRows rs v → length (cond b (rowBits rows f r) [] ++ sideBitsOf rows f v rs) ≡ cond b (r .width) 0 + widthInRows rs v
       go true e = omega (arith, length-append (rowBits rows f r) (sideBitsOf rows f v rs), h 0 (omega arith))
       go false e = omega arith
 
@@ -141,11 +141,11 @@ module _ (rows : List AnswerRow) (f : List ℕ) (W : WholePieces rows f) (j : �
   sized-later i q = rw (getD-drop (suc h) rows i noAnswerRow) (W .enough (suc h + i) (omega (arith, length-drop (suc h) rows)))
 
   -- the home row's highest bit: its own bits and those behind it
-  high-is : highBit rows h + 1 ≡ row .width + widthIn later v
+  high-is : highBit rows h + 1 ≡ row .width + widthInRows later v
   unfolding highBit
   high-is =
-      let d : widthIn (drop h rows) v ≡ widthIn (row ∷ later) v = ap (λ (xs : List AnswerRow). widthIn xs v) (drop-cons rows h noAnswerRow home-in) in
-      let g : widthIn (row ∷ later) v ≡ row .width + widthIn later v = unfold widthIn in rw (eq-eqb v v refl) in
+      let d : widthInRows (drop h rows) v ≡ widthInRows (row ∷ later) v = ap (λ (xs : List AnswerRow). widthInRows xs v) (drop-cons rows h noAnswerRow home-in) in
+      let g : widthInRows (row ∷ later) v ≡ row .width + widthInRows later v = unfold widthInRows in rw (eq-eqb v v refl) in
       omega (arith, W .wide h home-in)
 
   -- The home has the piece.
@@ -161,7 +161,7 @@ module _ (rows : List AnswerRow) (f : List ℕ) (W : WholePieces rows f) (j : �
       skip : ℕ
       skip = length (sideBitsOf rows f v rows) - (highBit rows h + 1)
 
-      all : length (sideBitsOf rows f v rows) ≡ length (sideBitsOf rows f v (take h rows)) + (row .width + widthIn later v)
+      all : length (sideBitsOf rows f v rows) ≡ length (sideBitsOf rows f v (take h rows)) + (row .width + widthInRows later v)
       all =
           ap length parts
           ∙ length-append (sideBitsOf rows f v (take h rows)) (rowBits rows f row ++ sideBitsOf rows f v later)

@@ -8,6 +8,7 @@ use lib.ListN.{getD, take, drop, replicate}
 use Rattle.terms.specs.declared.Row.{Row}
 use Rattle.answers.specs.declared.AnswerRow.{AnswerRow}
 use Rattle.terms.specs.Table.{ifVariable}
+use Rattle.laws.specs.Bools.{implies}
 use Rattle.laws.specs.Lists.{least, below, tally, distinct}
 
 -- The widths of the variables of a table, variable 0 first.
@@ -23,9 +24,6 @@ begins (w ∷ ws) i = cond (ltb i w) (eqb i 0) (begins ws (i - w))
 unfoldable pub variableAt : List ℕ → ℕ → ℕ
 variableAt [] i = 0
 variableAt (w ∷ ws) i = cond (ltb i w) 0 (suc (variableAt ws (i - w)))
-
-abbrev pub implies : Bool → Bool → Bool
-implies a b = not a || b
 
 -- Whether places i and j are tied; whether place i is fixed to the bit b; whether it is unfixed.
 abbrev pub tied : (ℕ → ℕ → Bool) → ℕ → ℕ → Bool
@@ -136,13 +134,13 @@ unfoldable pub instantiate : List AnswerRow → List ℕ → List ℕ
 instantiate rows f = bitsOfRows rows f rows
 
 -- The widths of the rows of one variable.
-unfoldable pub widthIn : List AnswerRow → ℕ → ℕ
-widthIn [] v = 0
-widthIn (r ∷ rows) v = cond (eqb (r .variable) v) (r .width) 0 + widthIn rows v
+unfoldable pub widthInRows : List AnswerRow → ℕ → ℕ
+widthInRows [] v = 0
+widthInRows (r ∷ rows) v = cond (eqb (r .variable) v) (r .width) 0 + widthInRows rows v
 
 -- The number of row j's highest bit in its variable, counted width - 1 down to 0: the widths of its variable's rows from it on, less 1.
 unfoldable pub highBit : List AnswerRow → ℕ → ℕ
-highBit rows j = widthIn (drop j rows) (answerRowAt rows j .variable) - 1
+highBit rows j = widthInRows (drop j rows) (answerRowAt rows j .variable) - 1
 
 -- The row where the piece of row j first appears: the first row of its fresh piece; a fill is its own.
 unfoldable pub homeRow : List AnswerRow → ℕ → ℕ
@@ -154,8 +152,8 @@ homeRow rows j =
 abbrev pub answerRowLength : ℕ
 answerRowLength = 6
 
-unfoldable pub rowNumbers : List AnswerRow → ℕ → List ℕ
-rowNumbers rows j =
+unfoldable pub answerRowNumbers : List AnswerRow → ℕ → List ℕ
+answerRowNumbers rows j =
     answerRowAt rows j .variable
     ∷ answerRowAt rows j .kind
     ∷ answerRowAt rows j .width
@@ -167,7 +165,7 @@ rowNumbers rows j =
 -- The numbers of as many rows of a table as are in a list, from row j on; and those of all its rows.
 unfoldable pub numbersFrom : List AnswerRow → ℕ → List AnswerRow → List ℕ
 numbersFrom rows j [] = []
-numbersFrom rows j (r ∷ rs) = rowNumbers rows j ++ numbersFrom rows (suc j) rs
+numbersFrom rows j (r ∷ rs) = answerRowNumbers rows j ++ numbersFrom rows (suc j) rs
 
 unfoldable pub answerNumbers : List AnswerRow → List ℕ
 answerNumbers rows = numbersFrom rows 0 rows

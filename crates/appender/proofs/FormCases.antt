@@ -15,7 +15,7 @@ use Rattle.terms.specs.declared.Row.{Row}
 use Rattle.terms.specs.Table.{rowsOf, rowAt, widthOf, sourceOf, extract}
 use Rattle.terms.specs.Faults.{absent}
 use Rattle.forms.specs.Form.{part, formFrom}
-use Rattle.forms.specs.inner.Numbered.{Numbered}
+use Rattle.terms.specs.inner.Placed.{Numbered}
 use Rattle.forms.proofs.RowForms.{width-some, width-value, width-read, whole-cut, first-earlier, concat-left, variable-cut, constant-cut, value-cut, cut-there, cut-bounds, cut-sources, shifted-within, shifted-small, cut-cut, left-there, right-there, right-earlier, both-sources, right-cut, left-cut, left-within, across}
 use Rattle.appender.specs.declared.Cut.{Cut}
 use Rattle.appender.specs.declared.Part.{Part}

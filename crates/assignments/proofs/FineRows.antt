@@ -12,7 +12,7 @@ use borrow.Author.Tests.{eq-eqb, ne-eqb, lt-leb}
 use Rattle.answers.specs.Pairs.{Pair}
 use Rattle.answers.specs.inner.Classes.{rep, inClass, Represents}
 use Rattle.laws.specs.Lists.{tally, member}
-use Rattle.answers.specs.Answer.{begins, variableAt, fixedTo, unfixed, goesOn, placeRow, widened, placed, rowsTo, answerRows, isFresh, freshNumbers, widthIn}
+use Rattle.answers.specs.Answer.{begins, variableAt, fixedTo, unfixed, goesOn, placeRow, widened, placed, rowsTo, answerRows, isFresh, freshNumbers, widthInRows}
 use Rattle.answers.specs.declared.AnswerRow.{AnswerRow}
 use Rattle.laws.proofs.Numbers.{lt-or-le}
 use Rattle.laws.proofs.Tallies.{tally-mono, tally-up}
@@ -68,8 +68,8 @@ module _ (n : ℕ) (c : List ℕ) (seen : List Pair) (inv : Represents n c seen)
     follows : Follows rest (row .variable)
     low-kind : row .kind < 3
     wide-row : 1 ≤ row .width
-    in-variable : widthIn rest (row .variable) + row .width ≡ suc (placeIn ws j)
-    none-later : (v : ℕ) → row .variable < v → widthIn rest v ≡ 0
+    in-variable : widthInRows rest (row .variable) + row .width ≡ suc (placeIn ws j)
+    none-later : (v : ℕ) → row .variable < v → widthInRows rest v ≡ 0
     in-all : patternBits rest + row .width ≡ suc j
     fill-number : isFresh row ≡ false → row .fresh ≡ 0
     differs : Differs rest row
@@ -155,7 +155,7 @@ module _ (n : ℕ) (c : List ℕ) (seen : List Pair) (inv : Represents n c seen)
         low-kind = begun-kind 0 l R;
         wide-row = omega (arith, width-here);
         in-variable = ap₂ _+_ nothing width-here ∙ ap suc (sym (place-first ws));
-        none-later = λ v q. unfold widthIn in refl;
+        none-later = λ v q. unfold widthInRows in refl;
         in-all = unfold patternBits in omega (arith, width-here);
         fill-number = begun-fill 0 l R;
         differs = tt;
@@ -171,8 +171,8 @@ module _ (n : ℕ) (c : List ℕ) (seen : List Pair) (inv : Represents n c seen)
       width-here : at 0 .width ≡ 1
       width-here = unfold placeRow in refl
 
-      nothing : widthIn [] (at 0 .variable) ≡ 0
-      nothing = unfold widthIn in refl
+      nothing : widthInRows [] (at 0 .variable) ≡ 0
+      nothing = unfold widthInRows in refl
 
       none : Below (tally 0 marked) []
       none = unfold tally in none-below
@@ -243,23 +243,23 @@ module _ (n : ℕ) (c : List ℕ) (seen : List Pair) (inv : Represents n c seen)
             go (inl e) = omega arith
             go (inr e) = omega arith
 
-        later-of : (v : ℕ) → row .variable < v → widthIn (row ∷ rest) v ≡ 0
-        later-of v q = unfold widthIn in rw (ne-eqb (row .variable) v (omega arith)) (omega (arith, L .none-later v q))
+        later-of : (v : ℕ) → row .variable < v → widthInRows (row ∷ rest) v ≡ 0
+        later-of v q = unfold widthInRows in rw (ne-eqb (row .variable) v (omega arith)) (omega (arith, L .none-later v q))
 
-        later : (v : ℕ) → at (suc j) .variable < v → widthIn (row ∷ rest) v ≡ 0
+        later : (v : ℕ) → at (suc j) .variable < v → widthInRows (row ∷ rest) v ≡ 0
         later v q = later-of v (omega (arith, not-less))
 
-        in-this : (b : Bool) → begins ws (suc j) ≡ b → widthIn (row ∷ rest) (at (suc j) .variable) ≡ placeIn ws (suc j)
+        in-this : (b : Bool) → begins ws (suc j) ≡ b → widthInRows (row ∷ rest) (at (suc j) .variable) ≡ placeIn ws (suc j)
         in-this true e =
             let w = after .at-begin e in
             later-of (at (suc j) .variable) (omega (arith, variable-here, w .0, L .variable-is)) ∙ sym (w .1)
         in-this false e =
             let w = after .within e in
             let q : at (suc j) .variable ≡ row .variable = variable-here ∙ w .0 ∙ sym (L .variable-is) in
-            ap (widthIn (row ∷ rest)) q ∙ same ∙ sym (w .1)
+            ap (widthInRows (row ∷ rest)) q ∙ same ∙ sym (w .1)
           where
-            same : widthIn (row ∷ rest) (row .variable) ≡ suc (placeIn ws j)
-            same = unfold widthIn in rw (eq-eqb (row .variable) (row .variable) refl) (omega (arith, L .in-variable))
+            same : widthInRows (row ∷ rest) (row .variable) ≡ suc (placeIn ws j)
+            same = unfold widthInRows in rw (eq-eqb (row .variable) (row .variable) refl) (omega (arith, L .in-variable))
 
         other : isFresh (at (suc j)) ≡ false → isFresh row ≡ false → row .variable ≡ at (suc j) .variable → row .kind ≢ at (suc j) .kind
         other f g v k =

@@ -14,7 +14,7 @@ use Rattle.laws.proofs.Bools.{and-first, and-parts, clash}
 use Rattle.laws.proofs.Numbers.{lt-or-le, below-or-at}
 use Rattle.terms.proofs.Satisfies.{same-word}
 use Rattle.answers.specs.declared.AnswerRow.{AnswerRow}
-use Rattle.answers.specs.Answer.{noAnswerRow, answerRowAt, isFresh, freshWidth, freshStart, freeBits, widthIn, answerNumbers, answerRowsOf}
+use Rattle.answers.specs.Answer.{noAnswerRow, answerRowAt, isFresh, freshWidth, freshStart, freeBits, widthInRows, answerNumbers, answerRowsOf}
 use Rattle.answers.specs.inner.Orderly.{Ordered, Orderly}
 use Rattle.answers.proofs.AnswerNumbers.{rows-back}
 use Rattle.assignments.specs.Form.{variableFine, kindFine, widthFine, variableWide, patternBits, patternWide, fillFine, neighboursFine, freshFine, rowFine, rowsFine, homesFine, hasForm}
@@ -67,7 +67,7 @@ formed-none =
 pub record Clauses (before : List AnswerRow) (r : AnswerRow) : Type 0 where
   pub variable-fine : variableFine before r ≡ true
   pub wide : 1 ≤ r .width
-  pub in-variable : widthIn before (r .variable) + r .width ≤ 1024
+  pub in-variable : widthInRows before (r .variable) + r .width ≤ 1024
   pub in-pattern : patternBits before + r .width ≤ 4096
   pub fresh-fine : freshFine before r ≡ true
 
@@ -78,13 +78,13 @@ clauses before r h =
     let b = and-parts _ (neighboursFine before r) (a .0) in
     let c = and-parts _ (fillFine r) (b .0) in
     let d = and-parts _ (ltb (patternBits before + r .width) 4097) (c .0) in
-    let e = and-parts _ (ltb (widthIn before (r .variable) + r .width) 1025) (d .0) in
+    let e = and-parts _ (ltb (widthInRows before (r .variable) + r .width) 1025) (d .0) in
     let f = and-parts _ (ltb 0 (r .width)) (e .0) in
     let g = and-parts (variableFine before r) (kindFine r) (f .0) in
     record {
       variable-fine = g .0;
       wide = ltb-true 0 (r .width) (f .1);
-      in-variable = omega (arith, ltb-true (widthIn before (r .variable) + r .width) 1025 (e .1));
+      in-variable = omega (arith, ltb-true (widthInRows before (r .variable) + r .width) 1025 (e .1));
       in-pattern = omega (arith, ltb-true (patternBits before + r .width) 4097 (d .1));
       fresh-fine = a .1;
     }

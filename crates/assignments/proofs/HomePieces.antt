@@ -9,7 +9,7 @@ use lib.Seq.{length-take-le, take-at, take-take, drop-drop, drop-append-add}
 use Rattle.laws.proofs.Lists.{drop-take}
 use Rattle.terms.specs.Table.{extract}
 use Rattle.answers.specs.declared.AnswerRow.{AnswerRow}
-use Rattle.answers.specs.Answer.{answerRowAt, isFresh, freshStart, freeBits, rowBits, bitsOfRows, instantiate, widthIn, highBit, homeRow, rowNumbers, answerNumbers, answerRowsOf}
+use Rattle.answers.specs.Answer.{answerRowAt, isFresh, freshStart, freeBits, rowBits, bitsOfRows, instantiate, widthInRows, highBit, homeRow, answerRowNumbers, answerNumbers, answerRowsOf}
 use Rattle.answers.proofs.AnswerNumbers.{number-at}
 use Rattle.answers.specs.Homes.{WholePieces}
 use Rattle.answers.proofs.Homes.{home-le, same-width, same-bits}
@@ -90,10 +90,10 @@ module _ (rows : List AnswerRow) (F : Formed rows) (f : List ℕ) (enough : leng
     v = at h .variable
 
     abbrev before : ℕ
-    before = widthIn (take h rows) v
+    before = widthInRows (take h rows) v
 
     abbrev on : ℕ
-    on = widthIn (drop h rows) v
+    on = widthInRows (drop h rows) v
 
     on-here : at h .width ≤ on
     on-here = on-wide rows (F .ordered) h home-in
@@ -103,7 +103,7 @@ module _ (rows : List AnswerRow) (F : Formed rows) (f : List ℕ) (enough : leng
 
     variable-is : variableBits rows v p ≡ take (on + before) (drop (variableStart rows v) p)
     unfolding variableBits
-    variable-is = let e : widthIn rows v ≡ on + before = omega (arith, width-parts rows (F .ordered) h home-in) in ap (λ (n : ℕ). take n (drop (variableStart rows v) p)) e
+    variable-is = let e : widthInRows rows v ≡ on + before = omega (arith, width-parts rows (F .ordered) h home-in) in ap (λ (n : ℕ). take n (drop (variableStart rows v) p)) e
 
     variable-length : length (variableBits rows v p) ≡ on + before
     variable-length =
@@ -144,14 +144,14 @@ pub home-has-piece : HomeHasPiece
 home-has-piece t h f enough j l =
     rw (home, high) (home-bits (answerRowsOf t) (formed-rows (answerRowsOf t) (parts t h .rows-fine)) f enough j l)
   where
-    number : (i : ℕ) → i < 6 → getD t (j * 6 + i) 0 ≡ getD (rowNumbers (answerRowsOf t) j) i 0
+    number : (i : ℕ) → i < 6 → getD t (j * 6 + i) 0 ≡ getD (answerRowNumbers (answerRowsOf t) j) i 0
     number i q = ap (λ (x : List ℕ). getD x (j * 6 + i) 0) (sym (parts t h .numbers-are)) ∙ number-at (answerRowsOf t) j i l q
 
     home : homeAt t j ≡ answerRowAt (answerRowsOf t) (homeRow (answerRowsOf t) j) .variable
-    home = number 4 (omega arith) ∙ (unfold rowNumbers in refl)
+    home = number 4 (omega arith) ∙ (unfold answerRowNumbers in refl)
 
     high : highAt t j ≡ highBit (answerRowsOf t) (homeRow (answerRowsOf t) j)
-    high = number 5 (omega arith) ∙ (unfold rowNumbers in refl)
+    high = number 5 (omega arith) ∙ (unfold answerRowNumbers in refl)
 
 -- The first four numbers of each row decide the others.
 pub four-decide : FourDecide

@@ -19,7 +19,7 @@ use Rattle.laws.proofs.Least.{least-within}
 use Rattle.laws.proofs.Numbers.{lt-or-le, below-or-at}
 use Rattle.laws.proofs.Tallies.{tally-mono}
 use Rattle.answers.specs.declared.AnswerRow.{AnswerRow}
-use Rattle.answers.specs.Answer.{variableWidths, answerRowAt, fixedTo, unfixed, goesOn, lowest, appears, placeRow, answerRows, variableAt, isFresh, widthIn, highBit, homeRow, rowNumbers}
+use Rattle.answers.specs.Answer.{variableWidths, answerRowAt, fixedTo, unfixed, goesOn, lowest, appears, placeRow, answerRows, variableAt, isFresh, widthInRows, highBit, homeRow, answerRowNumbers}
 use Rattle.answers.specs.Demands.{partOf, sideOf, sidesFrom, sidesOf}
 use Rattle.answers.specs.inner.Orderly.{Ordered}
 use Rattle.answers.specs.Pairs.{equalUnder}
@@ -210,7 +210,7 @@ sum-next (w ∷ ws) zero l = omega arith
 sum-next (w ∷ ws) (suc v) l = omega (arith, sum-next ws v (omega arith))
 
 -- rows of variables that have these widths
-module _ (rows : List AnswerRow) (ordered : Ordered rows) (ws : List ℕ) (widths : (v : ℕ) → v < length ws → widthIn rows v ≡ getD ws v 0) where
+module _ (rows : List AnswerRow) (ordered : Ordered rows) (ws : List ℕ) (widths : (v : ℕ) → v < length ws → widthInRows rows v ≡ getD ws v 0) where
   start-is : (v : ℕ) → v ≤ length ws → variableStart rows v ≡ widthSum (take v ws)
   unfolding variableStart widthSum
   start-is zero l = refl
@@ -221,31 +221,31 @@ module _ (rows : List AnswerRow) (ordered : Ordered rows) (ws : List ℕ) (width
   unfolding highBit
   high-bit h l w k =
       let v = answerRowAt rows h .variable in
-      let a = widthIn (take h rows) v in
+      let a = widthInRows (take h rows) v in
       let place : patternBits (take h rows) ≡ widthSum (take v ws) + a = row-start rows ordered h l ∙ ap (λ (x : ℕ). x + a) (start-is v (omega arith)) in
-      let all : getD ws v 0 ≡ a + widthIn (drop h rows) v = sym (widths v k) ∙ width-parts rows ordered h l in
+      let all : getD ws v 0 ≡ a + widthInRows (drop h rows) v = sym (widths v k) ∙ width-parts rows ordered h l in
       let on = on-wide rows ordered h l in
       let bit : bitAt ws (widthSum (take v ws) + a) ≡ getD ws v 0 - 1 - a = bit-of ws v a k (omega arith) in
-      let this : widthIn (drop h rows) v - 1 ≡ getD ws v 0 - 1 - a = omega arith in
+      let this : widthInRows (drop h rows) v - 1 ≡ getD ws v 0 - 1 - a = omega arith in
       this ∙ sym bit ∙ ap (bitAt ws) (sym place)
 
 -- the widths of the rows of a variable, and of its right side
-side-width : (v : ℕ) (rows : List AnswerRow) → sideWidth (sideOf v rows) ≡ widthIn rows v
-unfolding sideOf sideWidth widthIn partOf
+side-width : (v : ℕ) (rows : List AnswerRow) → sideWidth (sideOf v rows) ≡ widthInRows rows v
+unfolding sideOf sideWidth widthInRows partOf
 side-width v [] = refl
 side-width v (r ∷ rows) = go (eqb (r .variable) v) (isFresh r) (side-width v rows)
   where
-    go : (b c : Bool) → sideWidth (sideOf v rows) ≡ widthIn rows v
-        → sideWidth (cond b (cond c (fresh (r .fresh) (r .width)) (fill (r .kind) (r .width)) ∷ sideOf v rows) (sideOf v rows)) ≡ cond b (r .width) 0 + widthIn rows v
+    go : (b c : Bool) → sideWidth (sideOf v rows) ≡ widthInRows rows v
+        → sideWidth (cond b (cond c (fresh (r .fresh) (r .width)) (fill (r .kind) (r .width)) ∷ sideOf v rows) (sideOf v rows)) ≡ cond b (r .width) 0 + widthInRows rows v
     go true true e = ap (λ (x : ℕ). r .width + x) e
     go true false e = ap (λ (x : ℕ). r .width + x) e
     go false c e = e ∙ omega arith
 
-sides-at : (v m : ℕ) (rows : List AnswerRow) (i : ℕ) → i < m → getD (map sideWidth (sidesFrom v m rows)) i 0 ≡ widthIn rows (v + i)
+sides-at : (v m : ℕ) (rows : List AnswerRow) (i : ℕ) → i < m → getD (map sideWidth (sidesFrom v m rows)) i 0 ≡ widthInRows rows (v + i)
 unfolding sidesFrom
 sides-at v zero rows i l = absurd (omega arith)
-sides-at v (suc m) rows zero l = let e : v + 0 ≡ v = omega arith in side-width v rows ∙ ap (widthIn rows) (sym e)
-sides-at v (suc m) rows (suc i) l = let e : suc v + i ≡ v + suc i = omega arith in sides-at (suc v) m rows i (omega arith) ∙ ap (widthIn rows) e
+sides-at v (suc m) rows zero l = let e : v + 0 ≡ v = omega arith in side-width v rows ∙ ap (widthInRows rows) (sym e)
+sides-at v (suc m) rows (suc i) l = let e : suc v + i ≡ v + suc i = omega arith in sides-at (suc v) m rows i (omega arith) ∙ ap (widthInRows rows) e
 
 -- Home and high in the answer of a solved table.
 module _ (table : List ℕ) (accepted : firstFault table ≡ Accepted) (solved : answerRecord (rowsOf table) .outcome ≡ 2) where
@@ -264,11 +264,11 @@ module _ (table : List ℕ) (accepted : firstFault table ≡ Accepted) (solved :
   F : Formed (solvedRows t)
   F = formed-rows (solvedRows t) (rows-fine table accepted solved)
 
-  widths : (v : ℕ) → v < length ws → widthIn (solvedRows t) v ≡ getD ws v 0
+  widths : (v : ℕ) → v < length ws → widthInRows (solvedRows t) v ≡ getD ws v 0
   unfolding sidesOf
   widths v l =
       let e : 0 + v ≡ v = omega arith in
-      ap (widthIn (solvedRows t)) (sym e)
+      ap (widthInRows (solvedRows t)) (sym e)
       ∙ sym (sides-at 0 (length ws) (solvedRows t) v l)
       ∙ ap (λ (x : List ℕ). getD x v 0) (answer-system table accepted solved .solves .widths-are)
 
@@ -294,13 +294,13 @@ module _ (table : List ℕ) (accepted : firstFault table ≡ Accepted) (solved :
       home-in : h < length (solvedRows t)
       home-in = omega (arith, home-le (solvedRows t) j)
 
-      home : getD (rowNumbers (solvedRows t) j) 4 0 ≡ variableAt ws (homeOf t j)
-      home = unfold rowNumbers solvedRows in home-variable (bitsOf t) ws same low j l
+      home : getD (answerRowNumbers (solvedRows t) j) 4 0 ≡ variableAt ws (homeOf t j)
+      home = unfold answerRowNumbers solvedRows in home-variable (bitsOf t) ws same low j l
 
       begins' : patternBits (take h (solvedRows t)) ≡ homeOf t j
       begins' = unfold solvedRows in home-begins (bitsOf t) ws same low j l
 
-      high : getD (rowNumbers (solvedRows t) j) 5 0 ≡ bitAt ws (homeOf t j)
+      high : getD (answerRowNumbers (solvedRows t) j) 5 0 ≡ bitAt ws (homeOf t j)
       high =
-          unfold rowNumbers in (high-bit (solvedRows t) (F .ordered) ws widths h home-in (F .wide h home-in) (variable-in h home-in)
+          unfold answerRowNumbers in (high-bit (solvedRows t) (F .ordered) ws widths h home-in (F .wide h home-in) (variable-in h home-in)
           ∙ ap (bitAt ws) begins')

@@ -8,7 +8,7 @@ use native.Mathlib.Omega.{arith}
 use lib.Dec.{eqb, ltb}
 use borrow.Author.Tests.{eqb-true, eq-eqb, lt-ltb}
 use Rattle.answers.specs.declared.AnswerRow.{AnswerRow}
-use Rattle.answers.specs.Answer.{isFresh, freshNumbers, freshWidth, widthIn}
+use Rattle.answers.specs.Answer.{isFresh, freshNumbers, freshWidth, widthInRows}
 use Rattle.laws.specs.Lists.{member}
 use Rattle.laws.proofs.Bools.{and-both, or-shared}
 use Rattle.laws.proofs.Numbers.{lt-or-le}
@@ -32,8 +32,8 @@ unfolding rowsFine
 fine-rows xs h = fine-turned xs [] h refl
 
 -- sums and numbers of rows that are turned round
-in-turned : (v : ℕ) (xs ys : List AnswerRow) → widthIn (reverseAux xs ys) v ≡ widthIn xs v + widthIn ys v
-unfolding widthIn
+in-turned : (v : ℕ) (xs ys : List AnswerRow) → widthInRows (reverseAux xs ys) v ≡ widthInRows xs v + widthInRows ys v
+unfolding widthInRows
 in-turned v [] ys = omega arith
 in-turned v (x ∷ xs) ys = in-turned v xs (x ∷ ys) ∙ omega arith
 
@@ -42,8 +42,8 @@ unfolding patternBits
 bits-turned [] ys = omega arith
 bits-turned (x ∷ xs) ys = bits-turned xs (x ∷ ys) ∙ omega arith
 
-in-reverse : (v : ℕ) (xs : List AnswerRow) → widthIn (reverse xs) v ≡ widthIn xs v
-in-reverse v xs = in-turned v xs [] ∙ unfold widthIn in omega arith
+in-reverse : (v : ℕ) (xs : List AnswerRow) → widthInRows (reverse xs) v ≡ widthInRows xs v
+in-reverse v xs = in-turned v xs [] ∙ unfold widthInRows in omega arith
 
 pub bits-reverse : (xs : List AnswerRow) → patternBits (reverse xs) ≡ patternBits xs
 bits-reverse xs = bits-turned xs [] ∙ unfold patternBits in omega arith
@@ -117,7 +117,7 @@ pub record Behind (before : List AnswerRow) (r : AnswerRow) : Type 0 where
   pub low-variable : r .variable < 64
   pub low-kind : r .kind < 3
   pub wide : 1 ≤ r .width
-  pub in-variable : widthIn before (r .variable) + r .width ≤ 1024
+  pub in-variable : widthInRows before (r .variable) + r .width ≤ 1024
   pub in-all : patternBits before + r .width ≤ 4096
   pub fill-number : isFresh r ≡ false → r .fresh ≡ 0
   pub differs : Differs before r
@@ -153,7 +153,7 @@ behind-fine before r b =
       variable-fine before r (b .follows) (b .low-variable),
       lt-ltb (r .kind) 3 (b .low-kind),
       lt-ltb 0 (r .width) (b .wide),
-      lt-ltb (widthIn (reverse before) (r .variable) + r .width) 1025 (omega (arith, in-reverse (r .variable) before, b .in-variable)),
+      lt-ltb (widthInRows (reverse before) (r .variable) + r .width) 1025 (omega (arith, in-reverse (r .variable) before, b .in-variable)),
       lt-ltb (patternBits (reverse before) + r .width) 4097 (omega (arith, bits-reverse before, b .in-all)),
       fill-fine r (b .fill-number),
       neighbours-fine before r (b .differs),

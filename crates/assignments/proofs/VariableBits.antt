@@ -12,7 +12,7 @@ use borrow.Author.Tests.{eq-eqb, ne-eqb, lt-ltb, le-ltb}
 use Rattle.laws.proofs.Bools.{cond-most}
 use Rattle.laws.proofs.Numbers.{lt-or-le, dec-eq}
 use Rattle.answers.specs.declared.AnswerRow.{AnswerRow}
-use Rattle.answers.specs.Answer.{noAnswerRow, answerRowAt, widthIn}
+use Rattle.answers.specs.Answer.{noAnswerRow, answerRowAt, widthInRows}
 use Rattle.answers.specs.inner.Orderly.{Ordered}
 use Rattle.assignments.specs.Form.{patternBits}
 use Rattle.assignments.specs.Homes.{variableStart}
@@ -31,13 +31,13 @@ unfolding patternBits
 bits-next rows j l = ap patternBits (take-suc rows j noAnswerRow l) ∙ bits-append (take j rows) (answerRowAt rows j ∷ []) ∙ omega arith
 
 -- a variable has no more bits than all
-pub in-variable : (rows : List AnswerRow) (v : ℕ) → widthIn rows v ≤ patternBits rows
-unfolding widthIn patternBits
+pub in-variable : (rows : List AnswerRow) (v : ℕ) → widthInRows rows v ≤ patternBits rows
+unfolding widthInRows patternBits
 in-variable [] v = omega arith
 in-variable (r ∷ rows) v = omega (arith, in-variable rows v, cond-most (eqb (r .variable) v) (r .width))
 
-pub width-append : (xs ys : List AnswerRow) (v : ℕ) → widthIn (xs ++ ys) v ≡ widthIn xs v + widthIn ys v
-unfolding widthIn
+pub width-append : (xs ys : List AnswerRow) (v : ℕ) → widthInRows (xs ++ ys) v ≡ widthInRows xs v + widthInRows ys v
+unfolding widthInRows
 width-append [] ys v = omega arith
 width-append (x ∷ xs) ys v = omega (arith, width-append xs ys v)
 
@@ -56,12 +56,12 @@ step a m w = go (lt-or-le a m) (dec-eq a m)
     go (inr l) (inr n) = rw (le-ltb a (suc m) (omega arith), le-ltb a m l, ne-eqb a m n) (omega arith)
 
 start-cons : (r : AnswerRow) (xs : List AnswerRow) (m : ℕ) → variableStart (r ∷ xs) m ≡ cond (ltb (r .variable) m) (r .width) 0 + variableStart xs m
-unfolding variableStart widthIn
+unfolding variableStart widthInRows
 start-cons r xs zero = rw (le-ltb (r .variable) 0 (omega arith)) refl
 start-cons r xs (suc m) = omega (arith, start-cons r xs m, step (r .variable) m (r .width))
 
 start-empty : (m : ℕ) → variableStart [] m ≡ 0
-unfolding variableStart widthIn
+unfolding variableStart widthInRows
 start-empty zero = refl
 start-empty (suc m) = omega (arith, start-empty m)
 
@@ -91,15 +91,15 @@ module _ (rows : List AnswerRow) (ordered : Ordered rows) (h : ℕ) (l : h < len
   v = answerRowAt rows h .variable
 
   -- the widths of row h's variable before it and from it on
-  pub width-parts : widthIn rows (answerRowAt rows h .variable)
-      ≡ widthIn (take h rows) (answerRowAt rows h .variable) + widthIn (drop h rows) (answerRowAt rows h .variable)
-  width-parts = ap (λ (xs : List AnswerRow). widthIn xs v) (sym (take-append-drop h rows)) ∙ width-append (take h rows) (drop h rows) v
+  pub width-parts : widthInRows rows (answerRowAt rows h .variable)
+      ≡ widthInRows (take h rows) (answerRowAt rows h .variable) + widthInRows (drop h rows) (answerRowAt rows h .variable)
+  width-parts = ap (λ (xs : List AnswerRow). widthInRows xs v) (sym (take-append-drop h rows)) ∙ width-append (take h rows) (drop h rows) v
 
   -- from it on at least its own
-  pub on-wide : answerRowAt rows h .width ≤ widthIn (drop h rows) (answerRowAt rows h .variable)
+  pub on-wide : answerRowAt rows h .width ≤ widthInRows (drop h rows) (answerRowAt rows h .variable)
   on-wide =
-      let e : widthIn (drop h rows) v ≡ widthIn (answerRowAt rows h ∷ drop (suc h) rows) v = ap (λ (xs : List AnswerRow). widthIn xs v) (drop-cons rows h noAnswerRow l) in
-      let g : widthIn (answerRowAt rows h ∷ drop (suc h) rows) v ≡ answerRowAt rows h .width + widthIn (drop (suc h) rows) v = unfold widthIn in rw (eq-eqb v v refl) in
+      let e : widthInRows (drop h rows) v ≡ widthInRows (answerRowAt rows h ∷ drop (suc h) rows) v = ap (λ (xs : List AnswerRow). widthInRows xs v) (drop-cons rows h noAnswerRow l) in
+      let g : widthInRows (answerRowAt rows h ∷ drop (suc h) rows) v ≡ answerRowAt rows h .width + widthInRows (drop (suc h) rows) v = unfold widthInRows in rw (eq-eqb v v refl) in
       omega (arith, e, g)
 
   taken : (i : ℕ) → i < length (take h rows) → answerRowAt (take h rows) i .variable < suc v
@@ -112,14 +112,14 @@ module _ (rows : List AnswerRow) (ordered : Ordered rows) (h : ℕ) (l : h < len
       omega (arith, ap (λ (r : AnswerRow). r .variable) (getD-drop h rows i noAnswerRow), ordered h (h + i) (omega arith) (omega (arith, length-drop h rows)))
 
   -- the bits of its variable begin so much before its own
-  pub row-start : patternBits (take h rows) ≡ variableStart rows (answerRowAt rows h .variable) + widthIn (take h rows) (answerRowAt rows h .variable)
+  pub row-start : patternBits (take h rows) ≡ variableStart rows (answerRowAt rows h .variable) + widthInRows (take h rows) (answerRowAt rows h .variable)
   row-start =
-      let e : variableStart (take h rows) (suc v) ≡ variableStart (take h rows) v + widthIn (take h rows) v = unfold variableStart in refl in
+      let e : variableStart (take h rows) (suc v) ≡ variableStart (take h rows) v + widthInRows (take h rows) v = unfold variableStart in refl in
       let f : variableStart rows v ≡ variableStart (take h rows) v + variableStart (drop h rows) v =
       ap (λ (xs : List AnswerRow). variableStart xs v) (sym (take-append-drop h rows)) ∙ start-append (take h rows) (drop h rows) v in
       omega (arith, start-all (suc v) (take h rows) taken, start-none v (drop h rows) left)
 
-  pub variable-within : variableStart rows (answerRowAt rows h .variable) + widthIn rows (answerRowAt rows h .variable) ≤ patternBits rows
+  pub variable-within : variableStart rows (answerRowAt rows h .variable) + widthInRows rows (answerRowAt rows h .variable) ≤ patternBits rows
   variable-within =
-      let e : variableStart rows (suc v) ≡ variableStart rows v + widthIn rows v = unfold variableStart in refl in
+      let e : variableStart rows (suc v) ≡ variableStart rows v + widthInRows rows v = unfold variableStart in refl in
       omega (arith, start-most (suc v) rows)

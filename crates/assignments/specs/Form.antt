@@ -8,7 +8,7 @@ use lib.ListN.{length}
 use Rattle.laws.specs.Lists.{least}
 use Rattle.answers.specs.declared.AnswerRow.{AnswerRow}
 use Rattle.terms.specs.Table.{sameWord}
-use Rattle.answers.specs.Answer.{isFresh, freshNumbers, freshWidth, widthIn, answerRowLength, answerNumbers, answerRowsOf}
+use Rattle.answers.specs.Answer.{isFresh, freshNumbers, freshWidth, widthInRows, answerRowLength, answerNumbers, answerRowsOf}
 use Rattle.laws.specs.Lists.{member}
 
 -- "Variables start at 0 and stay or rise by one, up to 63"
@@ -27,7 +27,7 @@ widthFine r = ltb 0 (r .width)
 
 -- "and add up to at most 1,024 in a variable"
 unfoldable pub variableWide : List AnswerRow → AnswerRow → Bool
-variableWide before r = ltb (widthIn before (r .variable) + r .width) 1025
+variableWide before r = ltb (widthInRows before (r .variable) + r .width) 1025
 
 -- "or over 4,096 bits": the widths of all rows, which are the bits of the pattern
 unfoldable pub patternBits : List AnswerRow → ℕ

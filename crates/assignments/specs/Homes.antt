@@ -8,7 +8,7 @@ use lib.ListN.{length, getD, take, drop}
 use Rattle.terms.specs.declared.Row.{Row}
 use Rattle.terms.specs.Table.{bitsOf, satisfies, extract}
 use Rattle.answers.specs.declared.AnswerRow.{AnswerRow}
-use Rattle.answers.specs.Answer.{variableWidths, variableAt, unfixed, lowest, answerRowAt, answerRowLength, answerNumbers, answerRowsOf, widthIn, freeBits, instantiate}
+use Rattle.answers.specs.Answer.{variableWidths, variableAt, unfixed, lowest, answerRowAt, answerRowLength, answerNumbers, answerRowsOf, widthInRows, freeBits, instantiate}
 use Rattle.answers.specs.Pairs.{equalUnder}
 use Rattle.answers.specs.Solve.{solvedRows}
 use Rattle.assignments.specs.Form.{patternBits, hasForm}
@@ -16,10 +16,10 @@ use Rattle.assignments.specs.Form.{patternBits, hasForm}
 -- Where the bits of a variable begin in a pattern of the rows: behind those of the variables before it. And its bits.
 unfoldable pub variableStart : List AnswerRow → ℕ → ℕ
 variableStart rows zero = 0
-variableStart rows (suc v) = variableStart rows v + widthIn rows v
+variableStart rows (suc v) = variableStart rows v + widthInRows rows v
 
 unfoldable pub variableBits : List AnswerRow → ℕ → List ℕ → List ℕ
-variableBits rows v p = take (widthIn rows v) (drop (variableStart rows v) p)
+variableBits rows v p = take (widthInRows rows v) (drop (variableStart rows v) p)
 
 -- The bits of row j in a pattern of the rows: behind those of the rows before it.
 unfoldable pub bitsAt : List AnswerRow → ℕ → List ℕ → List ℕ

@@ -5,13 +5,12 @@ use mathlib.Core.List.{List}
 use Prim.Native.Nat.{ℕ, zero, suc, _+_, _≤_, _<_}
 use native.Mathlib.Omega.{arith}
 use lib.ListN.{length, getD, replicate, length-replicate}
-use lib.Seq.{take-all}
 use Rattle.terms.specs.declared.Row.{Row}
 use Rattle.terms.specs.declared.Fault.the-variants.{Accepted}
 use Rattle.terms.specs.Table.{rowsOf, bitsOf}
 use Rattle.terms.specs.Faults.{firstFault}
-use Rattle.terms.proofs.AcceptedTable.{accepted-table}
-use Rattle.terms.proofs.Faults.{kept, kept-width, totals-small}
+use Rattle.terms.proofs.AcceptedTable.{accepted-table, table-bits}
+use Rattle.terms.proofs.Faults.{kept, kept-width}
 use Rattle.terms.proofs.Values.{width-variable}
 use Rattle.answers.specs.Answer.{variableWidths}
 use Rattle.answers.specs.inner.Classes.{Represents}
@@ -34,18 +33,12 @@ positive table a =
     rows : List Row
     rows = rowsOf table
 
--- and all variables together have at most 4,096
-pub bits-most : (table : List ℕ) → firstFault table ≡ Accepted → bitsOf (rowsOf table) ≤ 4096
-bits-most table a =
-    let t = accepted-table table a in
-    omega (arith, totals-small (rowsOf table) (length (rowsOf table)) (t .sound) .1, ap bitsOf (take-all (length (rowsOf table)) (rowsOf table) (omega arith)))
-
 pub rows-put : (table c answer answer′ marks₀ marks after₀ after before₀ before numbers : List ℕ) (n pieces fresh : ℕ)
     → MarksBegins table marks₀ marks n → MarksUneven marks c 1 n after₀ after → MarksUneven marks c 0 n before₀ before
     → PutsPlaces n marks c after before numbers answer answer′ pieces fresh
     → PutsWith table c marks₀ after₀ before₀ (length numbers) answer answer′ pieces fresh
-rows-put table c answer answer′ marks₀ marks after₀ after before₀ before numbers n pieces fresh b a e p zm za ze lm la le ln seen f inv one _ =
-    let small = bits-most table f in
+rows-put table c answer answer′ marks₀ marks after₀ after before₀ before numbers n pieces fresh b a e p zm za ze lm la le ln seen f inv one =
+    let small = table-bits table f in
     let k : BeginsMarked table marks n = b f zm (omega (arith, inv .len)) in
     let marked : (side : ℕ) (u₀ u : List ℕ) → Zeros u₀ → length c ≤ length u₀ → MarksUneven marks c side n u₀ u → (r : ℕ) → r < n + 2 → getD u r 0 ≡ cond (evenAt marks c side r n) 0 1 =
     λ side u₀ u z h s r l. s r (omega (arith, inv .len, k .bits)) ∙ ap (λ (x : ℕ). cond (evenAt marks c side r n) x 1) (z r) in
@@ -75,4 +68,4 @@ module _ (table c answer answer′ : List ℕ) (room pieces fresh : ℕ) (p : Pu
       p (zeros-at room) (zeros-at room) (zeros-at room) l l l l
 
   pub put-many : 4098 ≤ room → PutsRows table c answer answer′ pieces fresh
-  put-many h seen f inv = put-few (omega (arith, bits-most table f, inv .len)) seen f inv
+  put-many h seen f inv = put-few (omega (arith, table-bits table f, inv .len)) seen f inv

@@ -12,7 +12,8 @@ use borrow.Author.Tests.{eqb-true, eq-eqb, lt-ltb, le-ltb, not-true, ltb-false}
 use Rattle.laws.proofs.Bools.{not-both, open-mark, cond-not, cond-there, even-mark}
 use Rattle.answers.specs.Pairs.{Pair}
 use Rattle.answers.specs.inner.Classes.{rep, inClass}
-use Rattle.answers.specs.Answer.{implies, begins, goesOn}
+use Rattle.laws.specs.Bools.{implies}
+use Rattle.answers.specs.Answer.{begins, goesOn}
 use Rattle.laws.proofs.Bools.{and-first, and-second, same-test}
 use Rattle.laws.proofs.Numbers.{lt-or-le}
 use Rattle.laws.proofs.Tallies.{below-of, below-at, implied}

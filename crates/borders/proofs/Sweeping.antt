@@ -12,7 +12,7 @@ use lib.Seq.{getD-set-same, getD-set-other}
 use borrow.Author.Tests.{eq-eqb, ne-eqb}
 use Rattle.answers.specs.inner.Classes.{rep}
 use Rattle.laws.specs.Lists.{below}
-use Rattle.answers.specs.Answer.{implies}
+use Rattle.laws.specs.Bools.{implies}
 use Rattle.laws.proofs.Numbers.{dec-eq}
 use Rattle.borders.specs.inner.Borders.{besideIn, evenAt, MarksUneven, unevenWith}
 use Rattle.laws.proofs.Bools.{mark-next}

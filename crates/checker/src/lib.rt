@@ -5,10 +5,10 @@ ghost use Prim.Native.Nat.{_+_, _-_, _%_, _≤_};
 ghost use lib.ListN.{getD, length, take};
 ghost use Rattle.terms.specs.Table.{rowsOf, widthIn, widthsOf, bitsIn, bitsOf};
 ghost use Rattle.terms.specs.Faults.{unusedColumn, notTerm, misnamed, wrongWidth, wrongValue, wrongBounds, tooMany, firstRule};
-ghost use Rattle.terms.specs.inner.Places.{NumbersVariables, FindsSources};
-ghost use Rattle.checker.specs.inner.Check.{rulesIn, faultIn, rowsPassed};
+ghost use Rattle.checker.specs.inner.Check.{rulesIn, faultIn, rowsPassed, NumbersVariables, FindsSources, CheckedTable};
 ghost use Rattle.laws.specs.Buffers.{overwrite};
 use terms::Fault;
+use terms::Record;
 use terms::Row;
 
 // Rule 13: an unused column is not 0.
@@ -297,4 +297,21 @@ pub fn place(table: &[u16], places: &mut [u16]) -> usize
         r += 1;
     }
     bits
+}
+
+// What a table is found to be: refused, with its record; or accepted, with so many variable bits.
+pub enum Checked {
+    Refused(Record),
+    Bits(usize),
+}
+
+// Checks a table, and places its variables: how each call on a table begins.
+pub fn check_and_place(table: &[u16], widths: &mut [u16; 512], places: &mut [u16; 577]) -> Checked
+    ensures { λ c. ⌜ CheckedTable (now (table .entry)) (now (widths .exit)) (now (places .exit)) c ⌝ }
+{
+    let fault = check(table, &mut widths[..]);
+    if !records::accepted(fault) {
+        return Checked::Refused(records::fault_record(fault));
+    }
+    Checked::Bits(place(table, &mut places[..]))
 }

@@ -3,3 +3,4 @@ pub mod SamePairs
 pub mod ShortTable
 pub mod Shortening
 pub mod Revised
+pub mod Copying

@@ -1,2 +1,3 @@
 pub mod Shortened
 pub mod Revised
+pub mod Copies

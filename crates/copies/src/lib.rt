@@ -6,6 +6,7 @@ ghost use lib.ListN.{length, drop};
 ghost use Rattle.terms.specs.Table.{rowsOf, rowAt, someRow, ofLine, revised};
 ghost use Rattle.copies.specs.inner.Shortened.{shortIn, storedRow, Shortens};
 ghost use Rattle.copies.specs.inner.Revised.{LeavesOff, LeavesOffRevised};
+ghost use Rattle.copies.specs.inner.Copies.{Copies};
 use terms::Row;
 
 // A row, from the row that it names first: a cut of a cut is made one cut.
@@ -37,7 +38,7 @@ fn store_row(table: &mut [u16], r: usize, row: Row)
 }
 
 // Copies the first 512 rows of a table, each cut of a cut made one cut. How many numbers they are.
-pub fn shorten(table: &[u16], short: &mut [u16]) -> usize
+fn shorten(table: &[u16], short: &mut [u16]) -> usize
     ensures few { λ n. ⌜ n ≤ 2048 ⌝ }
     ensures rows { λ n. ⌜ Shortens (now (table .entry)) (length (now (short .entry))) (now (short .exit)) n ⌝ }
 {
@@ -116,7 +117,7 @@ fn leave_off(table: &mut [u16], r: usize)
 }
 
 // Leaves off each revised equation of a table, of at most 512 rows.
-pub fn leave_off_revised(table: &mut [u16])
+fn leave_off_revised(table: &mut [u16])
     ensures { λ _. ⌜ LeavesOffRevised (now (table .entry)) (now (table .exit)) ⌝ }
 {
     let rows = numbers::lesser(table.len() / 4, terms::MAX_ROWS);
@@ -125,4 +126,14 @@ pub fn leave_off_revised(table: &mut [u16])
         leave_off(table, r);
         r += 1;
     }
+}
+
+// The copy of a table, of at most 512 rows: how many numbers of the buffer it is.
+pub fn copy(table: &[u16], short: &mut [u16]) -> usize
+    ensures within { λ n. ⌜ n ≤ length (now (short .entry)) ⌝ }
+    ensures rows { λ n. ⌜ Copies (now (table .entry)) (length (now (short .entry))) (now (short .exit)) n ⌝ }
+{
+    let len = numbers::lesser(shorten(table, short), short.len());
+    leave_off_revised(&mut short[..len]);
+    len
 }

@@ -1,10 +1,13 @@
 // What the program cases prints of a table behind its answer: the record and the normal form of each row, the record and the value of each row
 // under a pattern, and the patterns of fresh bits.
+use sheets::Text;
 use terms::Record;
 ghost use mathlib.Core.Path.{_≡_};
 ghost use mathlib.Core.Bool.{cond};
+ghost use mathlib.Core.List.{_++_};
 ghost use Prim.Native.Nat.{_%_};
 ghost use lib.Dec.{eqb};
+ghost use Rattle.sheets.specs.Print.{field, lineOf};
 
 // The numbers of a normal form.
 const FORM: usize = 4096;
@@ -65,13 +68,23 @@ fn print_record(found: Record, out: &mut [u8]) {
     write_first(out, end);
 }
 
+// A line of four values.
+fn four_values(a: u16, b: u16, c: u16, d: u16) -> Text
+    ensures { λ t. ⌜ t ≡ lineOf (field a 32 ++ (field b 32 ++ (field c 32 ++ field d 10))) ⌝ }
+{
+    let t1 = lines::put_number(lines::empty(), a as u32, sheets::SPACE);
+    let t2 = lines::put_number(t1, b as u32, sheets::SPACE);
+    let t3 = lines::put_number(t2, c as u32, sheets::SPACE);
+    lines::put_number(t3, d as u32, sheets::NEWLINE)
+}
+
 // Writes a line for each of the first n pieces of a form, from a place on where they fit, and gives the place behind them.
 fn put_pieces(form: &[u16], n: usize, out: &mut [u8], at: usize) -> usize {
     let mut behind = at;
     let mut i = 0;
     while i < n {
         let p = pieces::piece_at(form, i);
-        let line = lines::four_values(p.kind, p.variable, p.high, p.low);
+        let line = four_values(p.kind, p.variable, p.high, p.low);
         behind = writer::put_line(line, out, behind);
         i += 1;
     }

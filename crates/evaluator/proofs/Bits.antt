@@ -51,7 +51,7 @@ module _ (table widths places pattern : List ℕ) (ready : Ready table widths pl
   at = rowAt (rowsOf table) row
 
   sound : Table table
-  sound = accepted-table table (ready .accepted)
+  sound = accepted-table table (ready .placed .numbered .accepted)
 
   row-kept : Kept rows row
   row-kept = kept rows row (sound .sound row (is .there))
@@ -86,12 +86,12 @@ module _ (table widths places pattern : List ℕ) (ready : Ready table widths pl
   few-before = totals-small rows row (λ x l. sound .sound x (omega (arith, is .there))) .0
 
   pub number-small : getD places row 0 ≤ 64
-  number-small = omega (arith, ready .variables-are row (is .there), few-before)
+  number-small = omega (arith, ready .placed .numbered .variables-are row (is .there), few-before)
 
   before-is : getD places (512 + getD places row 0) 0 ≡ bitsOf (take row rows) + 1
   before-is =
-      ap (λ (v : ℕ). getD places (512 + v) 0) (ready .variables-are row (is .there))
-      ∙ ready .sources-are (countKind 0 (take row rows)) (count-part rows row)
+      ap (λ (v : ℕ). getD places (512 + v) 0) (ready .placed .numbered .variables-are row (is .there))
+      ∙ ready .placed .sources-are (countKind 0 (take row rows)) (count-part rows row)
       ∙ ap (λ (b : ℕ). b + 1) (place-row rows row)
 
   module _ (i : ℕ) (inside : i < widthOf rows row) (before : ℕ) (e : before ≡ getD places (512 + getD places row 0) 0) where

@@ -5,9 +5,10 @@ ghost use mathlib.Core.Path.{_≡_};
 ghost use mathlib.Core.Bool.{true};
 ghost use Prim.Native.Nat.{_+_, _/_, _<_, _≤_};
 ghost use lib.ListN.{getD, length};
-ghost use Rattle.terms.specs.Table.{rowsOf, rowAt, fixedWord, widthOf, valueOf};
+ghost use Rattle.terms.specs.Table.{rowsOf, rowAt, bitsOf, fixedWord, widthOf, valueOf};
 ghost use Rattle.laws.specs.Buffers.{overwrite};
 ghost use Rattle.terms.specs.Value.{valueRecord, valueAfter};
+ghost use Rattle.terms.specs.inner.Placed.{Placed};
 ghost use Rattle.evaluator.specs.inner.Ready.{Ready, IsTerm, isFixed};
 use terms::Record;
 use terms::Row;
@@ -111,21 +112,24 @@ fn write_value(
     }
 }
 
-// A row's value under a pattern, as bytes 0 and 1, high bit first.
-pub fn value(table: &[u16], row: usize, pattern: &[u8], output: &mut [u8]) -> Record
+// The value of a row of a table that was checked and placed.
+fn value_in(
+    table: &[u16],
+    widths: &[u16],
+    places: &[u16],
+    bits: usize,
+    row: usize,
+    pattern: &[u8],
+    output: &mut [u8],
+) -> Record
+    requires { ⌜ Placed (now table) (now widths) (now places) ⌝ }
+    requires { ⌜ bits ≡ bitsOf (rowsOf (now table)) ⌝ }
     ensures record { λ r. ⌜ r ≡ valueRecord (now (table .entry)) row (now (pattern .entry)) (length (now (output .entry))) ⌝ }
     ensures output { λ r. ⌜ now (output .exit) ≡ valueAfter (now (table .entry)) row (now (pattern .entry)) (now (output .entry)) ⌝ }
 {
-    let mut widths = [0u16; 512];
-    let fault = checker::check(table, &mut widths[..]);
-    if !records::accepted(fault) {
-        return records::fault_record(fault);
-    }
     if checker::not_term(table, table.len() / 4, row) {
         return records::refuse(30, 0);
     }
-    let mut places = [0u16; 577];
-    let bits = checker::place(table, &mut places[..]);
     if bits != pattern.len() {
         return records::refuse(31, 0);
     }
@@ -136,6 +140,27 @@ pub fn value(table: &[u16], row: usize, pattern: &[u8], output: &mut [u8]) -> Re
     if output.len() < width as usize {
         return records::refuse(32, 0);
     }
-    write_value(table, &widths[..], &places[..], pattern, row, output);
+    write_value(table, widths, places, pattern, row, output);
     records::complete(0, width)
+}
+
+// A row's value under a pattern, as bytes 0 and 1, high bit first.
+pub fn value(table: &[u16], row: usize, pattern: &[u8], output: &mut [u8]) -> Record
+    ensures record { λ r. ⌜ r ≡ valueRecord (now (table .entry)) row (now (pattern .entry)) (length (now (output .entry))) ⌝ }
+    ensures output { λ r. ⌜ now (output .exit) ≡ valueAfter (now (table .entry)) row (now (pattern .entry)) (now (output .entry)) ⌝ }
+{
+    let mut widths = [0u16; 512];
+    let mut places = [0u16; 577];
+    match checker::check_and_place(table, &mut widths, &mut places) {
+        checker::Checked::Refused(r) => r,
+        checker::Checked::Bits(bits) => value_in(
+            table,
+            &widths[..],
+            &places[..],
+            bits,
+            row,
+            pattern,
+            output,
+        ),
+    }
 }

@@ -20,7 +20,7 @@ use Rattle.terms.proofs.Values.{value-fixed, value-word, value-concat, value-ex
 use Rattle.terms.proofs.Words.{extract-right, extract-left, extract-across, extract-whole, extract-extract, extract-binary}
 use Rattle.forms.specs.declared.Piece.{Piece}
 use Rattle.forms.specs.Form.{fill, part, bitsUp, pieceOf, group, formFrom}
-use Rattle.forms.specs.inner.Numbered.{Numbered}
+use Rattle.terms.specs.inner.Placed.{Numbered}
 use Rattle.forms.proofs.Places.{variable-pieces, constant-pieces, bits-take, bits-drop, group-bits, group-fills}
 
 drop-copies : (n j : ℕ) (p : Piece) → drop j (replicate n p) ≡ replicate (n - j) p

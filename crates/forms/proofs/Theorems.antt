@@ -23,7 +23,7 @@ use Rattle.terms.proofs.Values.{value-concat, value-extract, width-variable}
 use Rattle.terms.specs.Sound.{Sound, IsConcat, IsExtract}
 use Rattle.terms.proofs.Words.{extract-join, extract-whole}
 use Rattle.forms.specs.Form.{fill, part, pieceOf, addAll, group, formFrom, formOf, numbersOf, formWidth, formValue}
-use Rattle.forms.specs.inner.Numbered.{Numbered}
+use Rattle.terms.specs.inner.Placed.{Numbered}
 use Rattle.forms.proofs.FormNumbers.{numbers-length}
 use Rattle.forms.proofs.FormValues.{form-value}
 use Rattle.forms.proofs.Grouping.{group-append}

@@ -2,4 +2,3 @@ pub mod Form
 pub mod Call
 pub mod Proper
 pub mod Markers
-pub mod inner

@@ -18,7 +18,7 @@ use Rattle.laws.specs.Buffers.{setFour}
 use Rattle.laws.specs.Lists.{below}
 use Rattle.laws.proofs.Bools.{and-past, or-right}
 use Rattle.laws.proofs.Numbers.{dec-eq, eqb-turn}
-use Rattle.answers.specs.Answer.{implies}
+use Rattle.laws.specs.Bools.{implies}
 use Rattle.groups.specs.inner.Places.{sourceBit, equalTest, fixedPlace, agreesAt, PutsEqual}
 use Rattle.groups.specs.inner.Groups.{groupTest, Groups, RowOf, Added, Covered, Covers}
 use Rattle.groups.proofs.Masks.{and-or-none, equal-bit}

@@ -10,7 +10,7 @@ use Rattle.laws.specs.Buffers.{overwrite}
 use Rattle.laws.proofs.Buffers.{overwrite-length, overwrite-read, overwrite-past}
 use Rattle.laws.proofs.Numbers.{lt-or-le}
 use Rattle.answers.specs.declared.AnswerRow.{AnswerRow}
-use Rattle.answers.specs.Answer.{answerRowAt, homeRow, rowNumbers, answerNumbers}
+use Rattle.answers.specs.Answer.{answerRowAt, homeRow, answerRowNumbers, answerNumbers}
 use Rattle.answers.specs.inner.FourNumbers.{fourNumbers, answerColumns}
 use Rattle.answers.proofs.AnswerNumbers.{four-length, four-columns, numbers-length, number-at}
 use Rattle.homes.specs.inner.Homes.{Standing, Widens, SetsHomes, PutsHomes}
@@ -29,8 +29,8 @@ four-stand rows old j l room =
 
 -- the six numbers of row j
 module _ (rows : List AnswerRow) (old t : List ℕ) (s : Standing rows (homeRow rows) old t) (j : ℕ) (l : j < length rows) where
-  number-stands : (k : ℕ) → k < 6 → getD t (j * 6 + k) 0 ≡ getD (rowNumbers rows j) k 0
-  unfolding rowNumbers
+  number-stands : (k : ℕ) → k < 6 → getD t (j * 6 + k) 0 ≡ getD (answerRowNumbers rows j) k 0
+  unfolding answerRowNumbers
   number-stands zero h =
       let e : j * 6 + 0 ≡ j * 6 = omega arith in ap (λ (x : ℕ). getD t x 0) e ∙ ap (λ (r : AnswerRow). r .variable) (s .rows-are j l)
   number-stands (suc zero) h = ap (λ (r : AnswerRow). r .kind) (s .rows-are j l)

@@ -12,7 +12,7 @@ use borrow.Author.Tests.{eq-eqb, ne-eqb, eqb-true}
 use Rattle.laws.proofs.Bools.{clash, and-first, and-second, and-both}
 use Rattle.laws.proofs.Numbers.{dec-eq, at-or-after}
 use Rattle.answers.specs.declared.AnswerRow.{AnswerRow}
-use Rattle.answers.specs.Answer.{answerRowAt, answerRowsOf, isFresh, widthIn, highBit, homeRow}
+use Rattle.answers.specs.Answer.{answerRowAt, answerRowsOf, isFresh, widthInRows, highBit, homeRow}
 use Rattle.answers.proofs.AnswerNumbers.{answer-length}
 use Rattle.answers.specs.inner.Orderly.{Orderly}
 use Rattle.homes.specs.inner.Homes.{widthOn, homeIn, Seen, homeFine, MarksFirst, MarksFirsts, Right, TestsRows, TestsHomes}
@@ -131,7 +131,7 @@ module _ (rows : List AnswerRow) (t : List ℕ) where
 
 -- What is known with i rows still to be tested.
 pub record Tested (rows : List AnswerRow) (t : List ℕ) (passed variable i : ℕ) : Type 0 where
-  pub width-is : passed ≡ widthIn (drop i rows) variable
+  pub width-is : passed ≡ widthInRows (drop i rows) variable
   pub variable-is : i < length rows → variable ≡ answerRowAt rows i .variable
   pub tests : (j : ℕ) → i ≤ j → j < length rows → homeFine t (answerRowAt rows j .variable) (highBit rows j) (homeRow rows j) j ≡ true
 
@@ -166,7 +166,7 @@ module _ (n : ℕ) (t firsts : List ℕ) (passed variable i : ℕ) (k : Testing 
       back : Tested (answerRowsOf t) t passed variable (suc (i - 1))
       back = let s : i ≡ suc (i - 1) = omega arith in subst (λ (x : ℕ). Tested (answerRowsOf t) t passed variable x) s (k .going e o f)
 
-      width : passed′ ≡ widthIn (drop (i - 1) (answerRowsOf t)) (answerRowAt (answerRowsOf t) (i - 1) .variable)
+      width : passed′ ≡ widthInRows (drop (i - 1) (answerRowsOf t)) (answerRowAt (answerRowsOf t) (i - 1) .variable)
       width = ep ∙ ap (widthOn passed variable) row ∙ width-next rows o j there passed variable (back .width-is) (back .variable-is)
 
       test-is : homeFine t (r .variable) high from (i - 1) ≡ homeFine t (answerRowAt (answerRowsOf t) (i - 1) .variable) (highBit (answerRowsOf t) (i - 1)) (homeRow (answerRowsOf t) (i - 1)) (i - 1)
@@ -181,7 +181,7 @@ module _ (n : ℕ) (t firsts : List ℕ) (passed variable i : ℕ) (k : Testing 
           within = omega (arith, k .within);
           going = λ e o f.
               record {
-                width-is = width e o f ∙ ap (λ (x : AnswerRow). widthIn (drop (i - 1) (answerRowsOf t)) (x .variable)) (sym row);
+                width-is = width e o f ∙ ap (λ (x : AnswerRow). widthInRows (drop (i - 1) (answerRowsOf t)) (x .variable)) (sym row);
                 variable-is = λ l. ap (λ (x : AnswerRow). x .variable) row;
                 tests = λ m l q. go e o f m q (at-or-after j m l);
               };

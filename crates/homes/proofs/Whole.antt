@@ -10,7 +10,7 @@ use borrow.Author.Tests.{eqb-true}
 use Rattle.laws.proofs.Bools.{and-parts, same-test}
 use Rattle.laws.proofs.Buffers.{overwrite-whole}
 use Rattle.terms.proofs.Satisfies.{same-word, word-same}
-use Rattle.answers.specs.Answer.{answerRowsOf, answerNumbers, rowNumbers, homeRow}
+use Rattle.answers.specs.Answer.{answerRowsOf, answerNumbers, answerRowNumbers, homeRow}
 use Rattle.answers.proofs.AnswerNumbers.{answer-length, answer-columns, numbers-length, number-at}
 use Rattle.assignments.specs.Form.{rowsFine, homesFine}
 use Rattle.assignments.proofs.FormFacts.{formed-rows, orderly}
@@ -34,7 +34,7 @@ module _ (t : List ℕ) (whole : length t % 6 ≡ 0) where
       sym (standing-written (answerRowsOf t) t t s (omega (arith, rows-long)) ∙ overwrite-whole (answerNumbers (answerRowsOf t)) t (numbers-length (answerRowsOf t) ∙ rows-long))
 
   written-right : answerNumbers (answerRowsOf t) ≡ t → Right (answerRowsOf t) t
-  unfolding rowNumbers
+  unfolding answerRowNumbers
   written-right e =
       record {
         homes-are = λ j l. ap (λ (x : List ℕ). getD x (j * 6 + 4) 0) (sym e) ∙ number-at (answerRowsOf t) j 4 l (omega arith);

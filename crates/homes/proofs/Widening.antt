@@ -7,7 +7,7 @@ use native.Mathlib.Omega.{arith}
 use lib.ListN.{length, getD, drop}
 use Rattle.laws.proofs.Numbers.{at-or-after}
 use Rattle.answers.specs.declared.AnswerRow.{AnswerRow}
-use Rattle.answers.specs.Answer.{answerRowAt, widthIn, highBit}
+use Rattle.answers.specs.Answer.{answerRowAt, widthInRows, highBit}
 use Rattle.answers.specs.inner.Orderly.{Orderly}
 use Rattle.answers.specs.inner.FourNumbers.{answerColumns}
 use Rattle.homes.specs.inner.Homes.{widthOn, rowPut, Widens}
@@ -21,7 +21,7 @@ pub record Wide (rows : List AnswerRow) (t₀ t : List ℕ) (passed variable i :
   pub homes-are : (j : ℕ) → i ≤ j → j < length rows → getD t (j * 6 + 4) 0 ≡ answerRowAt rows j .variable
   pub highs-are : (j : ℕ) → i ≤ j → j < length rows → getD t (j * 6 + 5) 0 ≡ highBit rows j
   pub behind : (x : ℕ) → length rows * 6 ≤ x → getD t x 0 ≡ getD t₀ x 0
-  pub width-is : passed ≡ widthIn (drop i rows) variable
+  pub width-is : passed ≡ widthInRows (drop i rows) variable
   pub variable-is : i < length rows → variable ≡ answerRowAt rows i .variable
 
 pub record Widening (n : ℕ) (t₀ t : List ℕ) (passed variable i : ℕ) : Type 0 where
@@ -65,14 +65,14 @@ module _ (rows : List AnswerRow) (o : Orderly rows) (t₀ t : List ℕ) (passed 
         homes-are = λ j q h. homes-at j h (at-or-after i j q);
         highs-are = λ j q h. highs-at j h (at-or-after i j q);
         behind = λ x q. put-kept t i r high x (inr (omega arith)) ∙ k .behind x q;
-        width-is = width ∙ ap (λ (x : AnswerRow). widthIn (drop i rows) (x .variable)) (sym row);
+        width-is = width ∙ ap (λ (x : AnswerRow). widthInRows (drop i rows) (x .variable)) (sym row);
         variable-is = λ q. ap (λ (x : AnswerRow). x .variable) row;
       }
     where
       row : r ≡ answerRowAt rows i
       row = er ∙ row-read
 
-      width : passed′ ≡ widthIn (drop i rows) (answerRowAt rows i .variable)
+      width : passed′ ≡ widthInRows (drop i rows) (answerRowAt rows i .variable)
       width = ep ∙ ap (widthOn passed variable) row ∙ width-next rows o i l passed variable (k .width-is) (k .variable-is)
 
       fits : i * 6 + 6 ≤ length t

@@ -21,6 +21,14 @@ overwrite-fits [] old h = refl
 overwrite-fits (x ∷ new) [] h = absurd (omega arith)
 overwrite-fits (x ∷ new) (y ∷ old) h = ap (λ (l : List ℕ). x ∷ l) (overwrite-fits new old (omega arith))
 
+-- as far as it reaches, where there is no room for all
+pub overwrite-first : (new old : List ℕ) → overwrite new old ≡ take (length old) new ++ drop (length new) old
+unfolding overwrite
+overwrite-first [] [] = refl
+overwrite-first [] (y ∷ old) = refl
+overwrite-first (x ∷ new) [] = refl
+overwrite-first (x ∷ new) (y ∷ old) = ap (λ (l : List ℕ). x ∷ l) (overwrite-first new old)
+
 pub overwrite-read : (new old : List ℕ) (i : ℕ) → i < length new → i < length old → getD (overwrite new old) i 0 ≡ getD new i 0
 unfolding overwrite
 overwrite-read [] old i h l = absurd (omega arith)

@@ -1,6 +1,6 @@
 -- Numbers that count up (`countUp`): how many they are, and what stands where.
 use mathlib.Core.Path.{_≡_, refl, _∙_, ap}
-use mathlib.Core.List.{List, [], _∷_, _++_}
+use mathlib.Core.List.{List, [], _∷_, _++_, map}
 use Prim.Native.Nat.{ℕ, zero, suc, _+_, _≤_, _<_}
 use native.Mathlib.Omega.{arith}
 use lib.ListN.{length, getD}
@@ -30,3 +30,10 @@ count-more k (suc i) = ap (λ (l : List ℕ). k ∷ l) (ap (λ (x : ℕ). countU
   where
     shift : k + suc i ≡ suc k + i
     shift = omega arith
+
+-- numbers that count up, mapped
+pub count-read : {A : Type 0} (f : ℕ → A) (k n i : ℕ) (d : A) → i < n → getD (map f (countUp k n)) i d ≡ f (k + i)
+unfolding countUp
+count-read f k zero i d h = absurd (omega arith)
+count-read f k (suc n) zero d h = ap f (omega arith)
+count-read f k (suc n) (suc i) d h = count-read f (suc k) n i d (omega arith) ∙ ap f (omega arith)

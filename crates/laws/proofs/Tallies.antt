@@ -113,6 +113,13 @@ below-at (suc n) f h i l = go (dec-eq i n) (λ (k : i < n). below-at n f (and-se
     go (inl e) r = rw e (and-first (f n) (below n f) h)
     go (inr e) r = r (omega arith)
 
+pub below-fails : (n : ℕ) (f : ℕ → Bool) (i : ℕ) → i < n → f i ≡ false → below n f ≡ false
+below-fails n f i l e = go (below n f) refl
+  where
+    go : (b : Bool) → below n f ≡ b → b ≡ false
+    go false h = refl
+    go true h = sym (below-at n f h i l) ∙ e
+
 pub implied : (a b : Bool) → not a || b ≡ true → a ≡ true → b ≡ true
 implied true b h e = h
 implied false b h e = cc

@@ -8,10 +8,9 @@ use Rattle.sheets.proofs.Numbers.{at-byte}
 use borrow.Author.Tests.{lt-ltb, le-ltb}
 use Rattle.laws.proofs.Buffers.{overwrite-more}
 use Rattle.sheets.specs.declared.Text.{Text}
-use Rattle.lines.specs.inner.Push.{pushed, pushAll, fourValues}
+use Rattle.lines.specs.inner.Push.{pushed, pushAll}
 use Rattle.sheets.specs.Print.{lineOf, field}
 use Rattle.sheets.specs.Writing.{digits}
-use Rattle.sheets.proofs.Lengths.{field-few, field-more}
 
 pub push-append : (t : Text) (xs ys : List ℕ) → pushAll t (xs ++ ys) ≡ pushAll (pushAll t xs) ys
 unfolding pushAll
@@ -76,10 +75,3 @@ whole-line e r bytes h f g = g ∙ ap (λ (t : Text). pushAll t bytes) f ∙ pus
 -- two steps are one
 pub push-both : (t m r : Text) (xs ys : List ℕ) → m ≡ pushAll t xs → r ≡ pushAll m ys → r ≡ pushAll t (xs ++ ys)
 push-both t m r xs ys e f = f ∙ ap (λ (x : Text). pushAll x ys) e ∙ sym (push-append t xs ys)
-
--- a line of four values has at most 80 bytes
-pub four-few : (a b c d : ℕ) → length (fourValues a b c d) ≤ 80
-unfolding fourValues
-four-few a b c d =
-    let l : length (field a 32 ++ (field b 32 ++ (field c 32 ++ field d 10))) ≤ 44 = field-more _ _ 33 _ (field-more _ _ 22 _ (field-more _ _ 11 _ (field-few _ _))) in
-    omega (arith, l)

@@ -1,7 +1,7 @@
 // The lines that are printed, of a record and of an answer table, each made byte by byte and passed by value.
 ghost use mathlib.Core.Path.{_≡_};
 ghost use mathlib.Core.List.{[]};
-ghost use Rattle.lines.specs.inner.Push.{pushed, pushAll, fourValues};
+ghost use Rattle.lines.specs.inner.Push.{pushed, pushAll};
 ghost use Rattle.sheets.specs.Print.{field, lineOf, recordNames, recordValues, answerNames, answerValues};
 ghost use Rattle.sheets.specs.Writing.{digits};
 use sheets::Text;
@@ -36,7 +36,7 @@ fn put_digits(t: Text, n: u32, most: usize) -> Text
 }
 
 // A number and the byte behind it.
-fn put_number(t: Text, n: u32, end: u8) -> Text
+pub fn put_number(t: Text, n: u32, end: u8) -> Text
     ensures { λ r. ⌜ r ≡ pushAll t (field n end) ⌝ }
 {
     push(put_digits(t, n, 10), end)
@@ -54,7 +54,8 @@ fn put_bytes(t: Text, bytes: &[u8]) -> Text
     line
 }
 
-fn empty() -> Text
+// A line without bytes.
+pub fn empty() -> Text
     ensures { λ r. ⌜ r ≡ lineOf [] ⌝ }
 {
     Text {
@@ -87,16 +88,6 @@ pub fn answer_names() -> Text
     ensures { λ r. ⌜ r ≡ lineOf answerNames ⌝ }
 {
     put_bytes(empty(), b"variable kind width fresh home high\n")
-}
-
-// A line of four values.
-pub fn four_values(a: u16, b: u16, c: u16, d: u16) -> Text
-    ensures { λ t. ⌜ t ≡ lineOf (fourValues a b c d) ⌝ }
-{
-    let t1 = put_number(empty(), a as u32, sheets::SPACE);
-    let t2 = put_number(t1, b as u32, sheets::SPACE);
-    let t3 = put_number(t2, c as u32, sheets::SPACE);
-    put_number(t3, d as u32, sheets::NEWLINE)
 }
 
 // The line of one row of the answer table.

@@ -1,3 +1,3 @@
 pub mod Filling
 pub mod Settling
-pub mod ShortCopy
+pub mod FromCopy

@@ -21,9 +21,9 @@ use Rattle.answers.specs.inner.Classes.{rep, merge, run, runAll, links, conflic
 use Rattle.answers.proofs.Tables.{pairs-length, conflict-most}
 use Rattle.classes.specs.inner.Links.{Low, rootsOf}
 use Rattle.classes.proofs.Links.{merge-same}
-use Rattle.classes.proofs.Roots.{stands-roots, stands-of, roots-settled}
+use Rattle.classes.proofs.Roots.{stands-of}
 use Rattle.taking.specs.inner.Equations.{EquationsTaken}
-use Rattle.linking.specs.inner.Classes.{ClassesTaken}
+use Rattle.linking.specs.inner.Classes.{unlinked, ClassesTaken}
 
 -- pairs that link nothing leave the classes as they are
 run-nothing : (c : List ℕ) (qs : List Pair) → links c qs ≡ 0 → run c qs ≡ c
@@ -58,43 +58,40 @@ alone h n low e =
     let m : i < n = omega (arith, s .len, count-up 0 n) in
     omega (arith, s .keep i, low i, count-at 0 n i m, count-at 0 n (getD h i 0) (omega (arith, low i))))
 
-module _ (table : List ℕ) (accepted : firstFault table ≡ Accepted) (links : List ℕ) (row ties : ℕ) (E : EquationsTaken (rowsOf table) (equationPairs (rowsOf table)) links row ties) where
+module _ (table : List ℕ) (accepted : firstFault table ≡ Accepted) (links : List ℕ) (row ties : ℕ) (E : EquationsTaken (rowsOf table) (unlinked (rowsOf table)) 0 (length (rowsOf table)) (equationPairs (rowsOf table)) links row ties) where
   abbrev t : List Row
   t = rowsOf table
 
   abbrev c₀ : List ℕ
-  c₀ = countUp 0 (suc (suc (bitsOf (rowsOf table))))
+  c₀ = unlinked (rowsOf table)
+
+  from-first : row ≡ conflictAt c₀ (equationPairs t)
+  from-first = omega (arith, E .row-is)
 
   -- a conflict was met
   pub settle-never : row < length t → ClassesTaken t links row ties
-  settle-never l = record { taken = E; settled = λ e. absurd (omega arith) }
+  settle-never l = record { row-is = from-first; ties-are = E .ties-are; few = E .few; settled = λ e. absurd (omega arith) }
 
   module _ (l : length (rowsOf table) ≤ row) where
     whole : row ≡ length t
-    whole = omega (arith, E .row-is, conflict-most table accepted)
+    whole = omega (arith, from-first, conflict-most table accepted)
 
     low : Low links
-    low = E .low whole
+    low = E .held whole .low
 
     -- no ties: each source is alone
     pub settle-none : ties ≡ 0 → ClassesTaken t links row ties
     settle-none z =
         let few : length (equationPairs t) ≤ length t = omega (arith, pairs-length t) in
-        let s : runAll c₀ (equationPairs t) ≡ c₀ = run-all-nothing c₀ (equationPairs t) (omega (arith, E .row-is, whole)) (sym (E .ties-are) ∙ z) in
-        record { taken = E; settled = λ e. alone links (suc (suc (bitsOf t))) low (E .classes-are whole ∙ s) ∙ sym s }
+        let s : runAll c₀ (equationPairs t) ≡ c₀ = run-all-nothing c₀ (equationPairs t) (omega (arith, from-first, whole)) (sym (E .ties-are) ∙ z) in
+        record {
+          row-is = from-first;
+          ties-are = E .ties-are;
+          few = E .few;
+          settled = λ e. alone links (suc (suc (bitsOf t))) low (E .classes-are whole ∙ s) ∙ sym s;
+        }
 
     -- swept
     pub settle-swept : (links′ : List ℕ) → (Low links → links′ ≡ rootsOf links) → ClassesTaken t links′ row ties
     settle-swept links′ f =
-        let q : links′ ≡ rootsOf links = f low in
-        let k = stands-roots links low .canon in
-        record {
-          taken = record {
-            row-is = E .row-is;
-            ties-are = E .ties-are;
-            few = E .few;
-            low = λ e. rw q (k .low);
-            classes-are = λ e. rw q (roots-settled (rootsOf links) k) ∙ E .classes-are e;
-          };
-          settled = λ e. q ∙ E .classes-are e;
-        }
+        record { row-is = from-first; ties-are = E .ties-are; few = E .few; settled = λ e. f low ∙ E .classes-are e }

@@ -39,8 +39,7 @@ fn classes_with(
 ) -> Taken
     ensures { λ r. ⌜ ClassesWith (now (table .entry)) (now (widths .entry)) (now (places .entry)) (length (now (short .entry))) (length (now (form .entry))) (now (links .entry)) (now (links .exit)) (r .row) (r .ties) ⌝ }
 {
-    let len = numbers::lesser(copies::shorten(table, short), short.len());
-    copies::leave_off_revised(&mut short[..len]);
+    let len = copies::copy(table, short);
     let lows = numbers::lesser(terms::MAX_ROWS + 1, places.len());
     let mut right = [0u16; 4096];
     unlink(links);
@@ -49,6 +48,8 @@ fn classes_with(
         widths,
         places,
         &places[lows..],
+        0,
+        table.len() / 4,
         form,
         &mut right[..],
         links,

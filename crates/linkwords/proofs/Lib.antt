@@ -1,2 +1,1 @@
 pub mod RowsHeld
-pub mod Outcomes

@@ -9,10 +9,10 @@ ghost use Rattle.sheets.specs.Call.{sheetRecord, tableAfter};
 ghost use Rattle.answers.specs.Solve.{solveRecord, answerAfter, workAfter};
 ghost use Rattle.answers.specs.RightSide.{rightSideStart, rightSideLength};
 ghost use Rattle.assignments.specs.Call.{patternRecord, patternAfter};
-ghost use Rattle.positions.specs.Call.{positionsRecord, positionsAfter};
-ghost use Rattle.pages.specs.Page.{pageText};
+ghost use Rattle.windows.specs.Call.{positionsRecord, positionsAfter};
+ghost use Rattle.result_sheets.specs.Page.{pageText};
 use answers::Part;
-use pages::Page;
+use result_sheets::Page;
 use terms::Record;
 use terms::Row;
 

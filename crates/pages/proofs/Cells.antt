@@ -7,7 +7,7 @@ use lib.ListN.{length, set, replicate, length-replicate}
 use lib.Seq.{set-at}
 use Rattle.sheets.specs.Writing.{digits}
 use Rattle.sheets.proofs.Decimal.{digits-one, digits-last}
-use Rattle.pages.specs.Page.{cell}
+use Rattle.result_sheets.specs.Page.{cell}
 
 -- the numbers of at most so many digits
 unfoldable pub tens : ℕ → ℕ

@@ -14,10 +14,10 @@ use Rattle.terms.specs.declared.Record.{Record}
 use Rattle.answers.specs.Answer.{answerRowsOf, answerRowAt}
 use Rattle.sheets.specs.inner.Printed.{written, printedIn}
 use Rattle.sheets.proofs.Printed.{Put, PutIn, put-kept, put-none, put-in, put-there, both-put, written-none}
-use Rattle.pages.specs.Page.{namesLine, pieceLine, outcomeLine, blankLine, pagePieces, listed, onPage, pageCount, pageLine, pageLines, joined, pageText}
+use Rattle.result_sheets.specs.Page.{namesLine, pieceLine, outcomeLine, blankLine, pagePieces, listed, onPage, pageCount, pageLine, pageLines, joined, pageText}
 use Rattle.pages.specs.inner.Lines.{listedCount, pagesOf}
-use Rattle.pages.proofs.Listing.{pieces-length, listed-solved, line-there, line-past, listed-past, listed-outcome, listed-piece, piece-row, sixty}
-use Rattle.pages.proofs.Bytes.{joined-append, lines-long, page-length}
+use Rattle.result_sheets.proofs.Listing.{pieces-length, listed-solved, line-there, line-past, listed-past, listed-outcome, listed-piece, piece-row, sixty}
+use Rattle.result_sheets.proofs.Bytes.{joined-append, lines-long, page-length}
 
 -- how many lines there are below the names, and how many pages
 module _ (found : Record) (answer : List ℕ) where

@@ -5,14 +5,13 @@ ghost use Prim.Native.Nat.{_<_};
 ghost use lib.ListN.{getD};
 ghost use Rattle.sheets.specs.Writing.{digits};
 ghost use Rattle.sheets.specs.inner.Printed.{printedIn};
-ghost use Rattle.pages.specs.Page.{cell, namesLine, pieceLine, outcomeLine, blankLine, pageLines, pageText};
+ghost use Rattle.result_sheets.specs.Page.{cell, namesLine, pieceLine, outcomeLine, blankLine, pageLines, pageText};
 ghost use Rattle.pages.specs.inner.Lines.{fourCells, listedCount, pagesOf};
 use answers::AnswerRow;
+use result_sheets::Page;
 use terms::Record;
 
-// The bytes of a page, and of a line and of a column in it; how many lines a page has, and how many of them below the names.
-pub const BYTES: usize = 2460;
-
+// The bytes of a line of a page, and of a column in it; how many lines a page has, and how many of them below the names.
 const LINE: usize = 41;
 
 const COLUMN: usize = 10;
@@ -23,12 +22,6 @@ const ON_PAGE: usize = 59;
 
 // The outcome with which there are pieces.
 const SOLVED: u32 = 2;
-
-// A page.
-#[repr(C)]
-pub struct Page {
-    pub bytes: [u8; BYTES],
-}
 
 // A number, right-aligned in a column: its digits from the last on.
 fn number_cell(n: u32) -> [u8; COLUMN]
@@ -155,7 +148,7 @@ fn line_at(found: Record, answer: &[u16], number: usize, line: usize) -> [u8; LI
 fn put_lines(found: Record, answer: &[u16], number: usize, out: &mut [u8])
     ensures { λ _. ⌜ now (out .exit) ≡ printedIn 2460 (now (out .entry)) 0 (pageText found (now (answer .entry)) number) ⌝ }
 {
-    if out.len() < BYTES {
+    if out.len() < result_sheets::BYTES {
         return;
     }
     let mut at = 0;
@@ -171,7 +164,7 @@ fn put_lines(found: Record, answer: &[u16], number: usize, out: &mut [u8])
 pub fn make_page(found: Record, answer: &[u16], number: usize) -> Page
     ensures bytes { λ r. ⌜ r .bytes ≡ pageText found (now (answer .entry)) number ⌝ }
 {
-    let mut bytes = [sheets::SPACE; BYTES];
+    let mut bytes = [sheets::SPACE; result_sheets::BYTES];
     put_lines(found, answer, number, &mut bytes[..]);
     Page { bytes }
 }

@@ -1,6 +1,6 @@
 -- The record and the list of the call, for each way in which it ends.
 use mathlib.Core.Path.{_≡_, refl, sym, _∙_, ap, fun-ext}
-use mathlib.Core.Bool.{Bool, true, false, not, _||_, _&&_, cond, or-true, or-false}
+use mathlib.Core.Bool.{Bool, true, false, _&&_}
 use mathlib.Core.Logic.{_⊎_, inl, inr, _≢_}
 use mathlib.Core.List.{List}
 use Prim.Native.Nat.{ℕ, _≤_, _<_}
@@ -16,29 +16,12 @@ use Rattle.terms.specs.Table.{rowsOf, countKind, satisfies}
 use Rattle.terms.proofs.AcceptedTable.{fault-numbered}
 use Rattle.laws.specs.Buffers.{overwrite}
 use Rattle.laws.proofs.Numbers.{lt-or-le}
-use Rattle.answers.specs.Answer.{variableWidths}
-use Rattle.words.specs.Words.{wordsBits, sixteens}
+use Rattle.windows.specs.Words.{wordsBits}
 use Rattle.words.specs.inner.Plan.{meetsPlan}
-use Rattle.positions.specs.Call.{meetsFront, startsFrom, positionsOf, breaks41, breaks42, positionsRecord, positionsAfter}
-use Rattle.positions.specs.inner.Starts.{windowOf, meetsAhead}
-
--- ---- rule 41 by the window's words
-window-rule : (t : List Row) → breaks41 t ≡ eqb (windowOf t) 0
-unfolding breaks41 windowOf
-window-rule t = go (sixteens (variableWidths t))
-  where
-    go : (b : Bool) → eqb (countKind 0 t) 0 || not b ≡ eqb (cond b (countKind 0 t) 0) 0
-    go true = or-false (eqb (countKind 0 t) 0)
-    go false = or-true (eqb (countKind 0 t) 0)
-
--- a window that has words has one for each variable, of 16 bits each
-pub window-there : (t : List Row) (k : ℕ) → k ≡ windowOf t → k ≢ 0 → (sixteens (variableWidths t) ≡ true) × (k ≡ countKind 0 t)
-unfolding windowOf
-window-there t k e n = go (sixteens (variableWidths t)) refl e
-  where
-    go : (b : Bool) → sixteens (variableWidths t) ≡ b → k ≡ cond b (countKind 0 t) 0 → (b ≡ true) × (k ≡ countKind 0 t)
-    go true h q = (refl, q)
-    go false h q = absurd (n q)
+use Rattle.windows.specs.Call.{meetsFront, startsFrom, positionsOf, breaks41, breaks42, positionsRecord, positionsAfter}
+use Rattle.words.specs.inner.Windows.{windowOf}
+use Rattle.words.proofs.Windows.{window-rule, window-there}
+use Rattle.positions.specs.inner.Starts.{meetsAhead}
 
 module _ (table words old : List ℕ) where
   abbrev t : List Row

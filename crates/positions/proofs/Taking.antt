@@ -11,7 +11,7 @@ use borrow.Author.Tests.{le-leb, lt-leb}
 use Rattle.laws.specs.Buffers.{overwrite}
 use Rattle.laws.proofs.Buffers.{overwrite-more, overwrite-none}
 use Rattle.words.specs.inner.Plan.{meetsPlan}
-use Rattle.positions.specs.Call.{startsFrom}
+use Rattle.windows.specs.Call.{startsFrom}
 use Rattle.positions.specs.inner.Starts.{meetsAhead}
 
 -- The starts before place i.

@@ -4,36 +4,16 @@ ghost use mathlib.Core.Path.{_≡_};
 ghost use mathlib.Core.Bool.{cond};
 ghost use Prim.Native.Nat.{_+_, _≤_, _<_};
 ghost use lib.ListN.{length, set};
-ghost use Rattle.terms.specs.Table.{rowsOf};
+ghost use Rattle.terms.specs.Table.{rowsOf, bitsOf};
+ghost use Rattle.terms.specs.inner.Placed.{Placed};
 ghost use Rattle.laws.specs.Buffers.{overwrite};
 ghost use Rattle.words.specs.inner.Plan.{meetsPlan};
-ghost use Rattle.positions.specs.Call.{startsFrom, positionsRecord, positionsAfter};
-ghost use Rattle.positions.specs.inner.Starts.{windowOf, meetsAhead};
+ghost use Rattle.windows.specs.Call.{startsFrom, positionsRecord, positionsAfter};
+ghost use Rattle.positions.specs.inner.Starts.{meetsAhead};
 use terms::Record;
 
 // How many words a run has at most.
 pub const MAX_WORDS: usize = 1048576;
-
-// How many words a window has: one for each variable, if each has 16 bits; else 0.
-fn window_of(table: &[u16]) -> usize
-    ensures { λ r. ⌜ r ≡ windowOf (rowsOf (now (table .entry))) ⌝ }
-{
-    let mut k = 0;
-    let mut r = 0;
-    while r < table.len() / 4 {
-        let row = rows::row_at(table, r);
-        let kind = row.kind;
-        let width = row.a;
-        if kind == terms::VARIABLE {
-            if width != 16 {
-                return 0;
-            }
-            k += 1;
-        }
-        r += 1;
-    }
-    k
-}
 
 // Takes one start: if its window meets the plan it is counted, and written where the list has room.
 fn take_start(plan: &[u16], window: &[u16], i: usize, found: usize, list: &mut [u32]) -> usize
@@ -69,17 +49,21 @@ fn find_starts(plan: &[u16], words: &[u16], k: usize, list: &mut [u32]) -> usize
     found
 }
 
-// The starts of a run at which its words meet a table: how many, and in the list the first of them.
-pub fn marker_positions(table: &[u16], words: &[u16], list: &mut [u32]) -> Record
+// The starts of a run at which its words meet a table that was checked and placed: how many, and in the list the first of them.
+fn positions_in(
+    table: &[u16],
+    widths: &[u16],
+    places: &[u16],
+    bits: usize,
+    words: &[u16],
+    list: &mut [u32],
+) -> Record
+    requires { ⌜ Placed (now table) (now widths) (now places) ⌝ }
+    requires { ⌜ bits ≡ bitsOf (rowsOf (now table)) ⌝ }
     ensures record { λ r. ⌜ r ≡ positionsRecord (now (table .entry)) (now (words .entry)) ⌝ }
     ensures list { λ _. ⌜ now (list .exit) ≡ positionsAfter (now (table .entry)) (now (words .entry)) (now (list .entry)) ⌝ }
 {
-    let mut widths = [0u16; 512];
-    let fault = checker::check(table, &mut widths[..]);
-    if !records::accepted(fault) {
-        return records::fault_record(fault);
-    }
-    let k = window_of(table);
+    let k = words::window_of(table);
     if k == 0 {
         return records::refuse(41, 0);
     }
@@ -87,7 +71,27 @@ pub fn marker_positions(table: &[u16], words: &[u16], list: &mut [u32]) -> Recor
         return records::refuse(42, 0);
     }
     let mut plan = [0u16; words::PLAN];
-    words::prepare(table, &widths[..], &mut plan[..]);
+    words::prepare(table, widths, places, bits, &mut plan[..]);
     let found = find_starts(&plan[..], words, k, list);
     records::complete(found as u32, 0)
+}
+
+// The same for any table.
+pub fn marker_positions(table: &[u16], words: &[u16], list: &mut [u32]) -> Record
+    ensures record { λ r. ⌜ r ≡ positionsRecord (now (table .entry)) (now (words .entry)) ⌝ }
+    ensures list { λ _. ⌜ now (list .exit) ≡ positionsAfter (now (table .entry)) (now (words .entry)) (now (list .entry)) ⌝ }
+{
+    let mut widths = [0u16; 512];
+    let mut places = [0u16; 577];
+    match checker::check_and_place(table, &mut widths, &mut places) {
+        checker::Checked::Refused(r) => r,
+        checker::Checked::Bits(bits) => positions_in(
+            table,
+            &widths[..],
+            &places[..],
+            bits,
+            words,
+            list,
+        ),
+    }
 }

@@ -2,7 +2,7 @@
 // text, and four values placed in the columns of a row.
 ghost use mathlib.Core.Path.{_≡_};
 ghost use Prim.Native.Nat.{_≤_};
-ghost use Rattle.sheets.specs.Text.{digitOf, hexDigitOf, sees, valueFor, placed, seesKind, allDifferent};
+ghost use Rattle.sheets.specs.Text.{digitOf, hexDigitOf, sees, valueFor, rowOfValues, seesKind, allDifferent};
 use sheets::Order;
 use terms::Row;
 
@@ -106,7 +106,7 @@ pub fn pick(order: Order, column: u16, v1: u16, v2: u16, v3: u16, v4: u16) -> u1
 
 // The row that four values are.
 pub fn place_values(order: Order, v1: u16, v2: u16, v3: u16, v4: u16) -> Row
-    ensures { λ r. ⌜ r ≡ placed order v1 v2 v3 v4 ⌝ }
+    ensures { λ r. ⌜ r ≡ rowOfValues order v1 v2 v3 v4 ⌝ }
 {
     Row {
         kind: pick(order, 0, v1, v2, v3, v4),

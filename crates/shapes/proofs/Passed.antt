@@ -12,7 +12,7 @@ use Rattle.laws.specs.Lists.{member}
 use Rattle.laws.proofs.Bools.{and-second}
 use Rattle.laws.proofs.Numbers.{lt-or-le}
 use Rattle.answers.specs.declared.AnswerRow.{AnswerRow}
-use Rattle.answers.specs.Answer.{isFresh, freshNumbers, freshWidth, freshStart, widthIn}
+use Rattle.answers.specs.Answer.{isFresh, freshNumbers, freshWidth, freshStart, widthInRows}
 use Rattle.assignments.specs.Form.{variableFine, kindFine, widthFine, variableWide, patternBits, patternWide, fillFine, neighboursFine, freshFine, rowFine}
 use Rattle.assignments.proofs.FreshPieces.{Below, none-below, unseen, lowest-is}
 use Rattle.assignments.proofs.FormFacts.{Formed, formed-none}
@@ -25,7 +25,7 @@ pub record Passed (before : List AnswerRow) (p : Progress) (widths starts : List
   pub variable-is : (r : AnswerRow) → variableFine before r ≡ ltb (r .variable) 64 && (eqb (r .variable) (p .variable) || eqb (r .variable) (p .next))
   pub rising : p .variable ≤ p .next
   pub neighbours-are : (r : AnswerRow) → r .kind < 2 → neighboursFine before r ≡ not (eqb (r .variable) (p .variable) && eqb (r .kind) (p .kind))
-  pub width-is : (v : ℕ) → p .variable ≤ v → widthIn before v ≡ widthBefore p v
+  pub width-is : (v : ℕ) → p .variable ≤ v → widthInRows before v ≡ widthBefore p v
   pub bits-are : p .bits ≡ patternBits before
   pub pieces-are : Below (p .pieces) before
   pub widths-are : (k : ℕ) → k < p .pieces → getD widths k 0 ≡ freshWidth before k
@@ -57,7 +57,7 @@ same-either true = refl
 same-either false = refl
 
 pub passed-none : (widths starts : List ℕ) → Passed [] atFirst widths starts
-unfolding variableFine neighboursFine widthIn widthBefore patternBits freshStart
+unfolding variableFine neighboursFine widthInRows widthBefore patternBits freshStart
 passed-none widths starts = record {
   formed = formed-none;
   variable-is = λ r. first-variable (r .variable);

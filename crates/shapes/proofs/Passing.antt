@@ -13,7 +13,7 @@ use borrow.Author.Tests.{eqb-true, eq-eqb, ne-eqb, lt-ltb, le-ltb, ltb-true}
 use Rattle.laws.proofs.Bools.{and-parts, cond-most, not-and}
 use Rattle.laws.proofs.Numbers.{dec-eq, lt-or-le, eqb-turn}
 use Rattle.answers.specs.declared.AnswerRow.{AnswerRow}
-use Rattle.answers.specs.Answer.{isFresh, freshWidth, freshStart, widthIn}
+use Rattle.answers.specs.Answer.{isFresh, freshWidth, freshStart, widthInRows}
 use Rattle.assignments.specs.Form.{variableFine, patternBits, neighboursFine, rowFine}
 use Rattle.assignments.proofs.FormFacts.{Clauses, clauses, formed-more}
 use Rattle.assignments.proofs.FreshPieces.{starts-same, below-most, below-more, kept-width, own-width}
@@ -95,16 +95,16 @@ module _ (before : List AnswerRow) (p : Progress) (widths starts : List ℕ) (k 
       go (inl h) = rw (lt-ltb (r .kind) 2 h, eqb-turn (r .variable) (q .variable), eqb-turn (r .kind) (q .kind)) (not-and (eqb (q .variable) (r .variable)) (eqb (q .kind) (r .kind)))
       go (inr h) = rw (le-ltb (r .kind) 2 h, ne-eqb (q .kind) (r .kind) (omega arith), and-false (eqb (q .variable) (r .variable)))
 
-  width-then : (v : ℕ) → r .variable ≤ v → widthIn after v ≡ widthBefore then v
-  unfolding widthIn widthBefore
+  width-then : (v : ℕ) → r .variable ≤ v → widthInRows after v ≡ widthBefore then v
+  unfolding widthInRows widthBefore
   width-then v l = width-append before (r ∷ []) v ∙ go (dec-eq v (r .variable))
     where
       go : (v ≡ r .variable) ⊎ (v ≢ r .variable)
-          → widthIn before v + (cond (eqb (r .variable) v) (r .width) 0 + 0) ≡ cond (eqb v (r .variable)) (widthBefore p (r .variable) + r .width) 0
+          → widthInRows before v + (cond (eqb (r .variable) v) (r .width) 0 + 0) ≡ cond (eqb v (r .variable)) (widthBefore p (r .variable) + r .width) 0
       go (inl e) = rw (e, eq-eqb (r .variable) (r .variable) refl) (omega (arith, k .width-is (r .variable) reaches))
       go (inr e) = rw (ne-eqb (r .variable) v (λ q. e (sym q)), ne-eqb v (r .variable) e) (omega (arith, above))
         where
-          above : widthIn before v ≡ 0
+          above : widthInRows before v ≡ 0
           above = k .width-is v (omega (arith, reaches)) ∙ rw (ne-eqb v (p .variable) (λ q. e (omega (arith, reaches))))
 
   -- the pieces with the row: those before it, and the next one if the row begins it

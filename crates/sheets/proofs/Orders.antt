@@ -8,7 +8,7 @@ use borrow.Author.Tests.{eq-eqb, ne-eqb, eqb-true, eqb-false, not-true}
 use Rattle.terms.specs.declared.Row.{Row}
 use Rattle.laws.proofs.Bools.{or-first, or-second}
 use Rattle.sheets.specs.declared.Order.{Order}
-use Rattle.sheets.specs.Text.{valueFor, placed, allDifferent}
+use Rattle.sheets.specs.Text.{valueFor, rowOfValues, allDifferent}
 use Rattle.sheets.specs.Writing.{column, IsOrder, SmallRow}
 
 -- four different columns
@@ -80,8 +80,8 @@ module _ (order : Order) (is : IsOrder order) where
           (eqb-false (order .first) n a) (eqb-false (order .second) n b) (eqb-false (order .third) n c))
 
   -- a row is what its values in this order are placed to
-  pub row-placed : (row : Row) → placed order (column row (order .first)) (column row (order .second)) (column row (order .third)) (column row (order .fourth)) ≡ row
-  unfolding placed column
+  pub row-placed : (row : Row) → rowOfValues order (column row (order .first)) (column row (order .second)) (column row (order .third)) (column row (order .fourth)) ≡ row
+  unfolding rowOfValues column
   row-placed row =
       let k = value-is (column row) 0 (omega arith) in
       let a = value-is (column row) 1 (omega arith) in
@@ -95,30 +95,30 @@ module _ (order : Order) (is : IsOrder order) where
 
   -- the columns of four values placed in this order are those values
   module _ (v₁ v₂ v₃ v₄ : ℕ) where
-    column-is : (n : ℕ) → n < 4 → column (placed order v₁ v₂ v₃ v₄) n ≡ valueFor order n v₁ v₂ v₃ v₄
-    unfolding placed column
+    column-is : (n : ℕ) → n < 4 → column (rowOfValues order v₁ v₂ v₃ v₄) n ≡ valueFor order n v₁ v₂ v₃ v₄
+    unfolding rowOfValues column
     column-is zero h = refl
     column-is (suc zero) h = refl
     column-is (suc (suc zero)) h = refl
     column-is (suc (suc (suc zero))) h = refl
     column-is (suc (suc (suc (suc n)))) h = absurd (omega arith)
 
-    pub first-placed : column (placed order v₁ v₂ v₃ v₄) (order .first) ≡ v₁
+    pub first-placed : column (rowOfValues order v₁ v₂ v₃ v₄) (order .first) ≡ v₁
     unfolding valueFor
     first-placed = column-is (order .first) (is .first-is) ∙ rw (eq-eqb (order .first) (order .first) refl)
 
-    pub second-placed : column (placed order v₁ v₂ v₃ v₄) (order .second) ≡ v₂
+    pub second-placed : column (rowOfValues order v₁ v₂ v₃ v₄) (order .second) ≡ v₂
     unfolding valueFor
     second-placed =
         column-is (order .second) (is .second-is) ∙ rw (ne-eqb (order .first) (order .second) (facts .ij), eq-eqb (order .second) (order .second) refl)
 
-    pub third-placed : column (placed order v₁ v₂ v₃ v₄) (order .third) ≡ v₃
+    pub third-placed : column (rowOfValues order v₁ v₂ v₃ v₄) (order .third) ≡ v₃
     unfolding valueFor
     third-placed =
         column-is (order .third) (is .third-is)
         ∙ rw (ne-eqb (order .first) (order .third) (facts .ik), ne-eqb (order .second) (order .third) (facts .jk), eq-eqb (order .third) (order .third) refl)
 
-    pub fourth-placed : column (placed order v₁ v₂ v₃ v₄) (order .fourth) ≡ v₄
+    pub fourth-placed : column (rowOfValues order v₁ v₂ v₃ v₄) (order .fourth) ≡ v₄
     unfolding valueFor
     fourth-placed =
         column-is (order .fourth) (is .fourth-is)
@@ -135,8 +135,8 @@ value-small order n v₁ v₂ v₃ v₄ h₁ h₂ h₃ h₄ = go (eqb (order .fi
     go false false true = h₃
     go false false false = h₄
 
-pub placed-small : (order : Order) (v₁ v₂ v₃ v₄ : ℕ) → v₁ ≤ 65535 → v₂ ≤ 65535 → v₃ ≤ 65535 → v₄ ≤ 65535 → SmallRow (placed order v₁ v₂ v₃ v₄)
-unfolding placed
+pub placed-small : (order : Order) (v₁ v₂ v₃ v₄ : ℕ) → v₁ ≤ 65535 → v₂ ≤ 65535 → v₃ ≤ 65535 → v₄ ≤ 65535 → SmallRow (rowOfValues order v₁ v₂ v₃ v₄)
+unfolding rowOfValues
 placed-small order v₁ v₂ v₃ v₄ h₁ h₂ h₃ h₄ =
     let small : (n : ℕ) → valueFor order n v₁ v₂ v₃ v₄ ≤ 65535 = λ n. value-small order n v₁ v₂ v₃ v₄ h₁ h₂ h₃ h₄ in
     record { kind-small = small 0; a-small = small 1; b-small = small 2; c-small = small 3 }

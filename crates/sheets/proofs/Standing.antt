@@ -10,7 +10,7 @@ use lib.Seq.{drop-cons}
 use Rattle.terms.specs.declared.Row.{Row}
 use Rattle.laws.proofs.Bools.{and-first, and-second}
 use Rattle.sheets.specs.declared.Order.{Order}
-use Rattle.sheets.specs.Text.{NumberFound, Value, NoNumber, NameFound, Column, NoName, NamesFound, InOrder, NoNames, LineFound, Values, numberAt, sees, endedBy, fieldAt, placed, withNumber, lineAt, seesKind, columnAt, namedBy, nameAt, withName, allDifferent, namesAt}
+use Rattle.sheets.specs.Text.{NumberFound, Value, NoNumber, NameFound, Column, NoName, NamesFound, InOrder, NoNames, LineFound, Values, numberAt, sees, endedBy, fieldAt, rowOfValues, withNumber, lineAt, seesKind, columnAt, namedBy, nameAt, withName, allDifferent, namesAt}
 use Rattle.sheets.specs.Writing.{spelled, Spelling, nameBytes, name, valueIn, namesLine, lineIn, IsOrder, SmallRow}
 use Rattle.sheets.proofs.Fields.{seen-within, seen-byte}
 use Rattle.sheets.proofs.Spelled.{number-written}
@@ -68,7 +68,7 @@ module _ (text : List ℕ) where
   taken NoNumber next row to e = let z : _≡_ {A = ℕ} 0 1 = cc in absurd (omega arith)
 
   abbrev after₃ : Order → ℕ → ℕ → ℕ → ℕ → ℕ → LineFound
-  after₃ order v₁ v₂ v₃ v₄ at₄ = Values (placed order v₁ v₂ v₃ v₄) at₄
+  after₃ order v₁ v₂ v₃ v₄ at₄ = Values (rowOfValues order v₁ v₂ v₃ v₄) at₄
 
   abbrev after₂ : Order → ℕ → ℕ → ℕ → ℕ → LineFound
   after₂ order v₁ v₂ v₃ at₃ = withNumber (fieldAt text at₃ 10) (after₃ order v₁ v₂ v₃)
@@ -90,7 +90,7 @@ module _ (text : List ℕ) where
     abbrev spellings : Spelling
     spellings = record { first = f₁ .spelling; second = f₂ .spelling; third = f₃ .spelling; fourth = f₄ .spelling }
 
-    row-there : drop at text ≡ lineIn order spellings (placed order v₁ v₂ v₃ v₄) ++ drop k₄ text
+    row-there : drop at text ≡ lineIn order spellings (rowOfValues order v₁ v₂ v₃ v₄) ++ drop k₄ text
     unfolding lineIn
     row-there =
         let x₁ = valueIn (f₁ .spelling) v₁ 32 in
@@ -100,9 +100,9 @@ module _ (text : List ℕ) where
         ∙ rw (first-placed order is v₁ v₂ v₃ v₄, second-placed order is v₁ v₂ v₃ v₄, third-placed order is v₁ v₂ v₃ v₄, fourth-placed order is v₁ v₂ v₃ v₄)
         (simp append-assoc)
 
-    line-made : (row : Row) (to : ℕ) → Values (placed order v₁ v₂ v₃ v₄) k₄ ≡ Values row to → LineThere order at row to
+    line-made : (row : Row) (to : ℕ) → Values (rowOfValues order v₁ v₂ v₃ v₄) k₄ ≡ Values row to → LineThere order at row to
     line-made row to e =
-        let same : placed order v₁ v₂ v₃ v₄ ≡ row = cc in
+        let same : rowOfValues order v₁ v₂ v₃ v₄ ≡ row = cc in
         let i : k₄ ≡ to = cc in
         record {
           small = rw same at (placed-small order v₁ v₂ v₃ v₄ (f₁ .small) (f₂ .small) (f₃ .small) (f₄ .small));

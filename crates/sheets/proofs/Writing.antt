@@ -13,7 +13,7 @@ use borrow.Author.Tests.{lt-ltb, le-ltb, eq-eqb}
 use Rattle.terms.specs.declared.Row.{Row}
 use Rattle.sheets.specs.declared.Order.{Order}
 use Rattle.sheets.specs.declared.Sheet.the-variants.{Rows}
-use Rattle.sheets.specs.Text.{Value, Column, InOrder, Values, digitOf, hexDigitOf, numberHere, sees, fieldAt, placed, lineAt, seesKind, columnAt, nameAt, namesAt}
+use Rattle.sheets.specs.Text.{Value, Column, InOrder, Values, digitOf, hexDigitOf, numberHere, sees, fieldAt, rowOfValues, lineAt, seesKind, columnAt, nameAt, namesAt}
 use Rattle.sheets.specs.Sheet.{foundFrom, rowsFrom, sheetFound, sheetRows}
 use Rattle.sheets.specs.Writing.{spelled, Spelling, nameBytes, column, name, valueIn, namesLine, lineIn, IsOrder, SmallRow, LinesOf, no-lines, one-line}
 use Rattle.sheets.proofs.Spelled.{number-read}
@@ -50,7 +50,7 @@ module _ (text : List ℕ) where
   four-read : (order : Order) (sp : Spelling) (at v₁ v₂ v₃ v₄ : ℕ) (rest : List ℕ) → v₁ ≤ 65535 → v₂ ≤ 65535 → v₃ ≤ 65535 → v₄ ≤ 65535
       → drop at text ≡ (valueIn (sp .first) v₁ 32 ++ valueIn (sp .second) v₂ 32 ++ valueIn (sp .third) v₃ 32 ++ valueIn (sp .fourth) v₄ 10) ++ rest
       → lineAt text order at
-      ≡ Values (placed order v₁ v₂ v₃ v₄)
+      ≡ Values (rowOfValues order v₁ v₂ v₃ v₄)
       (at + length (valueIn (sp .first) v₁ 32 ++ valueIn (sp .second) v₂ 32 ++ valueIn (sp .third) v₃ 32 ++ valueIn (sp .fourth) v₄ 10))
   unfolding lineAt digitOf hexDigitOf
   four-read order sp at v₁ v₂ v₃ v₄ rest h₁ h₂ h₃ h₄ e =
@@ -71,7 +71,7 @@ module _ (text : List ℕ) where
       let f₄ = value-read at₃ (sp .fourth) v₄ 10 rest h₄ (omega arith) e₄ in
       let l : at₃ + length x₄ ≡ at + length (x₁ ++ x₂ ++ x₃ ++ x₄) =
       omega (arith, length-append (x₁ ++ x₂ ++ x₃) x₄, length-append (x₁ ++ x₂) x₃, length-append x₁ x₂) in
-      rw (f₁, f₂, f₃, f₄) (ap (λ (i : ℕ). Values (placed order v₁ v₂ v₃ v₄) i) l)
+      rw (f₁, f₂, f₃, f₄) (ap (λ (i : ℕ). Values (rowOfValues order v₁ v₂ v₃ v₄) i) l)
 
   pub line-read : (order : Order) (sp : Spelling) (row : Row) (at : ℕ) (rest : List ℕ) → IsOrder order → SmallRow row
       → drop at text ≡ lineIn order sp row ++ rest

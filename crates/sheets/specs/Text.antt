@@ -97,8 +97,8 @@ valueFor order column v₁ v₂ v₃ v₄ =
     cond (eqb (order .first) column) v₁ (cond (eqb (order .second) column) v₂ (cond (eqb (order .third) column) v₃ v₄))
 
 -- The row that four values are.
-unfoldable pub placed : Order → ℕ → ℕ → ℕ → ℕ → Row
-placed order v₁ v₂ v₃ v₄ =
+unfoldable pub rowOfValues : Order → ℕ → ℕ → ℕ → ℕ → Row
+rowOfValues order v₁ v₂ v₃ v₄ =
     record {
       kind = valueFor order 0 v₁ v₂ v₃ v₄;
       a = valueFor order 1 v₁ v₂ v₃ v₄;
@@ -117,7 +117,7 @@ lineAt text order at =
     withNumber (fieldAt text at 32) λ v₁ at₁.
     withNumber (fieldAt text at₁ 32) λ v₂ at₂.
     withNumber (fieldAt text at₂ 32) λ v₃ at₃.
-    withNumber (fieldAt text at₃ 10) λ v₄ at₄. Values (placed order v₁ v₂ v₃ v₄) at₄
+    withNumber (fieldAt text at₃ 10) λ v₄ at₄. Values (rowOfValues order v₁ v₂ v₃ v₄) at₄
 
 -- Whether the bytes of "kind" stand at a place.
 unfoldable pub seesKind : List ℕ → ℕ → Bool

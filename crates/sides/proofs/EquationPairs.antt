@@ -13,16 +13,17 @@ use Rattle.terms.specs.Table.{rowsOf, rowAt, bitsOf, widthOf, countKind, source
 use Rattle.terms.specs.inner.Places.{lowSource}
 use Rattle.laws.specs.Buffers.{overwrite}
 use Rattle.terms.specs.Faults.{absent}
-use Rattle.terms.proofs.AcceptedTable.{Table, accepted-table, term-present}
+use Rattle.terms.proofs.AcceptedTable.{Table, accepted-table, table-bits, term-present}
 use Rattle.terms.proofs.RowKinds.{of-equation, of-term}
 use Rattle.terms.proofs.Faults.{Term, Kept, kept, kept-names, equation-names, widths-small}
 use Rattle.terms.proofs.Filled.{evened-word, evened-length}
 use Rattle.terms.proofs.Sources.{source-length}
 use Rattle.answers.specs.Pairs.{Pair, paired, pairsOf}
+use Rattle.answers.proofs.Filled.{paired-count}
 use Rattle.forms.specs.Form.{formFrom, numbersOf}
-use Rattle.forms.specs.inner.Numbered.{Numbered}
+use Rattle.terms.specs.inner.Placed.{Numbered}
 use Rattle.sides.specs.inner.Sides.{Prepared, leftSide, rightSide, sideWritten, pairsFrom, SidesWritten, SidesRead}
-use Rattle.sides.proofs.FormSources.{filled-below, below-read, side-read, side-ends, table-bits}
+use Rattle.sides.proofs.FormSources.{filled-below, below-read, side-read, side-ends}
 
 -- pairs read where two words stand
 pairs-from : (left right xs ys : List ℕ) (k : ℕ) → length xs ≡ length ys
@@ -42,13 +43,6 @@ pairs-from left right (x ∷ xs) (y ∷ ys) k e l r =
     (pairs-from left right xs ys (suc k) (omega arith)
     (λ i h. ap (λ (j : ℕ). getD left j 0) (s i) ∙ l (suc i) (omega arith))
     (λ i h. ap (λ (j : ℕ). getD right j 0) (s i) ∙ r (suc i) (omega arith)))
-
--- as many pairs as either word has bits
-paired-length : (xs ys : List ℕ) → length xs ≡ length ys → length (paired xs ys) ≡ length xs
-unfolding paired
-paired-length [] ys e = refl
-paired-length (x ∷ xs) [] e = absurd (omega arith)
-paired-length (x ∷ xs) (y ∷ ys) e = ap suc (paired-length xs ys (omega arith))
 
 module _ (table widths variables : List ℕ) (ready : Numbered table widths variables) (r : ℕ) (inside : r < length (rowsOf table)) where
   abbrev rows : List Row
@@ -120,7 +114,7 @@ module _ (table widths variables : List ℕ) (ready : Numbered table widths vari
           right-is = eᵣ ∙ sym (of-equation (rowAt rows r) _ right e);
           count =
               ew ∙ ap₂ max (ready .widths-are a left-in) (ready .widths-are b right-in) ∙ sym left-wide
-              ∙ sym (ap length are-pairs ∙ paired-length (leftSide rows (rowAt rows r)) (rightSide rows (rowAt rows r)) same-wide);
+              ∙ sym (ap length are-pairs ∙ paired-count (leftSide rows (rowAt rows r)) (rightSide rows (rowAt rows r)) same-wide);
         }
 
     module _ (lows : List ℕ) (lows-are : (v : ℕ) → v < countKind 0 (rowsOf table) → getD lows v 0 ≡ lowSource (rowsOf table) v) where
@@ -130,7 +124,7 @@ module _ (table widths variables : List ℕ) (ready : Numbered table widths vari
       equation-read left left′ right right′ w roomₗ roomᵣ s =
           let l : List ℕ = leftSide rows (rowAt rows r) in
           let q : List ℕ = rightSide rows (rowAt rows r) in
-          let wide : w ≡ length l = s .count ∙ ap length are-pairs ∙ paired-length l q same-wide in
+          let wide : w ≡ length l = s .count ∙ ap length are-pairs ∙ paired-count l q same-wide in
           let right-few : length q ≤ 1024 = omega (arith, same-wide, left-few) in
           record {
             left-read =

@@ -12,17 +12,15 @@ use Rattle.terms.specs.declared.Row.{Row}
 use Rattle.terms.specs.Table.{rowsOf, bitsOf, countKind, bitOf, sourcesOf, sourceOf, evened}
 use Rattle.laws.specs.Lists.{countUp}
 use Rattle.laws.specs.Buffers.{overwrite}
-use Rattle.terms.specs.Faults.{absent, firstFault}
-use Rattle.terms.specs.declared.Fault.the-variants.{Accepted}
-use Rattle.terms.proofs.AcceptedTable.{Table, accepted-table, term-there}
-use Rattle.terms.proofs.Faults.{totals-small}
+use Rattle.terms.specs.Faults.{absent}
+use Rattle.terms.proofs.AcceptedTable.{Table, accepted-table, table-bits, term-there}
 use Rattle.terms.proofs.Filled.{evened-word}
 use Rattle.terms.proofs.Sources.{value-sources}
 use Rattle.laws.proofs.CountUp.{count-up}
 use Rattle.terms.specs.Sound.{Sound}
 use Rattle.forms.specs.declared.Piece.{Piece}
 use Rattle.forms.specs.Form.{fill, formFrom, numbersOf}
-use Rattle.forms.specs.inner.Numbered.{Numbered}
+use Rattle.terms.specs.inner.Placed.{Numbered}
 use Rattle.pieces.proofs.Buffer.{form-piece}
 use Rattle.appender.specs.inner.Append.{Appended}
 use Rattle.forms.proofs.RowForms.{sources-wide, width-small, width-read}
@@ -126,11 +124,6 @@ zeros-below n (suc k) xs h b = some h (zeros-below n k xs h b)
 pub filled-below : (t : List Row) → Sound t → (r s : ℕ) → r < length t → AllBelow (bitsOf t + 2) (evened (sourceOf t r) (sourceOf t s))
 unfolding evened
 filled-below t sound r s h = zeros-below (bitsOf t + 2) (length (sourceOf t s) - length (sourceOf t r)) (sourceOf t r) (omega arith) (sources-below t sound r h)
-
--- an accepted table has at most 4,096 variable bits
-pub table-bits : (table : List ℕ) → firstFault table ≡ Accepted → bitsOf (rowsOf table) ≤ 4096
-table-bits table accepted =
-    rw (take-length (rowsOf table)) at (totals-small (rowsOf table) (length (rowsOf table)) (accepted-table table accepted .sound) .1)
 
 -- one side: its form in a buffer, and what a reader gives of it
 module _ (table widths variables : List ℕ) (ready : Numbered table widths variables)

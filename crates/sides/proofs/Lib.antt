@@ -2,4 +2,4 @@ pub mod Spelling
 pub mod Reading
 pub mod FormSources
 pub mod EquationPairs
-pub mod NextEquation
+pub mod Prepared

@@ -1,9 +1,9 @@
 // The equations of a table: which row is the next one; the normal forms of its filled sides, each in a buffer of its own; and a reader that
 // takes a side's bits, as sources and high end first, from the form where it was written.
 ghost use mathlib.Core.Path.{_≡_};
-ghost use Rattle.terms.specs.Table.{rowsOf};
+ghost use Rattle.terms.specs.Table.{rowsOf, nextEquation};
 ghost use Rattle.sides.specs.inner.Reading.{firstIn, nextIn, risen, Stands, StepsOn};
-ghost use Rattle.sides.specs.inner.Sides.{nextEquation, WritesSide, WritesSides};
+ghost use Rattle.sides.specs.inner.Sides.{WritesSide, WritesSides};
 
 // Where a form is read: the piece and, at one of its bits, the source, how far on the next bit's source is (0 in a fill, 1 in a part of a
 // variable), and how many bits of the piece are left behind it.

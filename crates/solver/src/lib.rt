@@ -4,20 +4,20 @@ ghost use mathlib.Core.Path.{_≡_};
 ghost use Prim.Native.Nat.{_≤_, suc};
 ghost use lib.ListN.{length};
 ghost use Rattle.answers.specs.Solve.{solveRecord, answerAfter, workAfter};
-ghost use Rattle.solver.specs.inner.Call.{Concludes, AnswersTable, SolvesAccepted};
+ghost use Rattle.solver.specs.inner.Call.{Concludes, AnswersTaken, AnswersTable};
 use terms::Record;
 
-// The record of the equations that were taken, and for outcome 2 the answer's rows. The first rows of the fresh pieces are kept in `firsts`.
+// The record of the equations that were taken, and for outcome 2 the answer's rows, four numbers each, as far as the answer table lent reaches:
+// with none the record is the same. Of the table its variables and the number of its rows are read.
 pub fn conclude(
     table: &[u16],
     bits: usize,
     row: usize,
     ties: usize,
     links: &[u16],
-    firsts: &mut [u16],
     answer: &mut [u16],
 ) -> Record
-    ensures { λ r. ⌜ Concludes (now (table .entry)) bits row ties (now (links .entry)) (length (now (firsts .entry))) (now (answer .entry)) (now (answer .exit)) r ⌝ }
+    ensures { λ r. ⌜ Concludes (now (table .entry)) bits row ties (now (links .entry)) (now (answer .entry)) (now (answer .exit)) r ⌝ }
 {
     if row < table.len() / 4 {
         return Record {
@@ -33,7 +33,6 @@ pub fn conclude(
         return records::complete(0, numbers::short(bits));
     }
     let counts = borders::put_rows(table, links, answer);
-    homes::put_homes(answer, counts.pieces, firsts);
     Record {
         outcome: 2,
         pieces: numbers::short(counts.pieces),
@@ -42,6 +41,25 @@ pub fn conclude(
         ties: numbers::short(ties),
         row: 0,
     }
+}
+
+// The same, and then for outcome 2 the homes of the rows. The first rows of the fresh pieces are kept in `firsts`.
+pub fn answer_taken(
+    table: &[u16],
+    bits: usize,
+    row: usize,
+    ties: usize,
+    links: &[u16],
+    firsts: &mut [u16],
+    answer: &mut [u16],
+) -> Record
+    ensures { λ r. ⌜ AnswersTaken (now (table .entry)) bits row ties (now (links .entry)) (length (now (firsts .entry))) (now (answer .entry)) (now (answer .exit)) r ⌝ }
+{
+    let found = conclude(table, bits, row, ties, links, answer);
+    if found.outcome == 2 {
+        homes::put_homes(answer, found.pieces as usize, firsts);
+    }
+    found
 }
 
 // The answer of an accepted table, from the classes of its bits.
@@ -57,7 +75,7 @@ fn answer_table(
     ensures { λ r. ⌜ (length (now (links .entry)) ≡ suc (suc bits) → AnswersTable (now (table .entry)) (now (widths .entry)) (now (places .entry)) bits (length (now (form .entry))) (now (answer .entry)) (now (answer .exit)) r) ⌝ }
 {
     let taken = linking::table_classes(table, widths, places, form, links);
-    conclude(table, bits, taken.row, taken.ties, links, form, answer)
+    answer_taken(table, bits, taken.row, taken.ties, links, form, answer)
 }
 
 // The same for a small table, of at most 128 variable bits: its links are few, since each is set to 0 first.
@@ -108,16 +126,21 @@ fn answer_many(
     )
 }
 
-// The answer of an accepted table, in a work area that has room for the normal form of a side.
-fn solve_accepted(table: &[u16], widths: &[u16], answer: &mut [u16], work: &mut [u16]) -> Record
-    ensures { λ r. ⌜ SolvesAccepted (now (table .entry)) (now (widths .entry)) (now (answer .entry)) (now (answer .exit)) (length (now (work .entry))) r ⌝ }
+// The answer of a table that was checked and placed.
+fn solve_placed(
+    table: &[u16],
+    widths: &[u16],
+    places: &[u16],
+    bits: usize,
+    form: &mut [u16],
+    answer: &mut [u16],
+) -> Record
+    ensures { λ r. ⌜ AnswersTable (now (table .entry)) (now (widths .entry)) (now (places .entry)) bits (length (now (form .entry))) (now (answer .entry)) (now (answer .exit)) r ⌝ }
 {
-    let mut places = [0u16; 577];
-    let bits = checker::place(table, &mut places[..]);
     if bits <= 128 {
-        return answer_few(table, widths, &places[..], bits, work, answer);
+        return answer_few(table, widths, places, bits, form, answer);
     }
-    answer_many(table, widths, &places[..], bits, work, answer)
+    answer_many(table, widths, places, bits, form, answer)
 }
 
 // How many numbers the answer table has at least, and how many the work area.
@@ -138,11 +161,13 @@ pub fn solve(table: &[u16], answer: &mut [u16], work: &mut [u16]) -> Record
         return records::refuse(10, 0);
     }
     let mut widths = [0u16; 512];
-    let fault = checker::check(table, &mut widths[..]);
-    if !records::accepted(fault) {
-        return records::fault_record(fault);
+    let mut places = [0u16; 577];
+    match checker::check_and_place(table, &mut widths, &mut places) {
+        checker::Checked::Refused(r) => r,
+        checker::Checked::Bits(bits) => {
+            let found = solve_placed(table, &widths[..], &places[..], bits, work, answer);
+            numbers::clear(work);
+            found
+        }
     }
-    let found = solve_accepted(table, &widths[..], answer, work);
-    numbers::clear(work);
-    found
 }

@@ -7,25 +7,23 @@ use Prim.Native.Nat.{ℕ, zero, suc, _+_, _-_, _≤_, _<_, min, max}
 use native.Mathlib.Omega.{arith}
 use native.Mathlib.Numerals.{add-one}
 use lib.Dec.{eqb}
-use lib.ListN.{length, getD, drop}
+use lib.ListN.{length, getD, take, drop}
 use borrow.Author.Tests.{eq-eqb, ne-eqb}
 use Rattle.terms.specs.declared.Row.{Row}
-use Rattle.terms.specs.Table.{rowAt, bitsOf}
-use Rattle.laws.specs.Lists.{countUp}
+use Rattle.terms.specs.Table.{rowAt}
 use Rattle.answers.specs.Pairs.{Pair, pairsOf, pairsIn}
 use Rattle.answers.specs.inner.Classes.{rep, relabel, merge, run, runAll, links, conflictAt, linksBefore}
 use Rattle.laws.proofs.Numbers.{dec-eq}
-use Rattle.answers.proofs.Agreement.{relabel-zero, base}
-use Rattle.laws.proofs.CountUp.{count-at, count-up}
+use Rattle.answers.proofs.Agreement.{relabel-zero}
 use Rattle.answers.proofs.Equations.{pairs-from, pairs-past}
 use Rattle.classes.specs.inner.Links.{Low, rootsOf, pair, linked, PairTaken}
 use Rattle.classes.proofs.Links.{Canon, canon-merge, merge-len, merge-is}
-use Rattle.classes.proofs.Roots.{roots-settled, taken-alike}
+use Rattle.classes.proofs.Roots.{roots-length, stands-roots, taken-alike}
 use Rattle.classes.proofs.Taking.{tie-or-not, no-conflict, a-conflict}
 use Rattle.terms.proofs.RowKinds.{of-term}
 use Rattle.sides.specs.inner.Sides.{pairsFrom}
-use Rattle.sides.proofs.NextEquation.{Passed}
-use Rattle.taking.specs.inner.Equations.{EquationsTaken}
+use Rattle.terms.proofs.NextEquation.{Passed}
+use Rattle.taking.specs.inner.Equations.{Holding, EquationsTaken}
 
 -- ---- one pair more at the end of those taken
 abbrev pairAt : List ℕ → List ℕ → ℕ → Pair
@@ -147,58 +145,52 @@ taking-alike l r c h (suc n) k found t same =
     let e : k + 1 + n ≡ k + suc n = omega arith in
     subst (λ (j : ℕ). Taking l r c h j found) e (taking-alike l r c h n (k + 1) found one (λ i m. let s : k + 1 + i ≡ k + suc i = omega arith in rw s (same (suc i) (omega arith))))
 
--- ---- between equations: `row` rows are taken; c are the classes now
-module _ (t : List Row) where
-  abbrev es : List (List Pair)
-  es = pairsIn t t
+-- links that hold the classes of a table have taken none of the next equation's pairs
+pub taking-held : (t : List Row) (l r h : List ℕ) → Holding t h → Taking l r (rootsOf h) h 0 0
+taking-held t l r h b = taking-first l r (rootsOf h) h (stands-roots h (b .low) .canon) (b .low) refl (sym (roots-length h (b .low))) (b .apart)
 
-  abbrev c₀ : List ℕ
-  c₀ = countUp 0 (suc (suc (bitsOf t)))
+-- ---- between equations: those from row `from` on and before `row` are taken, from the classes c₀, and those below `to` are to be taken
+module _ (t : List Row) (from to : ℕ) (within : to ≤ length t) (c₀ : List ℕ) where
+  abbrev left-over : ℕ → List (List Pair)
+  left-over row = drop row (take to (pairsIn t t))
 
   pub record Between (h : List ℕ) (ties row : ℕ) : Type 0 where
-    pub canon : Canon (rootsOf h)
-    pub low : Low h
-    pub one : rep (rootsOf h) 1 ≡ 1
-    pub len : length h ≡ suc (suc (bitsOf t))
-    pub roots-len : length (rootsOf h) ≡ length h
-    pub stopped : row + conflictAt (rootsOf h) (drop row (pairsIn t t)) ≡ conflictAt (countUp 0 (suc (suc (bitsOf t)))) (pairsIn t t)
-    pub joined : ties + linksBefore (rootsOf h) (drop row (pairsIn t t)) ≡ linksBefore (countUp 0 (suc (suc (bitsOf t)))) (pairsIn t t)
-    pub ran : runAll (rootsOf h) (drop row (pairsIn t t)) ≡ runAll (countUp 0 (suc (suc (bitsOf t)))) (pairsIn t t)
+    pub held : Holding t h
+    pub stopped : row + conflictAt (rootsOf h) (drop row (take to (pairsIn t t))) ≡ from + conflictAt c₀ (drop from (take to (pairsIn t t)))
+    pub joined : ties + linksBefore (rootsOf h) (drop row (take to (pairsIn t t))) ≡ linksBefore c₀ (drop from (take to (pairsIn t t)))
+    pub ran : runAll (rootsOf h) (drop row (take to (pairsIn t t))) ≡ runAll c₀ (drop from (take to (pairsIn t t)))
 
-  pub between-first : (h : List ℕ) → h ≡ countUp 0 (suc (suc (bitsOf t))) → Between h 0 0
-  between-first h e =
-      let k : Canon c₀ = record { low = base (bitsOf t) .low; root = base (bitsOf t) .root } in
-      let s : rootsOf h ≡ c₀ = ap rootsOf e ∙ roots-settled c₀ k in
+  pub between-first : (h : List ℕ) → Holding t h → rootsOf h ≡ c₀ → Between h 0 from
+  between-first h b e =
       record {
-        canon = subst Canon (sym s) k;
-        low = subst Low (sym e) (base (bitsOf t) .low);
-        one = ap (λ (v : List ℕ). rep v 1) s ∙ count-at 0 (suc (suc (bitsOf t))) 1 (omega arith);
-        len = ap length e ∙ count-up 0 (suc (suc (bitsOf t)));
-        roots-len = ap length (s ∙ sym e);
-        stopped = rw s (omega arith);
-        joined = rw s (omega arith);
-        ran = rw s refl;
+        held = b;
+        stopped = rw e refl;
+        joined = rw e (omega arith);
+        ran = rw e refl;
       }
 
-  module _ (h : List ℕ) (ties row : ℕ) (b : Between h ties row) (g : row < length t) where
+  module _ (h : List ℕ) (ties row : ℕ) (b : Between h ties row) (g : row < to) where
     abbrev c : List ℕ
     c = rootsOf h
 
     abbrev ps : List Pair
     ps = pairsOf t (rowAt t row)
 
-    rest : drop row es ≡ ps ∷ drop (suc row) es
-    rest = pairs-from t row g
+    canon-c : Canon c
+    canon-c = stands-roots h (b .held .low) .canon
 
-    conflict-is : conflictAt c (drop row es) ≡ cond (eqb (rep (run c ps) 1) 0) 0 (suc (conflictAt (run c ps) (drop (suc row) es)))
+    rest : left-over row ≡ ps ∷ left-over (suc row)
+    rest = pairs-from t to row g (omega arith)
+
+    conflict-is : conflictAt c (left-over row) ≡ cond (eqb (rep (run c ps) 1) 0) 0 (suc (conflictAt (run c ps) (left-over (suc row))))
     unfolding conflictAt
     conflict-is = ap (conflictAt c) rest
 
-    links-is : linksBefore c (drop row es) ≡ cond (eqb (rep (run c ps) 1) 0) 0 (links c ps + linksBefore (run c ps) (drop (suc row) es))
+    links-is : linksBefore c (left-over row) ≡ cond (eqb (rep (run c ps) 1) 0) 0 (links c ps + linksBefore (run c ps) (left-over (suc row)))
     unfolding linksBefore
     links-is = ap (linksBefore c) rest
 
-    run-is : runAll c (drop row es) ≡ runAll (run c ps) (drop (suc row) es)
+    run-is : runAll c (left-over row) ≡ runAll (run c ps) (left-over (suc row))
     unfolding runAll
     run-is = ap (runAll c) rest
 
@@ -212,25 +204,26 @@ module _ (t : List Row) where
         let f : found ≡ links c ps = k .counted ∙ ap (links c) e in
         let m : row + 1 ≡ suc row = add-one row in
         record {
-          canon = subst Canon (sym s) (canon-run c (b .canon) ps);
-          low = k .low;
-          one = ap (λ (v : List ℕ). rep v 1) s ∙ o;
-          len = k .len ∙ b .roots-len ∙ b .len;
-          roots-len = ap length s ∙ run-length c (b .canon) ps ∙ sym (k .len);
+          held = record {
+            low = k .low;
+            sources = k .len ∙ roots-length h (b .held .low) ∙ b .held .sources;
+            apart = ap (λ (v : List ℕ). rep v 1) s ∙ o;
+          };
           stopped = rw (s, m) (omega (arith, b .stopped, rw n at conflict-is));
           joined = rw (s, m) (omega (arith, b .joined, rw n at links-is));
           ran = rw (s, m) (sym run-is ∙ b .ran);
         }
 
     -- two different fixed bits met
-    pub between-conflict : rep (run (rootsOf h) (pairsOf t (rowAt t row))) 1 ≡ 0 → (h′ : List ℕ) → ties ≤ 1000000 → EquationsTaken t (pairsIn t t) h′ row ties
+    pub between-conflict : rep (run (rootsOf h) (pairsOf t (rowAt t row))) 1 ≡ 0 → (h′ : List ℕ) → ties ≤ 1000000
+        → EquationsTaken t c₀ from to (drop from (take to (pairsIn t t))) h′ row ties
     between-conflict z h′ few =
         let n : eqb (rep (run c ps) 1) 0 ≡ true = eq-eqb (rep (run c ps) 1) 0 z in
         record {
           row-is = omega (arith, b .stopped, rw n at conflict-is);
           ties-are = omega (arith, b .joined, rw n at links-is);
           few = few;
-          low = λ e. absurd (omega arith);
+          held = λ e. absurd (omega arith);
           classes-are = λ e. absurd (omega arith);
         }
 
@@ -239,30 +232,31 @@ module _ (t : List Row) where
   unfolding pairsOf pairsFrom
   no-pairs i n = of-term (rowAt t i) _ [] n
 
-  between-past : (d : ℕ) (h : List ℕ) (ties row : ℕ) → Between h ties row → row + d ≤ length t
+  between-past : (d : ℕ) (h : List ℕ) (ties row : ℕ) → Between h ties row → row + d ≤ to
       → ((i : ℕ) → row ≤ i → i < row + d → rowAt t i .kind ≢ 4) → Between h ties (row + d)
   between-past zero h ties row b g none = let e : row ≡ row + 0 = omega arith in subst (Between h ties) e b
   between-past (suc d) h ties row b g none =
       let m : Between h (ties + 0) (row + 1) =
-      between-more h ties row b (omega arith) [] [] h 0 0 (taking-first [] [] _ h (b .canon) (b .low) refl (sym (b .roots-len)) (b .one)) (sym (no-pairs row (none row (omega arith) (omega arith)))) in
+      between-more h ties row b (omega arith) [] [] h 0 0 (taking-held t [] [] h (b .held)) (sym (no-pairs row (none row (omega arith) (omega arith)))) in
       let z : ties + 0 ≡ ties = omega arith in
       let e : row + 1 + d ≡ row + suc d = omega arith in
       subst (Between h ties) e
       (between-past d h ties (row + 1) (subst (λ (n : ℕ). Between h n (row + 1)) z m) (omega arith) (λ i a l. none i (omega arith) (omega arith)))
 
-  pub between-next : (h : List ℕ) (ties row n : ℕ) → Between h ties row → Passed t row n → Between h ties n
+  pub between-next : (h : List ℕ) (ties row n : ℕ) → Between h ties row → Passed t row to n → Between h ties n
   between-next h ties row n b p =
       let e : row + (n - row) ≡ n = omega (arith, p .forth) in
       subst (Between h ties) e (between-past (n - row) h ties row b (omega (arith, p .forth, p .most)) (λ i a l. p .none i a (omega (arith, p .forth))))
 
-  pub between-done : (h : List ℕ) (ties row : ℕ) → Between h ties row → length t ≤ row → ties ≤ 1000000 → EquationsTaken t (pairsIn t t) h row ties
+  pub between-done : (h : List ℕ) (ties row : ℕ) → Between h ties row → to ≤ row → ties ≤ 1000000
+      → EquationsTaken t c₀ from to (drop from (take to (pairsIn t t))) h row ties
   unfolding conflictAt linksBefore runAll
   between-done h ties row b g few =
-      let z : drop row es ≡ [] = pairs-past t row g in
+      let z : left-over row ≡ [] = pairs-past t to row g in
       record {
         row-is = omega (arith, rw z at (b .stopped));
         ties-are = omega (arith, rw z at (b .joined));
         few = few;
-        low = λ e. b .low;
+        held = λ e. b .held;
         classes-are = λ e. rw z at (b .ran);
       }

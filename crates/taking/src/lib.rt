@@ -7,7 +7,8 @@ ghost use lib.ListN.{length};
 ghost use Rattle.taking.specs.inner.Equations.{Alike, TakesEquations, LeavesForms};
 use sides::Reader;
 
-// How far the equations were taken: to the row at which two different fixed bits met, or through all rows; and the ties before it.
+// How far the equations were taken: to the row at which two different fixed bits met, or to the row at which taking was to end; and the ties
+// before it.
 pub struct Taken {
     pub row: usize,
     pub ties: usize,
@@ -52,24 +53,26 @@ fn alike(links: &[u16], a: Reader, b: Reader) -> bool
     same == STRIDE
 }
 
-// Takes the equations of a table in row order, and the bit pairs of each from the high end, from the forms of its two sides: the classes
-// of their bits are joined. Two different fixed bits that meet end it. Eight pairs that say nothing are passed at once. The forms stay as
-// they were written.
+// Takes the equations of a table from row `from` on and below row `to`, in row order, and the bit pairs of each from the high end, from the
+// forms of its two sides: the classes of their bits are joined. Two different fixed bits that meet end it. Eight pairs that say nothing are
+// passed at once. The forms stay as they were written.
 pub fn take_equations(
     table: &[u16],
     widths: &[u16],
     variables: &[u16],
     lows: &[u16],
+    from: usize,
+    to: usize,
     left: &mut [u16],
     right: &mut [u16],
     links: &mut [u16],
 ) -> Taken
-    ensures classes { λ r. ⌜ TakesEquations (now (table .entry)) (now (widths .entry)) (now (variables .entry)) (now (lows .entry)) (length (now (left .entry))) (length (now (right .entry))) (now (links .entry)) (now (links .exit)) (r .row) (r .ties) ⌝ }
-    ensures forms { λ r. ⌜ LeavesForms (now (table .entry)) (now (widths .entry)) (now (variables .entry)) (now (left .entry)) (now (left .exit)) (now (right .entry)) (now (right .exit)) (r .row) ⌝ }
+    ensures classes { λ r. ⌜ TakesEquations (now (table .entry)) (now (widths .entry)) (now (variables .entry)) (now (lows .entry)) from to (length (now (left .entry))) (length (now (right .entry))) (now (links .entry)) (now (links .exit)) (r .row) (r .ties) ⌝ }
+    ensures forms { λ r. ⌜ LeavesForms (now (table .entry)) (now (widths .entry)) (now (variables .entry)) from to (now (left .entry)) (now (left .exit)) (now (right .entry)) (now (right .exit)) (r .row) ⌝ }
 {
-    let rows = numbers::lesser(table.len() / 4, terms::MAX_ROWS);
+    let rows = numbers::lesser(to, terms::MAX_ROWS);
     let mut ties: usize = 0;
-    let mut r = sides::next_equation(table, 0, rows);
+    let mut r = sides::next_equation(table, from, rows);
     'solve: while r < rows {
         let pairs = sides::put_sides(table, widths, variables, r, left, right);
         let width = numbers::lesser(pairs, terms::MAX_WIDTH);

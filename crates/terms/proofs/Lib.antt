@@ -25,3 +25,5 @@ pub mod Alike
 pub mod LeavingOff
 pub mod Counting
 pub mod Revising
+pub mod NextEquation
+pub mod Stopping

@@ -1,5 +1,5 @@
 -- What calls return and leave in buffers (document 01, "Where a call stops").
-use mathlib.Core.Bool.{Bool, cond}
+use mathlib.Core.Bool.{Bool, false, _||_, cond}
 use mathlib.Core.List.{List, [], _∷_}
 use Prim.Native.Nat.{ℕ}
 use Rattle.terms.specs.declared.Record.{Record}
@@ -44,3 +44,8 @@ faultRecord f = refusal (faultNumber f) (faultRow f)
 unfoldable pub stopAt : List (Bool × Record) → Record → Record
 stopAt [] accepted = accepted
 stopAt (s ∷ stops) accepted = cond (s .0) (s .1) (stopAt stops accepted)
+
+-- Whether a call stops at all: whether one of the conditions is met.
+unfoldable pub stopped : List (Bool × Record) → Bool
+stopped [] = false
+stopped (s ∷ stops) = s .0 || stopped stops

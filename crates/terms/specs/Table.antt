@@ -6,7 +6,7 @@ use Prim.Native.Nat.{ℕ, zero, suc, _+_, _-_}
 use lib.Dec.{eqb, ltb}
 use lib.ListN.{length, getD, take, drop, replicate}
 use Rattle.terms.specs.declared.Row.{Row}
-use Rattle.laws.specs.Lists.{countUp}
+use Rattle.laws.specs.Lists.{countUp, least}
 use Rattle.laws.specs.Binary.{binary}
 
 -- The numbers of a table as rows of kind, a, b, c.
@@ -47,6 +47,10 @@ ifVariable r variable other = byKind (r .kind) variable other other other other
 -- What goes with an equation, and what with any other row.
 abbrev pub ifEquation : {A : Type 0} → Row → A → A → A
 ifEquation r equation other = byKind (r .kind) other other other other equation
+
+-- The first equation of a table from row `from` on and below row `rows`; where there is none, the greater of the two.
+unfoldable pub nextEquation : List Row → ℕ → ℕ → ℕ
+nextEquation t from rows = least (λ r. eqb (rowAt t r .kind) 4) from (rows - from)
 
 -- A list with one element for each row, from the first row on: `next` makes the element of the rows before the
 -- row, of their elements, and of the row.

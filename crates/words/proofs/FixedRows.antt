@@ -1,24 +1,22 @@
 -- Fixed bits as a mask and a value: one bit more behind those that are there. Assumes nothing.
 use mathlib.Core.Path.{_≡_, refl, sym, _∙_, ap, ap₂, subst}
-use mathlib.Core.Bool.{Bool, true, false, not, _&&_, _||_, cond, and-assoc}
+use mathlib.Core.Bool.{Bool, true, _&&_, cond, and-assoc}
 use mathlib.Core.List.{List}
-use mathlib.Core.Logic.{_⊎_, inl, inr, _≢_}
+use mathlib.Core.Logic.{_⊎_, inl, inr}
 use Prim.Native.Nat.{ℕ, zero, suc, _+_, _-_, _*_, _/_, _%_, _^_, _≤_, _<_, min}
 use native.Mathlib.Omega.{arith}
 use native.Mathlib.Nat.{div-one}
 use native.Mathlib.Numerals.{add-one}
 use lib.Bits.{bitAnd, and-step, and-zero-r}
 use lib.Dec.{eqb, ltb}
-use lib.ListN.{length, getD, set, length-set}
-use lib.Seq.{getD-set-same, getD-set-other}
+use lib.ListN.{length, getD}
 use lib.Pow.{pow-mono}
-use borrow.Author.Tests.{eqb-true, eq-eqb, ne-eqb, lt-ltb, le-ltb}
+use borrow.Author.Tests.{eqb-true, eq-eqb, ne-eqb, le-ltb}
 use Rattle.laws.specs.Buffers.{setFour}
 use Rattle.laws.specs.Lists.{below}
 use Rattle.laws.proofs.Binary.{bit-half}
 use Rattle.laws.proofs.Bools.{same-test, and-first, and-second, and-both}
-use Rattle.laws.proofs.Numbers.{dec-eq}
-use Rattle.answers.specs.Answer.{implies}
+use Rattle.laws.specs.Bools.{implies}
 use Rattle.groups.specs.inner.Places.{sourceBit, fixedPlace, agreesAt}
 use Rattle.groups.proofs.Rows.{four-other, four-first, four-second, four-third, below-same, place-bit}
 use Rattle.words.specs.inner.Plan.{fixedTest, fixedBit, FixedBits, FixedRowPut, FixedPut}

@@ -1,5 +1,5 @@
+pub mod Windows
 pub mod Satisfying
 pub mod Planning
 pub mod FixedRows
-pub mod WordsBits
 pub mod Testing

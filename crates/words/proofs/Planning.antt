@@ -1,8 +1,8 @@
 -- Both parts of a plan together, and the plan that no window meets. Assumes nothing.
-use mathlib.Core.Path.{_≡_, refl, sym, _∙_, ap, ap₂}
-use mathlib.Core.Bool.{Bool, true, false, not, _&&_, _||_}
+use mathlib.Core.Path.{_≡_, refl, _∙_, ap, ap₂}
+use mathlib.Core.Bool.{Bool, true, false, not, _&&_}
 use mathlib.Core.List.{List}
-use mathlib.Core.Logic.{_⊎_, inl, inr}
+use mathlib.Core.Logic.{inl}
 use Prim.Native.Nat.{ℕ, zero, suc, _+_, _*_, _%_, _≤_, _<_}
 use native.Mathlib.Omega.{arith}
 use lib.Bits.{and-zero-r}
@@ -11,7 +11,7 @@ use lib.Seq.{getD-set-same, getD-set-other}
 use Rattle.laws.specs.Buffers.{setFour}
 use Rattle.laws.specs.Lists.{below}
 use Rattle.laws.proofs.Buffers.{four-length}
-use Rattle.answers.specs.Answer.{implies}
+use Rattle.laws.specs.Bools.{implies}
 use Rattle.groups.specs.inner.Places.{fixedPlace, agreesAt, equalTest, EqualPut, PutsEqual}
 use Rattle.groups.proofs.Rows.{below-same, four-other, four-first, four-second, four-third}
 use Rattle.words.specs.inner.Plan.{fixedTest, meetsPlan, FixedPut, PutsFixed, PutsRows, PutsNever}

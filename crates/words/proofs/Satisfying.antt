@@ -1,62 +1,49 @@
--- What a window's bits say of a table: they satisfy it exactly if each place agrees with its representative; and of a table of 16-bit
--- variables each window is an assignment. Assumes nothing.
-use mathlib.Core.Path.{_≡_, refl, sym, _∙_, ap, ap₂, subst}
-use mathlib.Core.Bool.{Bool, true, false, not}
-use mathlib.Core.List.{List, [], _∷_}
+-- What a window's bits say of a table: they satisfy it exactly if each place agrees with its representative. Assumes nothing.
+use mathlib.Core.Path.{_≡_, refl, sym, _∙_, ap, ap₂}
+use mathlib.Core.Bool.{true, false, not}
+use mathlib.Core.List.{List}
 use mathlib.Core.Logic.{_⊎_, inl, inr}
-use Prim.Native.Nat.{ℕ, zero, suc, _+_, _*_, _/_, _≤_, _<_}
+use Prim.Native.Nat.{ℕ, zero, suc, _+_, _*_, _/_, _%_, _≤_, _<_}
 use native.Mathlib.Omega.{arith}
 use lib.Dec.{eqb}
 use lib.ListN.{length, getD, List·getD-eq-default}
-use lib.Seq.{take-all}
 use borrow.Author.Tests.{eqb-true, eq-eqb, not-true}
 use Rattle.terms.specs.declared.Row.{Row}
 use Rattle.terms.specs.declared.Fault.the-variants.{Accepted}
 use Rattle.terms.specs.Assignments.{Assignment}
 use Rattle.terms.specs.Faults.{firstFault}
 use Rattle.terms.specs.Table.{rowsOf, bitsOf, bitOf, countKind, satisfies}
-use Rattle.terms.proofs.AcceptedTable.{accepted-table}
+use Rattle.terms.proofs.AcceptedTable.{table-totals}
 use Rattle.terms.proofs.Assignments.{every-at}
-use Rattle.terms.proofs.Faults.{totals-small}
-use Rattle.terms.proofs.Places.{count-variable, count-other}
-use Rattle.terms.proofs.RowKinds.{of-variable, of-other, bits-variable, bits-other}
 use Rattle.terms.proofs.Rows.{rows-length}
 use Rattle.linking.specs.inner.Classes.{ClassesTaken}
 use Rattle.laws.specs.Lists.{countUp, below}
-use Rattle.laws.proofs.Bools.{same-test, and-parts}
-use Rattle.laws.proofs.Numbers.{dec-eq, lt-or-le}
+use Rattle.laws.proofs.Bools.{same-test}
+use Rattle.laws.proofs.Numbers.{lt-or-le}
 use Rattle.laws.proofs.Tallies.{below-of, below-at}
 use Rattle.answers.specs.Answer.{variableWidths}
-use Rattle.answers.specs.Pairs.{Pair, equationPairs, satisfiesPairs}
+use Rattle.answers.specs.Pairs.{Pair, equationPairs}
 use Rattle.answers.specs.Solve.{valid, unsatisfiable, pairsTogether}
 use Rattle.answers.specs.inner.Classes.{rep, runAll, conflictAt}
 use Rattle.answers.proofs.Agreement.{bit-past}
 use Rattle.answers.proofs.Tables.{tableClasses, classes-run, represent, satisfies-is, apart-one, is-left, is-never, conflict-most}
 use Rattle.answers.proofs.Theorems.{agrees-at, agrees-of}
 use Rattle.groups.specs.inner.Places.{sourceBit, agreesAt}
-use Rattle.words.specs.Words.{wordsBits, sixteens}
+use Rattle.windows.specs.Words.{wordsBits, sixteens}
 use Rattle.words.specs.inner.Plan.{meetsPlan, PutsRows, PutsNever, Tells}
-use Rattle.words.proofs.WordsBits.{source-bit, words-assignment}
+use Rattle.windows.proofs.WordsBits.{words-at}
+use Rattle.windows.proofs.Sixteens.{sixteen-bits, window-bits}
 
--- ---- variables of 16 bits
+-- ---- the bits of a window
 
--- so many bits has each, and all of them 16 times as many as there are
-pub sixteen-bits : (t : List Row) → sixteens (variableWidths t) ≡ true → bitsOf t ≡ 16 * countKind 0 t
-unfolding bitsOf variableWidths sixteens countKind
-sixteen-bits [] h = refl
-sixteen-bits (r ∷ t) h = go (dec-eq (r .kind) 0) (sixteen-bits t)
-  where
-    go : (r .kind ≡ 0) ⊎ (r .kind ≡ 0 → ⊥) → (sixteens (variableWidths t) ≡ true → bitsOf t ≡ 16 * countKind 0 t) → bitsOf (r ∷ t) ≡ 16 * countKind 0 (r ∷ t)
-    go (inl e) more =
-        let k = and-parts (eqb (r .a) 16) (sixteens (variableWidths t)) (sym (ap sixteens (of-variable r (r .a ∷ variableWidths t) (variableWidths t) e)) ∙ h) in
-        omega (arith, bits-variable r e, eqb-true (r .a) 16 (k .0), count-variable r t e, more (k .1))
-    go (inr e) more =
-        omega (arith, bits-other r e, count-other r t e, more (sym (ap sixteens (of-other r (r .a ∷ variableWidths t) (variableWidths t) e)) ∙ h))
-
-pub few-variables : (table : List ℕ) → firstFault table ≡ Accepted → countKind 0 (rowsOf table) ≤ 64
-few-variables table a =
-    let s = accepted-table table a in
-    omega (arith, totals-small (rowsOf table) (length (rowsOf table)) (s .sound) .0, ap (countKind 0) (take-all (length (rowsOf table)) (rowsOf table) (omega arith)))
+-- The bit of a source is that of the window's bits.
+source-bit : (window : List ℕ) (s : ℕ) → bitOf (wordsBits window) s ≡ sourceBit window s
+unfolding bitOf sourceBit
+source-bit window zero = refl
+source-bit window (suc zero) = refl
+source-bit window (suc (suc i)) =
+    let e : i ≡ 16 * (i / 16) + i % 16 = omega arith in
+    ap (λ (n : ℕ). getD (wordsBits window) n 0) e ∙ words-at window (i / 16) (i % 16) (omega arith)
 
 module _ (table : List ℕ) (accepted : firstFault table ≡ Accepted) where
   abbrev t : List Row
@@ -67,12 +54,6 @@ module _ (table : List ℕ) (accepted : firstFault table ≡ Accepted) where
 
   abbrev qs : List Pair
   qs = pairsTogether (equationPairs (rowsOf table))
-
-  -- a window of as many words is an assignment
-  pub window-bits : sixteens (variableWidths t) ≡ true → (window : List ℕ) → length window ≡ countKind 0 t → Assignment n (wordsBits window)
-  window-bits h window l =
-      let e : 16 * length window ≡ n = omega (arith, sixteen-bits t h) in
-      subst (λ (m : ℕ). Assignment m (wordsBits window)) e (words-assignment window)
 
   module _ (window : List ℕ) (bits : Assignment (bitsOf (rowsOf table)) (wordsBits window)) where
     -- where two different fixed bits met, none satisfies the table
@@ -137,15 +118,15 @@ module _ (table links : List ℕ) (row ties k : ℕ) (plan plan′ : List ℕ) (
   pub tells-never : row < length table / 4 → PutsNever plan plan′ → Tells table plan′
   tells-never l put window w =
       put room window
-      ∙ sym (never-satisfied table accepted window (window-bits table accepted sixteen window w) (omega (arith, taken .taken .row-is, rows-length table)))
+      ∙ sym (never-satisfied table accepted window (window-bits (rowsOf table) sixteen window w) (omega (arith, taken .row-is, rows-length table)))
 
   pub tells-rows : length table / 4 ≤ row → k ≡ countKind 0 (rowsOf table) → PutsRows links k plan plan′ → Tells table plan′
   tells-rows l e put window w =
-      let whole : row ≡ length (rowsOf table) = omega (arith, taken .taken .row-is, conflict-most table accepted, rows-length table) in
-      let left : conflictAt (countUp 0 (suc (suc (bitsOf (rowsOf table))))) (equationPairs (rowsOf table)) ≡ length (rowsOf table) = sym (taken .taken .row-is) ∙ whole in
-      let bits : Assignment (bitsOf (rowsOf table)) (wordsBits window) = window-bits table accepted sixteen window w in
+      let whole : row ≡ length (rowsOf table) = omega (arith, taken .row-is, conflict-most table accepted, rows-length table) in
+      let left : conflictAt (countUp 0 (suc (suc (bitsOf (rowsOf table))))) (equationPairs (rowsOf table)) ≡ length (rowsOf table) = sym (taken .row-is) ∙ whole in
+      let bits : Assignment (bitsOf (rowsOf table)) (wordsBits window) = window-bits (rowsOf table) sixteen window w in
       let n : 16 * k ≡ bitsOf (rowsOf table) = omega (arith, sixteen-bits (rowsOf table) sixteen) in
-      put (omega (arith, few-variables table accepted)) room (links-low table accepted window bits left links (taken .settled whole)) window
+      put (omega (arith, table-totals table accepted .0)) room (links-low table accepted window bits left links (taken .settled whole)) window
       ∙ ap (λ (m : ℕ). below m (agreesAt links window)) n
       ∙ satisfied table accepted window bits left links (taken .settled whole)
 
@@ -156,9 +137,9 @@ module _ (table plan : List ℕ) (accepted : firstFault table ≡ Accepted) (six
   unfolding unsatisfiable
   never-none u window w =
       tells window w
-      ∙ not-true (satisfies (rowsOf table) (wordsBits window)) (every-at (bitsOf (rowsOf table)) (λ p. not (satisfies (rowsOf table) p)) u (wordsBits window) (window-bits table accepted sixteen window w))
+      ∙ not-true (satisfies (rowsOf table) (wordsBits window)) (every-at (bitsOf (rowsOf table)) (λ p. not (satisfies (rowsOf table) p)) u (wordsBits window) (window-bits (rowsOf table) sixteen window w))
 
   pub always-all : valid (rowsOf table) ≡ true → (window : List ℕ) → length window ≡ countKind 0 (rowsOf table) → meetsPlan plan window ≡ true
   unfolding valid
   always-all u window w =
-      tells window w ∙ every-at (bitsOf (rowsOf table)) (satisfies (rowsOf table)) u (wordsBits window) (window-bits table accepted sixteen window w)
+      tells window w ∙ every-at (bitsOf (rowsOf table)) (satisfies (rowsOf table)) u (wordsBits window) (window-bits (rowsOf table) sixteen window w)

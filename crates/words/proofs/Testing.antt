@@ -2,18 +2,18 @@
 use mathlib.Core.Path.{_≡_, refl, sym, _∙_, ap}
 use mathlib.Core.Bool.{Bool, true, false, _&&_}
 use mathlib.Core.List.{List}
-use Prim.Native.Nat.{ℕ, zero, suc, _+_, _*_, _%_, _^_, _≤_, _<_, min}
+use Prim.Native.Nat.{ℕ, _+_, _*_, _%_, _^_, _≤_, _<_, min}
 use native.Mathlib.Omega.{arith}
 use native.Mathlib.Numerals.{add-one}
 use native.Mathlib.Nat.{mod-eq-of-lt, mul-le-mul}
 use lib.Bits.{bitAnd, bitXor}
-use lib.Dec.{eqb, leb}
+use lib.Dec.{eqb}
 use lib.ListN.{length, getD}
 use lib.Pow.{pow-mono}
 use borrow.Author.Tests.{le-leb, lt-leb}
 use Rattle.laws.specs.Lists.{below}
-use Rattle.laws.proofs.Bools.{and-both, clash}
-use Rattle.laws.proofs.Tallies.{below-at}
+use Rattle.laws.proofs.Bools.{and-both}
+use Rattle.laws.proofs.Tallies.{below-fails}
 use Rattle.groups.specs.inner.Places.{equalTest}
 use Rattle.words.specs.inner.Plan.{fixedTest, meetsPlan}
 
@@ -27,11 +27,7 @@ unfolding below
 below-more n f h k = rw add-one (and-both (f n) (below n f) k h)
 
 pub below-broken : (n : ℕ) (f : ℕ → Bool) (j : ℕ) → j < n → f j ≡ false → false ≡ below n f
-below-broken n f j l h = go (below n f) refl
-  where
-    go : (t : Bool) → below n f ≡ t → false ≡ t
-    go true e = clash (f j) (below-at n f e j l) h
-    go false e = refl
+below-broken n f j l h = sym (below-fails n f j l h)
 
 pub below-end : (n : ℕ) (f : ℕ → Bool) (j : ℕ) → j ≤ n → n ≤ j → below j f ≡ true → true ≡ below n f
 below-end n f j l m h = let e : j ≡ n = omega arith in sym (ap (λ (k : ℕ). below k f) (sym e) ∙ h)

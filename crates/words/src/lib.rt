@@ -5,6 +5,8 @@ ghost use Prim.Native.Nat.{_+_, _≤_, _<_, min};
 ghost use lib.ListN.{length, getD};
 ghost use Rattle.laws.specs.Lists.{below};
 ghost use Rattle.groups.specs.inner.Places.{equalTest};
+ghost use Rattle.terms.specs.Table.{rowsOf};
+ghost use Rattle.words.specs.inner.Windows.{windowOf};
 ghost use Rattle.words.specs.inner.Plan.{fixedTest, meetsPlan, FixedBits, FixedRowPut, PutsFixed, PutsRows, PutsNever, Plans, Prepares};
 
 // How many numbers a plan has: row 0, and room for 64 fixed rows and 1,023 equal rows.
@@ -179,19 +181,38 @@ fn plan_table(
     put_rows(links, k, plan);
 }
 
-// The plan of an accepted table whose variables have 16 bits each, from the widths of its rows, in room for PLAN numbers: `meets` tells
-// of a window of as many words as there are variables whether its bits satisfy the table.
-pub fn prepare(table: &[u16], widths: &[u16], plan: &mut [u16])
-    ensures { λ _. ⌜ Prepares (now (table .entry)) (now (widths .entry)) (now (plan .entry)) (now (plan .exit)) ⌝ }
+// How many words a window has: one for each variable, if each has 16 bits; else 0.
+pub fn window_of(table: &[u16]) -> usize
+    ensures { λ r. ⌜ r ≡ windowOf (rowsOf (now (table .entry))) ⌝ }
 {
-    let mut places = [0u16; 577];
-    let bits = checker::place(table, &mut places[..]);
+    let mut k = 0;
+    let mut r = 0;
+    while r < table.len() / 4 {
+        let row = rows::row_at(table, r);
+        let kind = row.kind;
+        let width = row.a;
+        if kind == terms::VARIABLE {
+            if width != 16 {
+                return 0;
+            }
+            k += 1;
+        }
+        r += 1;
+    }
+    k
+}
+
+// The plan of a table that was checked and placed and whose variables have 16 bits each, in room for PLAN numbers: `meets` tells of a window
+// of as many words as there are variables whether its bits satisfy the table.
+pub fn prepare(table: &[u16], widths: &[u16], places: &[u16], bits: usize, plan: &mut [u16])
+    ensures { λ _. ⌜ Prepares (now (table .entry)) (now (widths .entry)) (now (places .entry)) bits (now (plan .entry)) (now (plan .exit)) ⌝ }
+{
     let mut links = [0u16; 1026];
     let sources = numbers::lesser(bits, 1024) + 2;
     plan_table(
         table,
         widths,
-        &places[..],
+        places,
         numbers::lesser(bits / 16, 64),
         &mut links[..sources],
         plan,

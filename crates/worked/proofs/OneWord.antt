@@ -16,24 +16,17 @@ use Rattle.terms.specs.Table.{rowsOf, bitsOf, bitOf, satisfies}
 use Rattle.terms.proofs.Assignments.{assignment-of, every-of}
 use Rattle.laws.specs.Lists.{least}
 use Rattle.answers.specs.declared.AnswerRow.{AnswerRow}
-use Rattle.answers.specs.Answer.{variableWidths, answerRows, answerNumbers, freshNumbers, freshPieces, freshStart, freeBits, begins, variableAt, implies, tied, fixedTo, contiguous, fixedAlike, goesOn, lowest, placeRow, placed, rowsTo, freshWidth}
+use Rattle.laws.specs.Bools.{implies}
+use Rattle.answers.specs.Answer.{variableWidths, answerRows, answerNumbers, freshNumbers, freshPieces, freshStart, freeBits, begins, variableAt, tied, fixedTo, contiguous, fixedAlike, goesOn, lowest, placeRow, placed, rowsTo, freshWidth}
 use Rattle.answers.specs.Pairs.{equalUnder}
-use Rattle.laws.specs.Lists.{distinct, below, tally, member}
+use Rattle.laws.specs.Lists.{distinct, tally, member}
 use Rattle.answers.specs.Solve.{solvedRows, answerRecord, solvedRecord}
-use Rattle.laws.proofs.Tallies.{below-at}
+use Rattle.laws.proofs.Tallies.{below-fails}
 use Rattle.answers.proofs.AnswerRows.{placed-new}
 use Rattle.answers.proofs.Variables.{begins-first}
 use Rattle.worked.specs.Cases.{Solved, Holds, piece, times, figures}
 use Rattle.worked.proofs.Holding.{every-fails, met-by-some, solved-case}
 use Rattle.worked.proofs.PieceNumbers.{rowOf, piece-numbers, fill-numbers}
-
--- what fails at one number
-pub below-fails : (n : ℕ) (f : ℕ → Bool) (i : ℕ) → i < n → f i ≡ false → below n f ≡ false
-below-fails n f i l e = go (below n f) refl
-  where
-    go : (b : Bool) → below n f ≡ b → b ≡ false
-    go false h = refl
-    go true h = sym (below-at n f h i l) ∙ e
 
 -- The answer's rows of one variable, from which bits are equal.
 module _ (w : ℕ) (same : ℕ → ℕ → Bool) where

@@ -7,7 +7,7 @@ use native.Mathlib.Omega.{arith}
 use lib.Dec.{eqb}
 use lib.ListN.{getD, drop}
 use Rattle.answers.specs.declared.AnswerRow.{AnswerRow}
-use Rattle.answers.specs.Answer.{noAnswerRow, answerRowAt, isFresh, widthIn, highBit, rowNumbers, numbersFrom, answerNumbers}
+use Rattle.answers.specs.Answer.{noAnswerRow, answerRowAt, isFresh, widthInRows, highBit, answerRowNumbers, numbersFrom, answerNumbers}
 use Rattle.answers.proofs.Homes.{ofPiece, home-is}
 use Rattle.worked.specs.Cases.{times, piece}
 use Rattle.worked.proofs.PieceNumbers.{rowOf, row-is, of-piece, high-is}
@@ -30,8 +30,8 @@ even-left : (k : ℕ) → drop k (evenRest k) ≡ rowOf 2 1 2 ∷ []
 even-left zero = refl
 even-left (suc k) = even-left k
 
-even-width : (k : ℕ) → widthIn (evenRest k) 0 ≡ 2 * k + 1
-unfolding widthIn
+even-width : (k : ℕ) → widthInRows (evenRest k) 0 ≡ 2 * k + 1
+unfolding widthInRows
 even-width zero = refl
 even-width (suc k) = omega (arith, even-width k)
 
@@ -39,12 +39,12 @@ module _ (m : ℕ) (some : 1 ≤ m) where
   abbrev even : List AnswerRow
   even = evenRows m
 
-  even-first : rowNumbers even 0 ≡ piece 0 2 1 0 0 (2 * m + 1)
+  even-first : answerRowNumbers even 0 ≡ piece 0 2 1 0 0 (2 * m + 1)
   even-first =
       row-is even 0 0 (rowOf 2 1 0) (rowOf 2 1 0) (2 * m + 1) refl (home-is even 0 0 refl (omega arith) refl (λ i l. absurd (omega arith))) refl
-      (high-is even 0 (rowOf 2 1 0) even (2 * m + 2) refl refl (unfold widthIn in omega (arith, even-width m)) ∙ omega arith)
+      (high-is even 0 (rowOf 2 1 0) even (2 * m + 2) refl refl (unfold widthInRows in omega (arith, even-width m)) ∙ omega arith)
 
-  even-between : (i : ℕ) → i < m → rowNumbers even (suc i) ≡ piece 0 2 2 1 0 (2 * m)
+  even-between : (i : ℕ) → i < m → answerRowNumbers even (suc i) ≡ piece 0 2 2 1 0 (2 * m)
   even-between i l =
       row-is even (suc i) 1 (rowOf 2 2 1) (rowOf 2 2 1) (2 * m) (even-at m i l)
       (home-is even (suc i) 1 (ap isFresh (even-at m i l)) (omega arith)
@@ -58,7 +58,7 @@ module _ (m : ℕ) (some : 1 ≤ m) where
       high : highBit even 1 ≡ 2 * m
       high = high-is even 1 (rowOf 2 2 1) (evenRest m) (2 * m + 1) (even-at m 0 (omega arith)) refl (even-width m) ∙ omega arith
 
-  even-last : rowNumbers even (suc m) ≡ piece 0 2 1 2 0 0
+  even-last : answerRowNumbers even (suc m) ≡ piece 0 2 1 2 0 0
   even-last =
       row-is even (suc m) (suc m) (rowOf 2 1 2) (rowOf 2 1 2) 0 (even-end m)
       (home-is even (suc m) (suc m) (ap isFresh (even-end m)) (omega arith)
@@ -70,7 +70,7 @@ module _ (m : ℕ) (some : 1 ≤ m) where
       before (suc k) h = of-piece even (suc m) (suc k) (rowOf 2 1 2) (rowOf 2 2 1) (even-end m) (even-at m k (omega arith))
 
       high : highBit even (suc m) ≡ 0
-      high = high-is even (suc m) (rowOf 2 1 2) (rowOf 2 1 2 ∷ []) 1 (even-end m) (even-left m) (unfold widthIn in refl)
+      high = high-is even (suc m) (rowOf 2 1 2) (rowOf 2 1 2 ∷ []) 1 (even-end m) (even-left m) (unfold widthInRows in refl)
 
   even-from : (k i : ℕ) → i + k ≡ m → numbersFrom even (suc i) (evenRest k) ≡ times k (piece 0 2 2 1 0 (2 * m)) ++ piece 0 2 1 2 0 0
   unfolding numbersFrom
@@ -107,8 +107,8 @@ odd-left : (k : ℕ) → drop (suc (2 * k)) (oddRest k) ≡ rowOf 2 1 3 ∷ []
 odd-left zero = refl
 odd-left (suc k) = rw (twice k) (odd-left k)
 
-odd-width : (k : ℕ) → widthIn (oddRest k) 0 ≡ 2 * k + 2
-unfolding widthIn
+odd-width : (k : ℕ) → widthInRows (oddRest k) 0 ≡ 2 * k + 2
+unfolding widthInRows
 odd-width zero = refl
 odd-width (suc k) = omega (arith, odd-width k)
 
@@ -124,10 +124,10 @@ module _ (n : ℕ) (some : 1 ≤ n) where
   abbrev odd : List AnswerRow
   odd = oddRows n
 
-  odd-first : rowNumbers odd 0 ≡ piece 0 2 1 0 0 (2 * n + 2)
+  odd-first : answerRowNumbers odd 0 ≡ piece 0 2 1 0 0 (2 * n + 2)
   odd-first =
       row-is odd 0 0 (rowOf 2 1 0) (rowOf 2 1 0) (2 * n + 2) refl (home-is odd 0 0 refl (omega arith) refl (λ i l. absurd (omega arith))) refl
-      (high-is odd 0 (rowOf 2 1 0) odd (2 * n + 3) refl refl (unfold widthIn in omega (arith, odd-width n)) ∙ omega arith)
+      (high-is odd 0 (rowOf 2 1 0) odd (2 * n + 3) refl refl (unfold widthInRows in omega (arith, odd-width n)) ∙ omega arith)
 
   one : answerRowAt odd 1 ≡ rowOf 2 1 1
   one = odd-at n 0 (omega arith)
@@ -135,7 +135,7 @@ module _ (n : ℕ) (some : 1 ≤ n) where
   two : answerRowAt odd 2 ≡ rowOf 2 1 2
   two = odd-next n 0 (omega arith)
 
-  odd-one : (i : ℕ) → i ≤ n → rowNumbers odd (suc (2 * i)) ≡ piece 0 2 1 1 0 (2 * n + 1)
+  odd-one : (i : ℕ) → i ≤ n → answerRowNumbers odd (suc (2 * i)) ≡ piece 0 2 1 1 0 (2 * n + 1)
   odd-one i l =
       row-is odd (suc (2 * i)) 1 (rowOf 2 1 1) (rowOf 2 1 1) (2 * n + 1) (odd-at n i l)
       (home-is odd (suc (2 * i)) 1 (ap isFresh (odd-at n i l)) (omega arith)
@@ -146,7 +146,7 @@ module _ (n : ℕ) (some : 1 ≤ n) where
       before zero h = of-piece odd (suc (2 * i)) 0 (rowOf 2 1 1) (rowOf 2 1 0) (odd-at n i l) refl
       before (suc k) h = absurd (omega arith)
 
-  odd-two : (i : ℕ) → i < n → rowNumbers odd (suc (suc (2 * i))) ≡ piece 0 2 1 2 0 (2 * n)
+  odd-two : (i : ℕ) → i < n → answerRowNumbers odd (suc (suc (2 * i))) ≡ piece 0 2 1 2 0 (2 * n)
   odd-two i l =
       row-is odd (suc (suc (2 * i))) 2 (rowOf 2 1 2) (rowOf 2 1 2) (2 * n) (odd-next n i l)
       (home-is odd (suc (suc (2 * i))) 2 (ap isFresh (odd-next n i l)) (omega arith)
@@ -158,16 +158,16 @@ module _ (n : ℕ) (some : 1 ≤ n) where
       before (suc zero) h = of-piece odd (suc (suc (2 * i))) 1 (rowOf 2 1 2) (rowOf 2 1 1) (odd-next n i l) one
       before (suc (suc k)) h = absurd (omega arith)
 
-      left : (k : ℕ) → 1 ≤ k → widthIn (drop 1 (oddRest k)) 0 ≡ 2 * k + 1
+      left : (k : ℕ) → 1 ≤ k → widthInRows (drop 1 (oddRest k)) 0 ≡ 2 * k + 1
       left zero h = absurd (omega arith)
-      left (suc k) h = unfold widthIn in omega (arith, odd-width k)
+      left (suc k) h = unfold widthInRows in omega (arith, odd-width k)
 
-  odd-last : rowNumbers odd (suc (suc (2 * n))) ≡ piece 0 2 1 3 0 0
+  odd-last : answerRowNumbers odd (suc (suc (2 * n))) ≡ piece 0 2 1 3 0 0
   odd-last =
       row-is odd (suc (suc (2 * n))) (suc (suc (2 * n))) (rowOf 2 1 3) (rowOf 2 1 3) 0 (odd-end n)
       (home-is odd (suc (suc (2 * n))) (suc (suc (2 * n))) (ap isFresh (odd-end n)) (omega arith)
       (of-piece odd (suc (suc (2 * n))) (suc (suc (2 * n))) (rowOf 2 1 3) (rowOf 2 1 3) (odd-end n) (odd-end n)) before)
-      (odd-end n) (high-is odd (suc (suc (2 * n))) (rowOf 2 1 3) (rowOf 2 1 3 ∷ []) 1 (odd-end n) (odd-left n) (unfold widthIn in refl))
+      (odd-end n) (high-is odd (suc (suc (2 * n))) (rowOf 2 1 3) (rowOf 2 1 3 ∷ []) 1 (odd-end n) (odd-left n) (unfold widthInRows in refl))
     where
       before : (k : ℕ) → k < suc (suc (2 * n)) → ofPiece odd (suc (suc (2 * n))) k ≡ false
       before zero h = of-piece odd (suc (suc (2 * n))) 0 (rowOf 2 1 3) (rowOf 2 1 0) (odd-end n) refl

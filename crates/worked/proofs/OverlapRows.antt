@@ -12,12 +12,13 @@ use borrow.Author.Tests.{eq-eqb, ne-eqb}
 use Rattle.laws.specs.Lists.{below, tally}
 use Rattle.laws.proofs.Least.{least-is}
 use Rattle.laws.proofs.Numbers.{dec-eq}
-use Rattle.laws.proofs.Tallies.{below-of, tally-none, tally-apart}
+use Rattle.laws.proofs.Tallies.{below-of, below-fails, tally-none, tally-apart}
 use Rattle.answers.specs.declared.AnswerRow.{AnswerRow}
-use Rattle.answers.specs.Answer.{begins, implies, tied, fixedTo, contiguous, fixedAlike, goesOn, lowest, appears, placeRow, widened, placed, rowsTo, answerRows}
-use Rattle.answers.proofs.AnswerRows.{placed-new}
+use Rattle.laws.specs.Bools.{implies}
+use Rattle.answers.specs.Answer.{begins, tied, fixedTo, contiguous, fixedAlike, goesOn, lowest, appears, placeRow, widened, placed, rowsTo, answerRows}
 use Rattle.worked.proofs.PieceNumbers.{rowOf}
-use Rattle.worked.proofs.OneWord.{inside, variable-0, below-fails}
+use Rattle.answers.proofs.AnswerRows.{placed-new}
+use Rattle.worked.proofs.OneWord.{inside, variable-0}
 use Rattle.worked.proofs.Overlaps.{label, home, Stands, first, last, between, label-first, label-last, label-between, label-odd, label-even, stands, home-least, home-label}
 
 -- Rows that stand k times before others.

@@ -15,15 +15,14 @@ use Rattle.terms.proofs.Computed.{faultComputed, satisfiesComputed}
 use Rattle.laws.specs.Lists.{countUp, least, below, tally, member, distinct}
 use Rattle.forms.specs.Form.{bitsUp, placePieces, pieceOf, meets, merged, add, addAll, group, formFrom, formOf, numbersOf}
 use Rattle.forms.specs.Call.{formRecord, formAfter}
-use Rattle.sheets.specs.Text.{digitOf, hexDigitOf, moreDigits, afterZero, decimalHere, moreHexDigits, hexadecimalHere, numberHere, sees, fieldAt, valueFor, placed, lineAt, seesKind, columnAt, nameAt, allDifferent, namesAt}
+use Rattle.sheets.specs.Text.{digitOf, hexDigitOf, moreDigits, afterZero, decimalHere, moreHexDigits, hexadecimalHere, numberHere, sees, fieldAt, valueFor, rowOfValues, lineAt, seesKind, columnAt, nameAt, allDifferent, namesAt}
 use Rattle.sheets.specs.Sheet.{foundFrom, rowsFrom, sheetFound, sheetRows}
 use Rattle.sheets.specs.Call.{sheetRecord, tableAfter}
 use Rattle.sheets.specs.Writing.{digits}
 use Rattle.sheets.specs.Print.{field, recordValues, recordText, answerValues, answerLines, answerText}
 use Rattle.answers.specs.Pairs.{paired, pairsOf, pairsIn}
 use Rattle.answers.specs.inner.Classes.{inClass, relabel, merge, run, classesOf, links, conflictAt, linksBefore}
-use Rattle.answers.specs.Answer.{variableWidths, begins, variableAt, contiguous, fixedAlike, goesOn, lowest, appears, placeRow, rowsTo, answerRows, freshNumbers, freshPieces, freshWidth, freshStart, freeBits, widthIn, highBit, homeRow, numbersFrom, answerNumbers}
-use Rattle.answers.specs.Answer as answer
+use Rattle.answers.specs.Answer.{variableWidths, begins, variableAt, contiguous, fixedAlike, goesOn, lowest, appears, placeRow, placed, rowsTo, answerRows, freshNumbers, freshPieces, freshWidth, freshStart, freeBits, widthInRows, highBit, homeRow, answerRowNumbers, numbersFrom, answerNumbers}
 use Rattle.answers.specs.Solve.{pairsTogether}
 use Rattle.worked.specs.Cases.{Case, Solved, Refused, Form, Sheet, Printed, Holds, AllHold, _and_}
 use Rattle.worked.proofs.Holding.{written, solved-case, refused-case}
@@ -102,7 +101,7 @@ _tested_ {c} test hold = subst Holds test (out-holds c) and hold
 
 -- Whoever unfolds one of these unfolds all that its value is computed from: a table's record and answer, with its rules;
 unfoldable pub tableComputed : List ℕ → Case
-unfolding faultComputed satisfiesComputed extract evened sourcesOf countUp paired pairsOf pairsIn pairsTogether relabel merge run classesOf links conflictAt linksBefore inClass least below tally member distinct variableWidths begins variableAt contiguous fixedAlike goesOn lowest appears placeRow answer.placed rowsTo answerRows widthIn highBit homeRow answer.rowNumbers numbersFrom answerNumbers freshNumbers freshPieces freshWidth freshStart freeBits conflictRow linksTo classRows classRecord classAnswer tableOut
+unfolding faultComputed satisfiesComputed extract evened sourcesOf countUp paired pairsOf pairsIn pairsTogether relabel merge run classesOf links conflictAt linksBefore inClass least below tally member distinct variableWidths begins variableAt contiguous fixedAlike goesOn lowest appears placeRow placed rowsTo answerRows widthInRows highBit homeRow answerRowNumbers numbersFrom answerNumbers freshNumbers freshPieces freshWidth freshStart freeBits conflictRow linksTo classRows classRecord classAnswer tableOut
 tableComputed table = tableOut table
 
 -- a row's normal form;
@@ -112,7 +111,7 @@ formComputed table r = formOut table r
 
 -- a sheet's record and rows;
 unfoldable pub sheetComputed : List ℕ → Case
-unfolding digitOf hexDigitOf moreDigits afterZero decimalHere moreHexDigits hexadecimalHere numberHere sees fieldAt valueFor placed lineAt seesKind columnAt nameAt allDifferent namesAt foundFrom rowsFrom sheetFound sheetRows sheetRecord rowNumbers sheetOut
+unfolding digitOf hexDigitOf moreDigits afterZero decimalHere moreHexDigits hexadecimalHere numberHere sees fieldAt valueFor rowOfValues lineAt seesKind columnAt nameAt allDifferent namesAt foundFrom rowsFrom sheetFound sheetRows sheetRecord rowNumbers sheetOut
 sheetComputed text = sheetOut text
 
 -- what is printed;

@@ -5,7 +5,7 @@ use mathlib.Core.List.{List}
 use Prim.Native.Nat.{ℕ, _≤_, _<_}
 use lib.ListN.{length, drop}
 use Rattle.answers.specs.declared.AnswerRow.{AnswerRow}
-use Rattle.answers.specs.Answer.{answerRowAt, isFresh, widthIn}
+use Rattle.answers.specs.Answer.{answerRowAt, isFresh, widthInRows}
 
 -- Rows whose variables do not fall.
 abbrev pub Ordered : List AnswerRow → Type 0
@@ -15,6 +15,6 @@ Ordered rows = (i j : ℕ) → i ≤ j → j < length rows → answerRowAt rows 
 pub record Orderly (rows : List AnswerRow) : Type 0 where
   pub few : length rows ≤ 4096
   pub rising : Ordered rows
-  pub short : (j v : ℕ) → widthIn (drop j rows) v ≤ 4096
+  pub short : (j v : ℕ) → widthInRows (drop j rows) v ≤ 4096
   pub numbered : (j seen : ℕ) → j < length rows → isFresh (answerRowAt rows j) ≡ true
       → ((i : ℕ) → i < j → isFresh (answerRowAt rows i) ≡ true → answerRowAt rows i .fresh < seen) → answerRowAt rows j .fresh ≤ seen

@@ -11,7 +11,7 @@ use Rattle.terms.specs.Table.{rowsOf, widthOf, sourceOf, extract}
 use Rattle.terms.specs.Faults.{absent}
 use Rattle.forms.specs.declared.Piece.{Piece}
 use Rattle.forms.specs.Form.{fill, part, formFrom}
-use Rattle.forms.specs.inner.Numbered.{Numbered}
+use Rattle.terms.specs.inner.Placed.{Numbered}
 use Rattle.appender.specs.declared.Cut.{Cut}
 use Rattle.appender.specs.declared.Part.{Part}
 use Rattle.appender.specs.inner.Append.{Appended}

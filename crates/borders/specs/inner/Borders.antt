@@ -12,7 +12,8 @@ use Rattle.terms.specs.Faults.{firstFault}
 use Rattle.laws.specs.Buffers.{overwrite}
 use Rattle.answers.specs.Pairs.{Pair}
 use Rattle.answers.specs.inner.Classes.{rep, inClass, Represents}
-use Rattle.answers.specs.Answer.{begins, variableAt, variableWidths, implies, appears, answerRows}
+use Rattle.laws.specs.Bools.{implies}
+use Rattle.answers.specs.Answer.{begins, variableAt, variableWidths, appears, answerRows}
 use Rattle.answers.specs.inner.FourNumbers.{fourNumbers}
 use Rattle.laws.specs.Lists.{below, tally}
 use Rattle.answers.specs.declared.AnswerRow.{AnswerRow}

@@ -1,7 +1,7 @@
 -- What the functions promise of the answer's rows.
 use mathlib.Core.Path.{_≡_}
 use mathlib.Core.List.{List}
-use Prim.Native.Nat.{ℕ, _≤_}
+use Prim.Native.Nat.{ℕ}
 use lib.ListN.{length}
 use Rattle.terms.specs.declared.Fault.the-variants.{Accepted}
 use Rattle.terms.specs.Table.{rowsOf, bitsOf}
@@ -19,8 +19,8 @@ pub record RowsPut (table classes answer answer′ : List ℕ) (pieces fresh : �
   pub fresh-are : fresh ≡ tally (bitsOf (rowsOf table)) (appears (bitsOf (rowsOf table)) (variableWidths (rowsOf table)) (inClass classes))
   pub answer-is : answer′ ≡ overwrite (fourNumbers (answerRows (bitsOf (rowsOf table)) (variableWidths (rowsOf table)) (inClass classes))) answer
 
--- What the writing of these rows promises, where the answer table has room.
+-- What the writing of these rows promises, as far as the answer table reaches.
 abbrev pub PutsRows : List ℕ → List ℕ → List ℕ → List ℕ → ℕ → ℕ → Type 0
 PutsRows table classes answer answer′ pieces fresh =
     (seen : List Pair) → firstFault table ≡ Accepted → Represents (bitsOf (rowsOf table)) classes seen → rep classes 1 ≡ 1
-    → 16384 ≤ length answer → RowsPut table classes answer answer′ pieces fresh
+    → RowsPut table classes answer answer′ pieces fresh

@@ -1,14 +1,20 @@
--- What the check of a table promises: the rules as it asks them of a row, what it finds, and the rows that it passes.
-use mathlib.Core.Bool.{Bool, cond}
+-- What the check of a table promises: the rules as it asks them of a row, what it finds, the rows that it passes, and where its variables
+-- stand.
+use mathlib.Core.Path.{_≡_}
+use mathlib.Core.Bool.{Bool, false, cond}
 use mathlib.Core.List.{List, [], _∷_}
-use Prim.Native.Nat.{ℕ, _%_}
+use Prim.Native.Nat.{ℕ, _%_, _≤_}
 use lib.Dec.{ltb}
 use lib.ListN.{length, getD, take}
 use Rattle.terms.specs.declared.Row.{Row}
 use Rattle.terms.specs.declared.Fault.{Fault}
 use Rattle.terms.specs.declared.Fault.the-variants.{Accepted, Shape, Kind, Unused, Named, Width, Value, Bounds, Count}
-use Rattle.terms.specs.Table.{rowsOf, widthIn}
-use Rattle.terms.specs.Faults.{unusedColumn, misnamed, wrongWidth, wrongValue, wrongBounds, tooMany, firstFault}
+use Rattle.terms.specs.Table.{rowsOf, bitsOf, widthIn}
+use Rattle.terms.specs.Faults.{unusedColumn, misnamed, wrongWidth, wrongValue, wrongBounds, tooMany, isAccepted, firstFault}
+use Rattle.terms.specs.Calls.{faultRecord}
+use Rattle.terms.specs.inner.Placed.{VariablesAre, SourcesAre, Placed}
+use Rattle.checker.specs.declared.Checked.{Checked}
+use Rattle.checker.specs.declared.Checked.the-variants.{Refused, Bits}
 
 -- The rules of row r as they are asked of it: ws has the widths of the rows before it, and the totals count it too.
 unfoldable pub rulesIn : List Row → List ℕ → ℕ → Row → ℕ → ℕ → ℕ → List (Bool × Fault)
@@ -41,3 +47,22 @@ rowsBefore (Count r) n = r
 -- The rows that the check passes: all of them, or those before the fault.
 unfoldable pub rowsPassed : ℕ → List ℕ → List Row
 rowsPassed room numbers = take (rowsBefore (faultIn room numbers) (length (rowsOf numbers))) (rowsOf numbers)
+
+-- What placing the variables of an accepted table promises: with room for 512 numbers, how many variables stand before each row; with room
+-- for 65 more, behind those the source before each variable.
+abbrev pub NumbersVariables : List ℕ → ℕ → List ℕ → Type 0
+NumbersVariables table room places = firstFault table ≡ Accepted → 512 ≤ room → VariablesAre (rowsOf table) places
+
+abbrev pub FindsSources : List ℕ → ℕ → List ℕ → Type 0
+FindsSources table room places = firstFault table ≡ Accepted → 577 ≤ room → SourcesAre (rowsOf table) places
+
+-- What is said of a table with each answer of the check: the record of its first fault; or its variable bits, with its widths and places.
+pub record PlacedTable (table widths places : List ℕ) (n : ℕ) : Type 0 where
+  pub placed : Placed table widths places
+  pub bits : n ≡ bitsOf (rowsOf table)
+  pub widths-size : length widths ≡ 512
+  pub places-size : length places ≡ 577
+
+abbrev pub CheckedTable : List ℕ → List ℕ → List ℕ → Checked → Type 0
+CheckedTable table widths places (Refused r) = (isAccepted (firstFault table) ≡ false) × (r ≡ faultRecord (firstFault table))
+CheckedTable table widths places (Bits n) = PlacedTable table widths places n

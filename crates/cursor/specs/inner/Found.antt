@@ -4,7 +4,7 @@ use mathlib.Core.Path.{_≡_}
 use mathlib.Core.List.{List}
 use Prim.Native.Nat.{ℕ}
 use Rattle.sheets.specs.declared.Order.{Order}
-use Rattle.sheets.specs.Text.{NumberFound, NameFound, NamesFound, LineFound, fieldAt, placed, lineAt}
+use Rattle.sheets.specs.Text.{NumberFound, NameFound, NamesFound, LineFound, fieldAt, rowOfValues, lineAt}
 use Rattle.sheets.specs.Text as text
 use Rattle.cursor.specs.declared.Number.{Number}
 use Rattle.cursor.specs.declared.Number.the-variants.{Value, NoNumber}
@@ -39,7 +39,7 @@ lineFound NoLine = text.NoLine
 
 -- The four values of a line, in the columns that the order of the names gives them.
 abbrev pub fourFound : Order → Four → LineFound
-fourFound order (Found v₁ v₂ v₃ v₄ c) = text.Values (placed order v₁ v₂ v₃ v₄) (c .at)
+fourFound order (Found v₁ v₂ v₃ v₄ c) = text.Values (rowOfValues order v₁ v₂ v₃ v₄) (c .at)
 fourFound order NoFour = text.NoLine
 
 -- A value that was found is the one there, with the byte behind it; where none was found, nothing is said.
@@ -49,5 +49,5 @@ FieldFound NoNumber bytes at byte = Unit {0}
 
 -- Four values that were found are those of the line there; where none were found, nothing is said.
 abbrev pub FourFound : Four → List ℕ → ℕ → Type 0
-FourFound (Found v₁ v₂ v₃ v₄ c) bytes at = (order : Order) → lineAt bytes order at ≡ text.Values (placed order v₁ v₂ v₃ v₄) (c .at)
+FourFound (Found v₁ v₂ v₃ v₄ c) bytes at = (order : Order) → lineAt bytes order at ≡ text.Values (rowOfValues order v₁ v₂ v₃ v₄) (c .at)
 FourFound NoFour bytes at = Unit {0}

@@ -59,7 +59,7 @@ is-inside t d = d .before .before .before .before .before .before .before .pre .
 width-is : (t : ℕ) (d : bit-lts.After-wide3 (calls t) (bit-at t) bit.Post) → rowAt (rowsOf (now (d .before .before .before .before .before .before .before .before .before .before .before .before .args .table))) (d .before .before .before .before .before .before .before .before .before .before .before .before .args .row) .a < length (rowsOf (now (d .before .before .before .before .before .before .before .before .before .before .before .before .args .table)))
     → d .wide3 .result ≡ widthOf (rowsOf (now (d .before .before .before .before .before .before .before .before .before .before .before .before .args .table))) (rowAt (rowsOf (now (d .before .before .before .before .before .before .before .before .before .before .before .before .args .table))) (d .before .before .before .before .before .before .before .before .before .before .before .before .args .row) .a)
 width-is t d h =
-    d .wide3 .ensures .0 ∙ ap (λ (n : ℕ). getD (now (d .before .before .before .before .before .before .before .before .before .before .before .before .args .widths)) n 0) (a-is t (d .before .before .before .before .before)) ∙ is-ready t (d .before .before .before .before .before) .widths-are _ h
+    d .wide3 .ensures .0 ∙ ap (λ (n : ℕ). getD (now (d .before .before .before .before .before .before .before .before .before .before .before .before .args .widths)) n 0) (a-is t (d .before .before .before .before .before)) ∙ is-ready t (d .before .before .before .before .before) .placed .numbered .widths-are _ h
 
 -- a variable's bit lies within the pattern
 bit-within : (t : ℕ) (c : bit-lts.After-source-before (calls t) (bit-at t) bit.Post) → (1 ≤ c .source-before .result + c .before .before .before .before .before .before .before .before .before .args .i) × (c .source-before .result + c .before .before .before .before .before .before .before .before .before .args .i - 1 < length (now (c .before .before .before .before .before .before .before .before .before .args .pattern)))
@@ -96,7 +96,7 @@ bit-wide-requires-2 t c κs = tt
 bit-source-before-requires : (t : ℕ) → bit-lts.Need-source-before-requires (calls t) (bit-at t) bit.Post
 bit-source-before-requires t c κs =
     let d = c .before in
-    (row-small _ _ _ _ (is-ready t d) _ (is-term t d), (number-small _ _ _ _ (is-ready t d) _ (is-term t d), is-ready t d .places-room))
+    (row-small _ _ _ _ (is-ready t d) _ (is-term t d), (number-small _ _ _ _ (is-ready t d) _ (is-term t d), is-ready t d .placed .places-room))
 
 bit-add-result : (t : ℕ) → bit-lts.Need-add-result (calls t) (bit-at t) bit.Post
 bit-add-result t c = omega (arith, bit-within t c .1)
@@ -140,7 +140,7 @@ bit-mul-wide t c = omega arith
 bit-shared-slice-read-wide : (t : ℕ) → bit-lts.Need-shared-slice-read-wide (calls t) (bit-at t) bit.Post
 bit-shared-slice-read-wide t c =
     let d = c .before .before .before .before in
-    omega (arith, a-is t d, first-named t (c .before), is-ready t d .widths-room, is-term t d .there)
+    omega (arith, a-is t d, first-named t (c .before), is-ready t d .placed .widths-room, is-term t d .there)
 
 bit-wide-requires-3 : (t : ℕ) → bit-lts.Need-wide-requires-3 (calls t) (bit-at t) bit.Post
 bit-wide-requires-3 t c κs = tt

@@ -20,7 +20,7 @@ abbrev μ-loop : tie.MeasureT-loop
 
 -- the width that was read is the row's
 width-is : (d : tie.After-wide Inv-loop μ-loop) → d .wide .result ≡ widthOf (rowsOf (now (d .before .before .before .before .before .before .before .args .table))) (d .before .before .before .before .before .before .before .args .row)
-width-is d = d .wide .ensures .0 ∙ d .before .before .before .before .before .before .before .pre .0 .widths-are _ (d .before .before .before .before .before .before .before .pre .1 .0 .there)
+width-is d = d .wide .ensures .0 ∙ d .before .before .before .before .before .before .before .pre .0 .placed .numbered .widths-are _ (d .before .before .before .before .before .before .before .pre .1 .0 .there)
 
 -- in a turn: there is a bit left
 bit-left : (d : tie.In-loop Inv-loop μ-loop) → d .before .loop .i < widthOf (rowsOf (now (d .before .before .before .before .before .before .before .before .before .args .table))) (d .before .before .before .before .before .before .before .before .before .args .row)
@@ -30,7 +30,7 @@ mul-wide : tie.Need-mul-wide Inv-loop μ-loop
 mul-wide c = omega (arith, row-small _ _ _ _ (c .before .before .before .before .before .pre .0) _ (c .before .before .before .before .before .pre .1 .0))
 
 shared-slice-read-wide : tie.Need-shared-slice-read-wide Inv-loop μ-loop
-shared-slice-read-wide c = omega (arith, c .before .before .before .before .before .before .pre .0 .widths-room, c .before .before .before .before .before .before .pre .1 .0 .there)
+shared-slice-read-wide c = omega (arith, c .before .before .before .before .before .before .pre .0 .placed .widths-room, c .before .before .before .before .before .before .pre .1 .0 .there)
 
 wide-requires : tie.Need-wide-requires Inv-loop μ-loop
 wide-requires c κs = tt

@@ -7,7 +7,7 @@ use lib.Bits.{bitAnd, bitXor}
 use lib.Dec.{eqb}
 use lib.ListN.{getD}
 use Rattle.laws.specs.Lists.{below}
-use Rattle.answers.specs.Answer.{implies}
+use Rattle.laws.specs.Bools.{implies}
 use Rattle.groups.specs.inner.Places.{sourceBit, equalTest, fixedPlace, agreesAt}
 
 -- The test of an equal row x, y, shift, mask.

@@ -8,7 +8,7 @@ use lib.Bits.{bitAnd, bitXor}
 use lib.Dec.{eqb, ltb}
 use lib.ListN.{length, getD}
 use Rattle.laws.specs.Lists.{below}
-use Rattle.answers.specs.Answer.{implies}
+use Rattle.laws.specs.Bools.{implies}
 
 -- The bit of a source in a window: 0 and 1 are the constants, i + 2 is place i, which is bit 15 - i % 16 of word i / 16.
 unfoldable pub sourceBit : List ℕ → ℕ → ℕ

@@ -20,7 +20,7 @@ same-length-2 : tie.Need-same-length-2
 same-length-2 c = search needs
 
 returns : tie.Need-returns
-returns c = λ accepted. c .before .before .before .before .before .classes-with .ensures (omega (arith, accepted-table _ accepted .few, accepted-table _ accepted .whole, rows-length (now (c .before .before .before .before .before .before .before .before .before .before .before .before .before .before .args .table)))) accepted
+returns c = λ placed. c .before .before .before .before .before .classes-with .ensures (omega (arith, accepted-table _ (placed .numbered .accepted) .few, accepted-table _ (placed .numbered .accepted) .whole, rows-length (now (c .before .before .before .before .before .before .before .before .before .before .before .before .before .before .args .table)))) placed
 
 pub classes-many-spec : {M : Type 1} → statement M
 classes-many-spec =

@@ -1,43 +1,32 @@
--- `classes_with` meets its contract: the equations are taken from a copy of the table, of proofs/ShortCopy.antt. Assumes nothing.
+-- `classes_with` meets its contract: the equations are taken from a copy of the table, of proofs/FromCopy.antt. Assumes nothing.
+use borrow.Author.Needs.{needs}
 use mathlib.Core.Path.{_≡_, sym, ap, _∙_}
-use mathlib.Core.List.{List, _++_}
-use Prim.Native.Nat.{ℕ, suc, _-_, _≤_}
+use mathlib.Core.List.{List}
+use Prim.Native.Nat.{ℕ, suc, _≤_}
 use native.Mathlib.Omega.{arith}
-use lib.ListN.{length, take, drop}
+use lib.ListN.{length, take}
 use lib.Seq.{take-length, length-take-le}
 use denote.Ref.{now}
-use Rattle.terms.specs.Table.{rowsOf, counting}
-use Rattle.laws.specs.Lists.{countUp}
+use Rattle.terms.specs.Table.{rowsOf}
 use Rattle.terms.proofs.AcceptedTable.{accepted-table}
 use Rattle.terms.proofs.Faults.{totals-small}
-use Rattle.sides.specs.inner.Sides.{Prepared}
-use Rattle.copies.specs.inner.Shortened.{shortened}
-use Rattle.taking.specs.inner.Equations.{unlinked}
-use Rattle.linking.proofs.ShortCopy.{copy-there, copy-length, copy-rows, lows-part, copy-bits, copy-prepared, copy-taken}
-use borrow.Author.Needs.{needs}
+use Rattle.terms.proofs.Rows.{rows-length}
+use Rattle.laws.specs.Lists.{countUp}
+use Rattle.copies.proofs.Copying.{copy-count, copy-placed}
+use Rattle.sides.proofs.Prepared.{prepared-of}
+use Rattle.linking.specs.inner.Classes.{unlinked}
+use Rattle.linking.proofs.FromCopy.{copy-held, copy-taken}
 use Rattle.linking.proofs.classes_with.Statement.{statement}
 use Rattle.linking.proofs.classes_with.Tie as tie
 
-shorten-requires : tie.Need-shorten-requires
-shorten-requires c κs = search needs
-
-lesser-requires : tie.Need-lesser-requires
-lesser-requires c κs = search needs
-
-slice-relend-prefix-leave-off-revised : tie.Need-slice-relend-prefix-leave-off-revised
-slice-relend-prefix-leave-off-revised c = search needs
-
-slice-aggregate-leave-off-revised : tie.Need-slice-aggregate-leave-off-revised
-slice-aggregate-leave-off-revised c = sym (length-take-le (c .before .lesser .result) (c .before .before .before .before .shorten .last .1 .0) (omega (arith, c .before .lesser .ensures .1, c .before .before .before .before .shorten .kept .1 .0)))
-
-leave-off-revised-requires : tie.Need-leave-off-revised-requires
-leave-off-revised-requires c κs = search needs
+copy-requires : tie.Need-copy-requires
+copy-requires c κs = search needs
 
 add-lesser : tie.Need-add-lesser
 add-lesser c = search needs
 
-lesser-requires-2 : tie.Need-lesser-requires-2
-lesser-requires-2 c κs = search needs
+lesser-requires : tie.Need-lesser-requires
+lesser-requires c κs = search needs
 
 unlink-requires : tie.Need-unlink-requires
 unlink-requires c κs = search needs
@@ -46,7 +35,7 @@ slice-reshare-prefix-take-equations : tie.Need-slice-reshare-prefix-take-equatio
 slice-reshare-prefix-take-equations c = search needs
 
 slice-aggregate-take-equations : tie.Need-slice-aggregate-take-equations
-slice-aggregate-take-equations c = copy-there (c .before .before .before .before .before .before .before .before .before .before .before .before .before .shorten .last .1 .0) (c .before .before .before .before .before .before .before .before .leave-off-revised .last .0) (c .before .before .before .before .before .before .before .before .before .before .lesser .result) (omega (arith, c .before .before .before .before .before .before .before .before .before .before .lesser .ensures .1, c .before .before .before .before .before .before .before .before .before .before .before .before .before .shorten .kept .1 .0)) (c .before .before .before .before .before .before .before .before .leave-off-revised .kept .0)
+slice-aggregate-take-equations c = sym (length-take-le (c .before .before .before .before .before .before .before .before .copy .result) (c .before .before .before .before .before .before .before .before .copy .last .1 .0) (omega (arith, c .before .before .before .before .before .before .before .before .copy .ensures .0, c .before .before .before .before .before .before .before .before .copy .kept .1 .0)))
 
 mul-take-equations : tie.Need-mul-take-equations
 mul-take-equations c = search needs
@@ -80,41 +69,24 @@ same-length-3 c = search needs
 
 returns : tie.Need-returns
 returns c =
-    λ room accepted widths variables sources long form len.
-    let table = now (c .before .before .before .before .before .before .before .before .before .before .before .before .before .before .before .before .before .before .before .before .before .before .before .before .before .before .before .before .before .before .before .before .before .before .before .args .table) in
+    λ room placed form len.
+    let table = now (c .before .before .before .before .before .before .before .before .before .before .before .before .before .before .before .before .before .before .before .before .before .before .before .before .before .before .before .before .before .before .args .table) in
+    let accepted = placed .numbered .accepted in
     let totals = rw (take-length (rowsOf table)) at (totals-small (rowsOf table) (length (rowsOf table)) (accepted-table table accepted .sound)) in
-    let made = c .before .before .before .before .before .before .before .before .before .before .before .before .before .before .before .before .before .before .before .before .before .before .before .before .before .before .before .shorten .ensures .1 accepted room in
-    let n = c .before .before .before .before .before .before .before .before .before .before .before .before .before .before .before .before .before .before .before .before .before .before .before .before .lesser .result in
-    let buffer = c .before .before .before .before .before .before .before .before .before .before .before .before .before .before .before .before .before .before .before .before .before .before .before .before .before .before .before .shorten .last .1 .0 in
-    let left = c .before .before .before .before .before .before .before .before .before .before .before .before .before .before .before .before .before .before .before .before .before .before .leave-off-revised .last .0 in
-    let all : n ≡ c .before .before .before .before .before .before .before .before .before .before .before .before .before .before .before .before .before .before .before .before .before .before .before .before .before .before .before .shorten .result = omega (arith, c .before .before .before .before .before .before .before .before .before .before .before .before .before .before .before .before .before .before .before .before .before .before .before .before .lesser .ensures .0, made .0, room, c .before .before .before .before .before .before .before .before .before .before .before .before .before .before .before .before .before .before .before .before .before .before .before .before .before .before .before .shorten .kept .1 .0) in
-    let fits : n ≤ length buffer = omega (arith, c .before .before .before .before .before .before .before .before .before .before .before .before .before .before .before .before .before .before .before .before .before .before .before .before .lesser .ensures .1, c .before .before .before .before .before .before .before .before .before .before .before .before .before .before .before .before .before .before .before .before .before .before .before .before .before .before .before .shorten .kept .1 .0) in
-    let shorts : rowsOf (take n buffer) ≡ shortened (rowsOf table) = ap (λ (m : ℕ). rowsOf (take m buffer)) all ∙ made .1 in
-    let short : List ℕ = take n (left ++ drop n buffer) in
-    let size : length short ≡ length table =
-    copy-length buffer left n fits (c .before .before .before .before .before .before .before .before .before .before .before .before .before .before .before .before .before .before .before .before .before .before .leave-off-revised .kept .0) table accepted (all ∙ made .0) shorts (c .before .before .before .before .before .before .before .before .before .before .before .before .before .before .before .before .before .before .before .before .before .before .leave-off-revised .ensures) in
-    let rows : rowsOf short ≡ counting (shortened (rowsOf table)) =
-    copy-rows buffer left n fits (c .before .before .before .before .before .before .before .before .before .before .before .before .before .before .before .before .before .before .before .before .before .before .leave-off-revised .kept .0) table accepted (all ∙ made .0) shorts (c .before .before .before .before .before .before .before .before .before .before .before .before .before .before .before .before .before .before .before .before .before .before .leave-off-revised .ensures) in
-    let places = now (c .before .before .before .before .before .before .before .before .before .before .before .before .before .before .before .before .before .before .before .before .before .before .before .before .before .before .before .before .before .before .before .before .before .before .before .args .places) in
-    let ready : Prepared short (now (c .before .before .before .before .before .before .before .before .before .before .before .before .before .before .before .before .before .before .before .before .before .before .before .before .before .before .before .before .before .before .before .before .before .before .before .args .widths)) places (take (length places - c .before .before .before .before .before .before .before .before .before .before .before .before .before .before .before .before .before .before .before .lesser2 .result) (drop (c .before .before .before .before .before .before .before .before .before .before .before .before .before .before .before .before .before .before .before .lesser2 .result) places)) =
-    copy-prepared table short accepted size rows _ _ _ widths variables
-    (λ v h. lows-part places (c .before .before .before .before .before .before .before .before .before .before .before .before .before .before .before .before .before .before .before .lesser2 .result) v (c .before .before .before .before .before .before .before .before .before .before .before .before .before .before .before .before .before .before .before .lesser2 .ensures .0) long (omega (arith, totals .0)) ∙ sources (suc v) h) in
-    let alone : c .before .before .before .before .before .before .before .before .before .before .before .before .before .before .before .before .before .unlink .last .0 ≡ unlinked (rowsOf short) =
-    c .before .before .before .before .before .before .before .before .before .before .before .before .before .before .before .before .before .unlink .ensures (omega (arith, len, totals .1)) ∙ ap (countUp 0) len ∙ ap (λ (n : ℕ). countUp 0 (suc (suc n))) (sym (copy-bits table short accepted size rows)) in
-    let taken = c .before .before .before .before .before .before .before .before .before .take-equations .ensures .0 ready form (omega arith) alone in
-    c .before .before .settle-ties .ensures accepted (copy-taken table short accepted size rows _ _ _ taken)
+    let made = c .before .before .before .before .before .before .before .before .before .before .before .before .before .before .before .before .before .before .before .before .before .before .copy .ensures .1 accepted room in
+    let short : List ℕ = take (c .before .before .before .before .before .before .before .before .before .before .before .before .before .before .before .before .before .before .before .before .before .before .copy .result) (c .before .before .before .before .before .before .before .before .before .before .before .before .before .before .before .before .before .before .before .before .before .before .copy .last .1 .0) in
+    let alone : c .before .before .before .before .before .before .before .before .before .before .before .before .before .before .before .before .before .unlink .last .0 ≡ unlinked (rowsOf table) = c .before .before .before .before .before .before .before .before .before .before .before .before .before .before .before .before .before .unlink .ensures (omega (arith, len, totals .1)) ∙ ap (countUp 0) len in
+    let all = sym (rows-length table) in
+    let taken = c .before .before .before .before .before .before .before .before .before .take-equations .ensures .0 (prepared-of short _ _ _ (copy-placed table short accepted made _ _ placed) (c .before .before .before .before .before .before .before .before .before .before .before .before .before .before .before .before .before .before .before .lesser .ensures .0)) form (omega arith) (omega arith) (omega (arith, all, copy-count table short accepted made)) (copy-held table short accepted made _ alone) in
+    c .before .before .settle-ties .ensures accepted (copy-taken table short accepted made _ alone _ all _ _ _ taken)
 
 pub classes-with-spec : {M : Type 1} → statement M
 classes-with-spec =
     tie.close
     (tie.spec
-    shorten-requires
-    lesser-requires
-    slice-relend-prefix-leave-off-revised
-    slice-aggregate-leave-off-revised
-    leave-off-revised-requires
+    copy-requires
     add-lesser
-    lesser-requires-2
+    lesser-requires
     unlink-requires
     slice-reshare-prefix-take-equations
     slice-aggregate-take-equations

@@ -1,6 +1,6 @@
 -- `blank_line` meets its contract. Assumes nothing.
 use borrow.Author.Needs.{needs}
-use Rattle.pages.specs.Page.{cell, lineOf, blankLine}
+use Rattle.result_sheets.specs.Page.{cell, lineOf, blankLine}
 use Rattle.pages.specs.inner.Lines.{fourCells}
 use Rattle.pages.proofs.blank_line.Statement.{statement}
 use Rattle.pages.proofs.blank_line.Tie as tie

@@ -3,7 +3,7 @@ use mathlib.Core.Path.{_∙_, ap}
 use native.Mathlib.Omega.{arith}
 use denote.Ref.{now}
 use borrow.Author.Needs.{needs}
-use Rattle.pages.specs.Page.{pieceLine}
+use Rattle.result_sheets.specs.Page.{pieceLine}
 use Rattle.pages.proofs.Making.{place-fits, at-past, at-names, at-blank, at-outcome, at-piece}
 use Rattle.pages.proofs.line_at.Statement.{statement}
 use Rattle.pages.proofs.line_at.Tie as tie

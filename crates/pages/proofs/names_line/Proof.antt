@@ -1,6 +1,6 @@
 -- `names_line` meets its contract. Assumes nothing.
 use borrow.Author.Needs.{needs}
-use Rattle.pages.specs.Page.{cell, lineOf, namesLine}
+use Rattle.result_sheets.specs.Page.{cell, lineOf, namesLine}
 use Rattle.pages.specs.inner.Lines.{fourCells}
 use Rattle.pages.proofs.names_line.Statement.{statement}
 use Rattle.pages.proofs.names_line.Tie as tie

@@ -4,7 +4,7 @@ use mathlib.Core.List.{List}
 use Prim.Native.Nat.{ℕ}
 use lib.ListN.{replicate}
 use borrow.Author.Needs.{needs}
-use Rattle.pages.specs.Page.{cell, lineOf, outcomeLine}
+use Rattle.result_sheets.specs.Page.{cell, lineOf, outcomeLine}
 use Rattle.pages.specs.inner.Lines.{fourCells}
 use Rattle.pages.proofs.outcome_line.Statement.{statement}
 use Rattle.pages.proofs.outcome_line.Tie as tie

@@ -1,7 +1,7 @@
 -- `piece_line` meets its contract. Assumes nothing.
 use mathlib.Core.Path.{_∙_}
 use borrow.Author.Needs.{needs}
-use Rattle.pages.specs.Page.{lineOf, pieceLine}
+use Rattle.result_sheets.specs.Page.{lineOf, pieceLine}
 use Rattle.pages.specs.inner.Lines.{fourCells}
 use Rattle.pages.proofs.piece_line.Statement.{statement}
 use Rattle.pages.proofs.piece_line.Tie as tie

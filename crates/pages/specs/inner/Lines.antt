@@ -4,7 +4,7 @@ use mathlib.Core.List.{List, [], _∷_, _++_}
 use Prim.Native.Nat.{ℕ, _+_, _-_, _/_, min}
 use lib.Dec.{eqb}
 use Rattle.terms.specs.declared.Record.{Record}
-use Rattle.pages.specs.Page.{onPage}
+use Rattle.result_sheets.specs.Page.{onPage}
 
 -- A line of four columns.
 unfoldable pub fourCells : List ℕ → List ℕ → List ℕ → List ℕ → List ℕ

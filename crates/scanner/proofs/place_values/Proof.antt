@@ -1,5 +1,5 @@
 -- `place_values` meets its contract. Assumes nothing.
-use Rattle.sheets.specs.Text.{placed}
+use Rattle.sheets.specs.Text.{rowOfValues}
 use borrow.Author.Needs.{needs}
 use Rattle.scanner.proofs.place_values.Statement.{statement}
 use Rattle.scanner.proofs.place_values.Tie as tie
@@ -17,7 +17,7 @@ pick-requires-4 : tie.Need-pick-requires-4
 pick-requires-4 c κs = search needs
 
 returns : tie.Need-returns
-unfolding placed
+unfolding rowOfValues
 returns c = rw (c .before .before .before .pick .ensures, c .before .before .pick2 .ensures, c .before .pick3 .ensures, c .pick4 .ensures)
 
 pub place-values-spec : {M : Type 1} → statement M

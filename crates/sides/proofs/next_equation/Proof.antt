@@ -1,8 +1,7 @@
 -- `next_equation` meets its contract: what is left to search says what the whole search says. Assumes nothing.
-use Rattle.sides.proofs.NextEquation.{next-found, next-more, next-end}
-use Rattle.sides.specs.inner.Sides.{nextEquation}
+use Rattle.terms.proofs.NextEquation.{next-found, next-more, next-end}
 use Rattle.terms.specs.declared.Row.{Row}
-use Rattle.terms.specs.Table.{rowsOf}
+use Rattle.terms.specs.Table.{rowsOf, nextEquation}
 use native.Mathlib.Omega.{arith}
 use Prim.Native.Nat.{_-_}
 use mathlib.Core.Path.{_≡_, refl, sym, _∙_, ap}

@@ -1,19 +1,17 @@
--- What the functions promise of equations: which row is the next one, the normal forms of its filled sides, and its bit pairs as readers
--- of these forms give them.
+-- What the functions promise of equations: the normal forms of an equation's filled sides, and its bit pairs as readers of these forms give
+-- them.
 use mathlib.Core.Path.{_≡_}
 use mathlib.Core.Bool.{false}
 use mathlib.Core.List.{List, [], _∷_}
-use Prim.Native.Nat.{ℕ, zero, suc, _+_, _-_, _≤_, _<_}
-use lib.Dec.{eqb}
+use Prim.Native.Nat.{ℕ, zero, suc, _+_, _≤_, _<_}
 use lib.ListN.{length, getD}
-use Rattle.laws.specs.Lists.{least}
 use Rattle.laws.specs.Buffers.{overwrite}
 use Rattle.terms.specs.declared.Row.{Row}
 use Rattle.terms.specs.Table.{rowsOf, rowAt, bitsOf, countKind, sourceOf, evened, ifEquation}
 use Rattle.terms.specs.Faults.{absent}
 use Rattle.terms.specs.inner.Places.{lowSource}
 use Rattle.forms.specs.Form.{formFrom, numbersOf}
-use Rattle.forms.specs.inner.Numbered.{Numbered}
+use Rattle.terms.specs.inner.Placed.{Numbered}
 use Rattle.answers.specs.Pairs.{Pair, pairsOf}
 use Rattle.sides.specs.declared.Reader.{Reader}
 use Rattle.sides.specs.inner.Reading.{Stands}
@@ -22,10 +20,6 @@ use Rattle.sides.specs.inner.Reading.{Stands}
 pub record Prepared (table widths variables lows : List ℕ) : Type 0 where
   pub numbered : Numbered table widths variables
   pub lows-are : (v : ℕ) → v < countKind 0 (rowsOf table) → getD lows v 0 ≡ lowSource (rowsOf table) v
-
--- The first equation of a table from row `from` on and below row `rows`; where there is none, the greater of the two.
-unfoldable pub nextEquation : List Row → ℕ → ℕ → ℕ
-nextEquation t from rows = least (λ r. eqb (rowAt t r .kind) 4) from (rows - from)
 
 -- The sources of an equation's left side, filled to the width of the right one, and those of its right side.
 abbrev pub leftSide : List Row → Row → List ℕ

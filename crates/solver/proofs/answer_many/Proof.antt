@@ -4,7 +4,7 @@ use Prim.Native.Nat.{ℕ, _+_}
 use native.Mathlib.Omega.{arith}
 use lib.ListN.{replicate, length-replicate}
 use lib.Seq.{length-take-le}
-use Rattle.borders.proofs.Answering.{bits-most}
+use Rattle.terms.proofs.AcceptedTable.{table-bits}
 use borrow.Author.Needs.{needs}
 use Rattle.solver.proofs.answer_many.Statement.{statement}
 use Rattle.solver.proofs.answer_many.Tie as tie
@@ -32,8 +32,8 @@ same-length-2 c = search needs
 
 returns : tie.Need-returns
 returns c =
-    λ accepted widths variables sources long bits form room.
-    c .before .before .before .before .before .answer-table .ensures (length-take-le (c .before .before .before .before .before .before .before .before .before .lesser .result + 2) (replicate 4098 0) (omega (arith, c .before .before .before .before .before .before .before .before .before .lesser .ensures .1, length-replicate {A = ℕ} 4098 0)) ∙ omega (arith, c .before .before .before .before .before .before .before .before .before .lesser .ensures .0, bits, bits-most _ accepted)) accepted widths variables sources long bits form room
+    λ placed bits.
+    c .before .before .before .before .before .answer-table .ensures (length-take-le (c .before .before .before .before .before .before .before .before .before .lesser .result + 2) (replicate 4098 0) (omega (arith, c .before .before .before .before .before .before .before .before .before .lesser .ensures .1, length-replicate {A = ℕ} 4098 0)) ∙ omega (arith, c .before .before .before .before .before .before .before .before .before .lesser .ensures .0, bits, table-bits _ (placed .numbered .accepted))) placed bits
 
 pub answer-many-spec : {M : Type 1} → statement M
 answer-many-spec =

@@ -14,70 +14,74 @@ use Rattle.terms.proofs.Rows.{rows-length}
 use Rattle.answers.specs.Pairs.{Pair}
 use Rattle.answers.specs.inner.Classes.{rep, run}
 use Rattle.classes.specs.inner.Links.{numberOf, rootsOf, PairTaken}
-use Rattle.forms.specs.inner.Numbered.{Numbered}
+use Rattle.terms.specs.inner.Placed.{Numbered}
 use Rattle.sides.specs.inner.Reading.{Stands}
 use Rattle.sides.specs.inner.Sides.{Prepared, SidesWritten, SidesRead, leftSide, rightSide, pairsFrom}
-use Rattle.sides.proofs.NextEquation.{next-forth, next-passed}
+use Rattle.terms.proofs.NextEquation.{next-forth, next-passed}
 use Rattle.sides.proofs.EquationPairs.{sides-read}
-use Rattle.taking.specs.inner.Equations.{unlinked}
+use Rattle.taking.specs.inner.Equations.{Holding}
 use Rattle.taking.proofs.Passing.{pairs-left, eight-alike, eight-on, eight-stand}
-use Rattle.taking.proofs.Taking.{Taking, taking-first, taking-alike, taking-to, taking-conflict, Between, between-first, between-more, between-next, between-conflict, between-done}
+use Rattle.taking.proofs.Taking.{Taking, taking-held, taking-alike, taking-to, taking-conflict, Between, between-first, between-more, between-next, between-conflict, between-done}
 use Rattle.taking.proofs.Forms.{Standing, standing-first, standing-next, standing-more, standing-on, standing-end, standing-conflict}
 use Rattle.taking.proofs.take_equations.Statement.{statement}
 use Rattle.taking.proofs.take_equations.Tie as tie
 
 -- what the promises ask for
-record Given (table widths variables lows left right links : List ℕ) : Type 0 where
+record Given (table widths variables lows : List ℕ) (from to : ℕ) (left right links : List ℕ) : Type 0 where
   prepared : Prepared table widths variables lows
   left-room : 4096 ≤ length left
   right-room : 4096 ≤ length right
-  fresh : links ≡ unlinked (rowsOf table)
+  forth : from ≤ to
+  within : to ≤ length (rowsOf table)
+  held : Holding (rowsOf table) links
 
-record Room (table widths variables left right : List ℕ) : Type 0 where
+record Room (table widths variables : List ℕ) (from to : ℕ) (left right : List ℕ) : Type 0 where
   numbered : Numbered table widths variables
   left-room : 4096 ≤ length left
   right-room : 4096 ≤ length right
+  forth : from ≤ to
+  within : to ≤ length (rowsOf table)
 
 abbrev Inv-loop : tie.InvT-loop
-Inv-loop table widths variables lows left right links₀ rows ties r pairs width a₀ b₀ found₀ k₀ links a b found k =
+Inv-loop table widths variables lows from to left right links₀ rows ties r pairs width a₀ b₀ found₀ k₀ links a b found k =
     (k ≤ width) × (found ≤ k) × (length links ≡ length links₀)
     × (SidesRead (rowsOf table) r lows left right width → Stands lows left k a × Stands lows right k b)
-    × (Between (rowsOf table) links₀ ties r → SidesRead (rowsOf table) r lows left right width
+    × (Holding (rowsOf table) links₀ → SidesRead (rowsOf table) r lows left right width
     → Taking (leftSide (rowsOf table) (rowAt (rowsOf table) r)) (rightSide (rowsOf table) (rowAt (rowsOf table) r)) (rootsOf links₀) links k found)
 
 abbrev μ-loop : tie.MeasureT-loop
-μ-loop table widths variables lows left right links₀ rows ties r pairs width a₀ b₀ found₀ k₀ links a b found k = width - k
+μ-loop table widths variables lows from to left right links₀ rows ties r pairs width a₀ b₀ found₀ k₀ links a b found k = width - k
 
 abbrev Inv-solve : tie.InvT-solve
-Inv-solve table widths variables lows left₀ right₀ links₀ rows ties₀ r₀ left right links ties r =
+Inv-solve table widths variables lows from to left₀ right₀ links₀ rows ties₀ r₀ left right links ties r =
     (ties ≤ 1024 * r + 1024) × (ties ≤ 1000000) × (length left ≡ length left₀) × (length right ≡ length right₀) × (length links ≡ length links₀)
-    × (Given table widths variables lows left₀ right₀ links₀ → Between (rowsOf table) links ties r)
-    × (Room table widths variables left₀ right₀ → Standing (rowsOf table) left₀ left right₀ right r)
+    × ((g : Given table widths variables lows from to left₀ right₀ links₀) → Between (rowsOf table) from to (g .within) (rootsOf links₀) links ties r)
+    × (Room table widths variables from to left₀ right₀ → Standing (rowsOf table) from to left₀ left right₀ right r)
 
 abbrev μ-solve : tie.MeasureT-solve
-μ-solve table widths variables lows left₀ right₀ links₀ rows ties₀ r₀ left right links ties r = rows - r
+μ-solve table widths variables lows from to left₀ right₀ links₀ rows ties₀ r₀ left right links ties r = rows - r
 
--- all rows of the table are searched
-whole-table : (table : List ℕ) (rows : ℕ) {widths variables : List ℕ} → Numbered table widths variables → rows ≡ min (length table / 4) 512 → rows ≡ length (rowsOf table)
-whole-table table rows p e = omega (arith, rows-length table, accepted-table table (p .accepted) .few)
+-- all rows below `to` are searched
+all-rows : (table : List ℕ) (to rows : ℕ) {widths variables : List ℕ} → Numbered table widths variables → to ≤ length (rowsOf table) → rows ≡ min to 512 → rows ≡ to
+all-rows table to rows p w e = omega (arith, accepted-table table (p .accepted) .few)
 
--- the row is there
-row-there : (d : tie.After-lesser2 Inv-loop μ-loop Inv-solve μ-solve) → d .before .before .before .before .before .before .before .before .before .solve .r < length (rowsOf (now (d .before .before .before .before .before .before .before .before .before .before .before .before .before .before .before .before .before .before .before .args .table)))
-row-there d = omega (arith, d .before .before .before .before .before .before .before .before .solve-test .taken, d .before .before .before .before .before .before .before .before .before .before .before .lesser .ensures .0, rows-length (now (d .before .before .before .before .before .before .before .before .before .before .before .before .before .before .before .before .before .before .before .args .table)))
+-- the row is below `to`
+row-below : (d : tie.After-lesser2 Inv-loop μ-loop Inv-solve μ-solve) → d .before .before .before .before .before .before .before .before .before .solve .r < d .before .before .before .before .before .before .before .before .before .before .before .before .before .before .before .before .before .before .before .args .to
+row-below d = omega (arith, d .before .before .before .before .before .before .before .before .solve-test .taken, d .before .before .before .before .before .before .before .before .before .before .before .lesser .ensures .0)
 
 -- its sides are written
-written : (d : tie.After-lesser2 Inv-loop μ-loop Inv-solve μ-solve) → Room (now (d .before .before .before .before .before .before .before .before .before .before .before .before .before .before .before .before .before .before .before .args .table)) (now (d .before .before .before .before .before .before .before .before .before .before .before .before .before .before .before .before .before .before .before .args .widths)) (now (d .before .before .before .before .before .before .before .before .before .before .before .before .before .before .before .before .before .before .before .args .variables)) (now (d .before .before .before .before .before .before .before .before .before .before .before .before .before .before .before .before .before .before .before .args .left)) (now (d .before .before .before .before .before .before .before .before .before .before .before .before .before .before .before .before .before .before .before .args .right))
+written : (d : tie.After-lesser2 Inv-loop μ-loop Inv-solve μ-solve) → Room (now (d .before .before .before .before .before .before .before .before .before .before .before .before .before .before .before .before .before .before .before .args .table)) (now (d .before .before .before .before .before .before .before .before .before .before .before .before .before .before .before .before .before .before .before .args .widths)) (now (d .before .before .before .before .before .before .before .before .before .before .before .before .before .before .before .before .before .before .before .args .variables)) (d .before .before .before .before .before .before .before .before .before .before .before .before .before .before .before .before .before .before .before .args .from) (d .before .before .before .before .before .before .before .before .before .before .before .before .before .before .before .before .before .before .before .args .to) (now (d .before .before .before .before .before .before .before .before .before .before .before .before .before .before .before .before .before .before .before .args .left)) (now (d .before .before .before .before .before .before .before .before .before .before .before .before .before .before .before .before .before .before .before .args .right))
     → SidesWritten (rowsOf (now (d .before .before .before .before .before .before .before .before .before .before .before .before .before .before .before .before .before .before .before .args .table))) (d .before .before .before .before .before .before .before .before .before .solve .r) (d .before .before .before .before .before .before .before .before .before .solve .left) (d .before .before .before .before .before .put-sides .last .1 .1 .1 .1 .0) (d .before .before .before .before .before .before .before .before .before .solve .right) (d .before .before .before .before .before .put-sides .last .1 .1 .1 .1 .1 .0) (d .before .before .before .before .before .put-sides .result)
 written d g =
     let o = d .before .before .before .before .before .before .before .before .before .solve in
-    d .before .before .before .before .before .put-sides .ensures (g .numbered) (row-there d) (omega (arith, g .left-room, o .inv .2)) (omega (arith, g .right-room, o .inv .3))
+    d .before .before .before .before .before .put-sides .ensures (g .numbered) (omega (arith, row-below d, g .within)) (omega (arith, g .left-room, o .inv .2)) (omega (arith, g .right-room, o .inv .3))
 
 -- its bit pairs are read
-sides : (d : tie.After-lesser2 Inv-loop μ-loop Inv-solve μ-solve) → Given (now (d .before .before .before .before .before .before .before .before .before .before .before .before .before .before .before .before .before .before .before .args .table)) (now (d .before .before .before .before .before .before .before .before .before .before .before .before .before .before .before .before .before .before .before .args .widths)) (now (d .before .before .before .before .before .before .before .before .before .before .before .before .before .before .before .before .before .before .before .args .variables)) (now (d .before .before .before .before .before .before .before .before .before .before .before .before .before .before .before .before .before .before .before .args .lows)) (now (d .before .before .before .before .before .before .before .before .before .before .before .before .before .before .before .before .before .before .before .args .left)) (now (d .before .before .before .before .before .before .before .before .before .before .before .before .before .before .before .before .before .before .before .args .right)) (now (d .before .before .before .before .before .before .before .before .before .before .before .before .before .before .before .before .before .before .before .args .links)) → SidesRead (rowsOf (now (d .before .before .before .before .before .before .before .before .before .before .before .before .before .before .before .before .before .before .before .args .table))) (d .before .before .before .before .before .before .before .before .before .solve .r) (now (d .before .before .before .before .before .before .before .before .before .before .before .before .before .before .before .before .before .before .before .args .lows)) (d .before .before .before .before .before .put-sides .last .1 .1 .1 .1 .0) (d .before .before .before .before .before .put-sides .last .1 .1 .1 .1 .1 .0) (d .lesser2 .result)
+sides : (d : tie.After-lesser2 Inv-loop μ-loop Inv-solve μ-solve) → Given (now (d .before .before .before .before .before .before .before .before .before .before .before .before .before .before .before .before .before .before .before .args .table)) (now (d .before .before .before .before .before .before .before .before .before .before .before .before .before .before .before .before .before .before .before .args .widths)) (now (d .before .before .before .before .before .before .before .before .before .before .before .before .before .before .before .before .before .before .before .args .variables)) (now (d .before .before .before .before .before .before .before .before .before .before .before .before .before .before .before .before .before .before .before .args .lows)) (d .before .before .before .before .before .before .before .before .before .before .before .before .before .before .before .before .before .before .before .args .from) (d .before .before .before .before .before .before .before .before .before .before .before .before .before .before .before .before .before .before .before .args .to) (now (d .before .before .before .before .before .before .before .before .before .before .before .before .before .before .before .before .before .before .before .args .left)) (now (d .before .before .before .before .before .before .before .before .before .before .before .before .before .before .before .before .before .before .before .args .right)) (now (d .before .before .before .before .before .before .before .before .before .before .before .before .before .before .before .before .before .before .before .args .links)) → SidesRead (rowsOf (now (d .before .before .before .before .before .before .before .before .before .before .before .before .before .before .before .before .before .before .before .args .table))) (d .before .before .before .before .before .before .before .before .before .solve .r) (now (d .before .before .before .before .before .before .before .before .before .before .before .before .before .before .before .before .before .before .before .args .lows)) (d .before .before .before .before .before .put-sides .last .1 .1 .1 .1 .0) (d .before .before .before .before .before .put-sides .last .1 .1 .1 .1 .1 .0) (d .lesser2 .result)
 sides d g =
     let o = d .before .before .before .before .before .before .before .before .before .solve in
-    let small : Room (now (d .before .before .before .before .before .before .before .before .before .before .before .before .before .before .before .before .before .before .before .args .table)) (now (d .before .before .before .before .before .before .before .before .before .before .before .before .before .before .before .before .before .before .before .args .widths)) (now (d .before .before .before .before .before .before .before .before .before .before .before .before .before .before .before .before .before .before .before .args .variables)) (now (d .before .before .before .before .before .before .before .before .before .before .before .before .before .before .before .before .before .before .before .args .left)) (now (d .before .before .before .before .before .before .before .before .before .before .before .before .before .before .before .before .before .before .before .args .right)) = record { numbered = g .prepared .numbered; left-room = g .left-room; right-room = g .right-room } in
-    let s = sides-read _ _ _ _ (g .prepared) _ (row-there d) _ _ _ _ _ (omega (arith, g .left-room, o .inv .2)) (omega (arith, g .right-room, o .inv .3)) (written d small) in
+    let small : Room (now (d .before .before .before .before .before .before .before .before .before .before .before .before .before .before .before .before .before .before .before .args .table)) (now (d .before .before .before .before .before .before .before .before .before .before .before .before .before .before .before .before .before .before .before .args .widths)) (now (d .before .before .before .before .before .before .before .before .before .before .before .before .before .before .before .before .before .before .before .args .variables)) (d .before .before .before .before .before .before .before .before .before .before .before .before .before .before .before .before .before .before .before .args .from) (d .before .before .before .before .before .before .before .before .before .before .before .before .before .before .before .before .before .before .before .args .to) (now (d .before .before .before .before .before .before .before .before .before .before .before .before .before .before .before .before .before .before .before .args .left)) (now (d .before .before .before .before .before .before .before .before .before .before .before .before .before .before .before .before .before .before .before .args .right)) = record { numbered = g .prepared .numbered; left-room = g .left-room; right-room = g .right-room; forth = g .forth; within = g .within } in
+    let s = sides-read _ _ _ _ (g .prepared) _ (omega (arith, row-below d, g .within)) _ _ _ _ _ (omega (arith, g .left-room, o .inv .2)) (omega (arith, g .right-room, o .inv .3)) (written d small) in
     let e : d .before .before .before .before .before .put-sides .result ≡ d .lesser2 .result = omega (arith, s .few, d .lesser2 .ensures .0) in
     subst (SidesRead (rowsOf (now (d .before .before .before .before .before .before .before .before .before .before .before .before .before .before .before .before .before .before .before .args .table))) (o .r) (now (d .before .before .before .before .before .before .before .before .before .before .before .before .before .before .before .before .before .before .before .args .lows)) (d .before .before .before .before .before .put-sides .last .1 .1 .1 .1 .0) (d .before .before .before .before .before .put-sides .last .1 .1 .1 .1 .1 .0)) e s
 
@@ -94,8 +98,8 @@ solve-holds c = (
   refl,
   refl,
   refl,
-  λ g. between-next _ _ _ _ _ (between-first _ _ (g .fresh)) (next-passed _ _ _ _ (omega arith) (whole-table _ _ (g .prepared .numbered) (c .before .lesser .ensures .0)) (c .next-equation .ensures)),
-  λ g. standing-next _ _ _ _ _ _ (standing-first _ _ _) _ (next-passed _ _ _ _ (omega arith) (whole-table _ _ (g .numbered) (c .before .lesser .ensures .0)) (c .next-equation .ensures)),
+  λ g. between-next _ _ _ (g .within) _ _ _ _ _ (between-first _ _ _ (g .within) _ _ (g .held) refl) (next-passed _ _ _ _ _ (g .forth) (all-rows _ _ _ (g .prepared .numbered) (g .within) (c .before .lesser .ensures .0)) (c .next-equation .ensures)),
+  λ g. standing-next _ _ _ _ _ _ _ _ (standing-first _ _ _ _ _ (g .forth)) _ (next-passed _ _ _ _ _ (g .forth) (all-rows _ _ _ (g .numbered) (g .within) (c .before .lesser .ensures .0)) (c .next-equation .ensures)),
 )
 
 put-sides-requires : tie.Need-put-sides-requires Inv-loop μ-loop Inv-solve μ-solve
@@ -116,7 +120,7 @@ loop-holds c = (
   omega arith,
   refl,
   λ s. (c .before .before .first .ensures .1, c .first2 .ensures .1),
-  λ b s. taking-first _ _ _ _ (b .canon) (b .low) refl (sym (b .roots-len)) (b .one),
+  λ b s. taking-held _ _ _ _ b,
 )
 
 alike-requires : tie.Need-alike-requires Inv-loop μ-loop Inv-solve μ-solve
@@ -182,7 +186,7 @@ loop-less-2 c = omega (arith, c .before .before .before .before .before .before 
 
 -- the pair that was taken
 pair-taken : (d : tie.After-take-pair Inv-loop μ-loop Inv-solve μ-solve)
-    → Between (rowsOf (now (d .before .before .before .before .before .before .before .before .before .before .before .before .before .before .before .before .before .before .before .before .before .before .before .before .before .before .before .before .before .before .args .table))) (d .before .before .before .before .before .before .before .before .before .before .before .before .before .before .before .before .before .before .before .before .solve .links) (d .before .before .before .before .before .before .before .before .before .before .before .before .before .before .before .before .before .before .before .before .solve .ties) (d .before .before .before .before .before .before .before .before .before .before .before .before .before .before .before .before .before .before .before .before .solve .r)
+    → Holding (rowsOf (now (d .before .before .before .before .before .before .before .before .before .before .before .before .before .before .before .before .before .before .before .before .before .before .before .before .before .before .before .before .before .before .args .table))) (d .before .before .before .before .before .before .before .before .before .before .before .before .before .before .before .before .before .before .before .before .solve .links)
     → SidesRead (rowsOf (now (d .before .before .before .before .before .before .before .before .before .before .before .before .before .before .before .before .before .before .before .before .before .before .before .before .before .before .before .before .before .before .args .table))) (d .before .before .before .before .before .before .before .before .before .before .before .before .before .before .before .before .before .before .before .before .solve .r) (now (d .before .before .before .before .before .before .before .before .before .before .before .before .before .before .before .before .before .before .before .before .before .before .before .before .before .before .before .before .before .before .args .lows)) (d .before .before .before .before .before .before .before .before .before .before .before .before .before .before .before .before .put-sides .last .1 .1 .1 .1 .0) (d .before .before .before .before .before .before .before .before .before .before .before .before .before .before .before .before .put-sides .last .1 .1 .1 .1 .1 .0) (d .before .before .before .before .before .before .before .before .before .before .before .lesser2 .result)
     → PairTaken (d .before .before .before .before .before .before .loop .links) (d .take-pair .last .0) (getD (leftSide (rowsOf (now (d .before .before .before .before .before .before .before .before .before .before .before .before .before .before .before .before .before .before .before .before .before .before .before .before .before .before .before .before .before .before .args .table))) (rowAt (rowsOf (now (d .before .before .before .before .before .before .before .before .before .before .before .before .before .before .before .before .before .before .before .before .before .before .before .before .before .before .before .before .before .before .args .table))) (d .before .before .before .before .before .before .before .before .before .before .before .before .before .before .before .before .before .before .before .before .solve .r))) (d .before .before .before .before .before .before .loop .k) 0) (getD (rightSide (rowsOf (now (d .before .before .before .before .before .before .before .before .before .before .before .before .before .before .before .before .before .before .before .before .before .before .before .before .before .before .before .before .before .before .args .table))) (rowAt (rowsOf (now (d .before .before .before .before .before .before .before .before .before .before .before .before .before .before .before .before .before .before .before .before .before .before .before .before .before .before .before .before .before .before .args .table))) (d .before .before .before .before .before .before .before .before .before .before .before .before .before .before .before .before .before .before .before .before .solve .r))) (d .before .before .before .before .before .before .loop .k) 0) (numberOf (d .take-pair .result))
 pair-taken d b s =
@@ -190,7 +194,7 @@ pair-taken d b s =
     let k = d .before .before .before .before .before .loop-test .taken in
     let x = s .left-read (l .k) (l .a) k (l .inv .3 s .0) in
     let y = s .right-read (l .k) (l .b) k (l .inv .3 s .1) in
-    rw (← x, ← y) (d .take-pair .ensures (l .inv .4 b s .low) (omega (arith, x, s .left-small (l .k) k, l .inv .2, b .len)) (omega (arith, y, s .right-small (l .k) k, l .inv .2, b .len)))
+    rw (← x, ← y) (d .take-pair .ensures (l .inv .4 b s .low) (omega (arith, x, s .left-small (l .k) k, l .inv .2, b .sources)) (omega (arith, y, s .right-small (l .k) k, l .inv .2, b .sources)))
 
 loop-again-2 : tie.Need-loop-again-2 Inv-loop μ-loop Inv-solve μ-solve
 loop-again-2 c =
@@ -202,7 +206,7 @@ loop-again-2 c =
     → Stands (now (c .before .before .before .before .before .before .before .before .before .before .before .before .before .before .before .before .before .before .before .before .before .before .before .before .before .before .before .before .before .before .before .before .before .before .before .before .before .args .lows)) (c .before .before .before .before .before .before .before .before .before .before .before .before .before .before .before .before .before .before .before .before .before .before .before .put-sides .last .1 .1 .1 .1 .0) (l .k + 1) (c .before .before .next .result) × Stands (now (c .before .before .before .before .before .before .before .before .before .before .before .before .before .before .before .before .before .before .before .before .before .before .before .before .before .before .before .before .before .before .before .before .before .before .before .before .before .args .lows)) (c .before .before .before .before .before .before .before .before .before .before .before .before .before .before .before .before .before .before .before .before .before .before .before .put-sides .last .1 .1 .1 .1 .1 .0) (l .k + 1) (c .next2 .result) =
     λ s. (c .before .before .next .ensures .1 (l .k) small (l .inv .3 s .0), c .next2 .ensures .1 (l .k) small (l .inv .3 s .1)) in
     let more : (got : ℕ) → numberOf (p .result) ≡ got → got ≢ 2 → l .found + got ≡ m .found
-    → Between (rowsOf (now (c .before .before .before .before .before .before .before .before .before .before .before .before .before .before .before .before .before .before .before .before .before .before .before .before .before .before .before .before .before .before .before .before .before .before .before .before .before .args .table))) (c .before .before .before .before .before .before .before .before .before .before .before .before .before .before .before .before .before .before .before .before .before .before .before .before .before .before .before .solve .links) (c .before .before .before .before .before .before .before .before .before .before .before .before .before .before .before .before .before .before .before .before .before .before .before .before .before .before .before .solve .ties) (c .before .before .before .before .before .before .before .before .before .before .before .before .before .before .before .before .before .before .before .before .before .before .before .before .before .before .before .solve .r)
+    → Holding (rowsOf (now (c .before .before .before .before .before .before .before .before .before .before .before .before .before .before .before .before .before .before .before .before .before .before .before .before .before .before .before .before .before .before .before .before .before .before .before .before .before .args .table))) (c .before .before .before .before .before .before .before .before .before .before .before .before .before .before .before .before .before .before .before .before .before .before .before .before .before .before .before .solve .links)
     → SidesRead (rowsOf (now (c .before .before .before .before .before .before .before .before .before .before .before .before .before .before .before .before .before .before .before .before .before .before .before .before .before .before .before .before .before .before .before .before .before .before .before .before .before .args .table))) (c .before .before .before .before .before .before .before .before .before .before .before .before .before .before .before .before .before .before .before .before .before .before .before .before .before .before .before .solve .r) (now (c .before .before .before .before .before .before .before .before .before .before .before .before .before .before .before .before .before .before .before .before .before .before .before .before .before .before .before .before .before .before .before .before .before .before .before .before .before .args .lows)) (c .before .before .before .before .before .before .before .before .before .before .before .before .before .before .before .before .before .before .before .before .before .before .before .put-sides .last .1 .1 .1 .1 .0) (c .before .before .before .before .before .before .before .before .before .before .before .before .before .before .before .before .before .before .before .before .before .before .before .put-sides .last .1 .1 .1 .1 .1 .0) (c .before .before .before .before .before .before .before .before .before .before .before .before .before .before .before .before .before .before .lesser2 .result)
     → Taking (leftSide (rowsOf (now (c .before .before .before .before .before .before .before .before .before .before .before .before .before .before .before .before .before .before .before .before .before .before .before .before .before .before .before .before .before .before .before .before .before .before .before .before .before .args .table))) (rowAt (rowsOf (now (c .before .before .before .before .before .before .before .before .before .before .before .before .before .before .before .before .before .before .before .before .before .before .before .before .before .before .before .before .before .before .before .before .before .before .before .before .before .args .table))) (c .before .before .before .before .before .before .before .before .before .before .before .before .before .before .before .before .before .before .before .before .before .before .before .before .before .before .before .solve .r))) (rightSide (rowsOf (now (c .before .before .before .before .before .before .before .before .before .before .before .before .before .before .before .before .before .before .before .before .before .before .before .before .before .before .before .before .before .before .before .before .before .before .before .before .before .args .table))) (rowAt (rowsOf (now (c .before .before .before .before .before .before .before .before .before .before .before .before .before .before .before .before .before .before .before .before .before .before .before .before .before .before .before .before .before .before .before .before .before .before .before .before .before .args .table))) (c .before .before .before .before .before .before .before .before .before .before .before .before .before .before .before .before .before .before .before .before .before .before .before .before .before .before .before .solve .r))) (rootsOf (c .before .before .before .before .before .before .before .before .before .before .before .before .before .before .before .before .before .before .before .before .before .before .before .before .before .before .before .solve .links)) (p .last .0) (l .k + 1) (m .found) =
     λ got e n f b s.
@@ -244,12 +248,12 @@ solve-again c =
       λ g.
           let b = o .inv .5 g in
           let s = sides (c .before .before .before .before .before .before .before) g in
-          between-next _ _ _ (o .r + 1) _
-          (between-more _ _ _ _ b (row-there (c .before .before .before .before .before .before .before)) _ _ _ _ _ (l .inv .4 b s) (ap (λ (n : ℕ). pairsFrom (leftSide t (rowAt t (o .r))) (rightSide t (rowAt t (o .r))) 0 n) w ∙ s .pairs))
-          (next-passed _ (o .r + 1) _ _ (omega (arith, c .before .before .before .before .before .before .before .before .before .before .before .before .before .before .before .solve-test .taken)) (whole-table _ _ (g .prepared .numbered) (c .before .before .before .before .before .before .before .before .before .before .before .before .before .before .before .before .before .before .lesser .ensures .0)) (n .ensures)),
+          between-next _ _ _ (g .within) _ _ _ (o .r + 1) _
+          (between-more _ _ _ (g .within) _ _ _ _ b (row-below (c .before .before .before .before .before .before .before)) _ _ _ _ _ (l .inv .4 (b .held) s) (ap (λ (n : ℕ). pairsFrom (leftSide t (rowAt t (o .r))) (rightSide t (rowAt t (o .r))) 0 n) w ∙ s .pairs))
+          (next-passed _ (o .r + 1) _ _ _ (omega (arith, row-below (c .before .before .before .before .before .before .before))) (all-rows _ _ _ (g .prepared .numbered) (g .within) (c .before .before .before .before .before .before .before .before .before .before .before .before .before .before .before .before .before .before .lesser .ensures .0)) (n .ensures)),
       λ g.
-          standing-next _ _ _ _ _ (o .r + 1) (standing-on _ _ _ _ _ _ (o .inv .6 g) _ _ _ (written (c .before .before .before .before .before .before .before) g)) _
-          (next-passed _ (o .r + 1) _ _ (omega (arith, c .before .before .before .before .before .before .before .before .before .before .before .before .before .before .before .solve-test .taken)) (whole-table _ _ (g .numbered) (c .before .before .before .before .before .before .before .before .before .before .before .before .before .before .before .before .before .before .lesser .ensures .0)) (n .ensures)),
+          standing-next _ _ _ _ _ _ _ (o .r + 1) (standing-on _ _ _ _ _ _ _ _ (o .inv .6 g) _ _ _ (written (c .before .before .before .before .before .before .before) g) (row-below (c .before .before .before .before .before .before .before))) _
+          (next-passed _ (o .r + 1) _ _ _ (omega (arith, row-below (c .before .before .before .before .before .before .before))) (all-rows _ _ _ (g .numbered) (g .within) (c .before .before .before .before .before .before .before .before .before .before .before .before .before .before .before .before .before .before .lesser .ensures .0)) (n .ensures)),
     )
 
 same-length : tie.Need-same-length Inv-loop μ-loop Inv-solve μ-solve
@@ -263,15 +267,13 @@ same-length-3 c = c .before .solve .inv .4
 
 returns : tie.Need-returns Inv-loop μ-loop Inv-solve μ-solve
 returns c = (
-  λ p l r e.
-      let g : Given (now (c .before .before .before .before .before .before .before .before .before .before .before .args .table)) (now (c .before .before .before .before .before .before .before .before .before .before .before .args .widths)) (now (c .before .before .before .before .before .before .before .before .before .before .before .args .variables)) (now (c .before .before .before .before .before .before .before .before .before .before .before .args .lows)) (now (c .before .before .before .before .before .before .before .before .before .before .before .args .left)) (now (c .before .before .before .before .before .before .before .before .before .before .before .args .right)) (now (c .before .before .before .before .before .before .before .before .before .before .before .args .links)) = record { prepared = p; left-room = l; right-room = r; fresh = e } in
-      between-done _ _ _ _ (c .before .solve .inv .5 g)
-      (omega (arith, c .solve-test .left, c .before .before .before .lesser .ensures .0, rows-length (now (c .before .before .before .before .before .before .before .before .before .before .before .args .table)), accepted-table _ (p .numbered .accepted) .few))
+  λ p l r f w e.
+      let g : Given (now (c .before .before .before .before .before .before .before .before .before .before .before .args .table)) (now (c .before .before .before .before .before .before .before .before .before .before .before .args .widths)) (now (c .before .before .before .before .before .before .before .before .before .before .before .args .variables)) (now (c .before .before .before .before .before .before .before .before .before .before .before .args .lows)) (c .before .before .before .before .before .before .before .before .before .before .before .args .from) (c .before .before .before .before .before .before .before .before .before .before .before .args .to) (now (c .before .before .before .before .before .before .before .before .before .before .before .args .left)) (now (c .before .before .before .before .before .before .before .before .before .before .before .args .right)) (now (c .before .before .before .before .before .before .before .before .before .before .before .args .links)) = record { prepared = p; left-room = l; right-room = r; forth = f; within = w; held = e } in
+      between-done _ _ _ w _ _ _ _ (c .before .solve .inv .5 g) (omega (arith, c .solve-test .left, all-rows _ _ _ (p .numbered) w (c .before .before .before .lesser .ensures .0)))
       (c .before .solve .inv .1),
-  λ p l r.
-      let g : Room (now (c .before .before .before .before .before .before .before .before .before .before .before .args .table)) (now (c .before .before .before .before .before .before .before .before .before .before .before .args .widths)) (now (c .before .before .before .before .before .before .before .before .before .before .before .args .variables)) (now (c .before .before .before .before .before .before .before .before .before .before .before .args .left)) (now (c .before .before .before .before .before .before .before .before .before .before .before .args .right)) = record { numbered = p; left-room = l; right-room = r } in
-      standing-end _ _ _ _ _ _ (c .before .solve .inv .6 g)
-      (omega (arith, c .solve-test .left, c .before .before .before .lesser .ensures .0, rows-length (now (c .before .before .before .before .before .before .before .before .before .before .before .args .table)), accepted-table _ (p .accepted) .few)),
+  λ p l r f w.
+      let g : Room (now (c .before .before .before .before .before .before .before .before .before .before .before .args .table)) (now (c .before .before .before .before .before .before .before .before .before .before .before .args .widths)) (now (c .before .before .before .before .before .before .before .before .before .before .before .args .variables)) (c .before .before .before .before .before .before .before .before .before .before .before .args .from) (c .before .before .before .before .before .before .before .before .before .before .before .args .to) (now (c .before .before .before .before .before .before .before .before .before .before .before .args .left)) (now (c .before .before .before .before .before .before .before .before .before .before .before .args .right)) = record { numbered = p; left-room = l; right-room = r; forth = f; within = w } in
+      standing-end _ _ _ _ _ _ _ _ (c .before .solve .inv .6 g) (omega (arith, c .solve-test .left, all-rows _ _ _ p w (c .before .before .before .lesser .ensures .0))),
 )
 
 same-length-4 : tie.Need-same-length-4 Inv-loop μ-loop Inv-solve μ-solve
@@ -285,18 +287,18 @@ same-length-6 c = c .before .before .before .before .take-pair .kept .0 ∙ c .b
 
 returns-2 : tie.Need-returns-2 Inv-loop μ-loop Inv-solve μ-solve
 returns-2 c = (
-  λ p l r e.
-      let g : Given (now (c .before .before .before .before .before .before .before .before .before .before .before .before .before .before .before .before .before .before .before .before .before .before .before .before .before .before .before .before .before .before .before .before .before .before .args .table)) (now (c .before .before .before .before .before .before .before .before .before .before .before .before .before .before .before .before .before .before .before .before .before .before .before .before .before .before .before .before .before .before .before .before .before .before .args .widths)) (now (c .before .before .before .before .before .before .before .before .before .before .before .before .before .before .before .before .before .before .before .before .before .before .before .before .before .before .before .before .before .before .before .before .before .before .args .variables)) (now (c .before .before .before .before .before .before .before .before .before .before .before .before .before .before .before .before .before .before .before .before .before .before .before .before .before .before .before .before .before .before .before .before .before .before .args .lows)) (now (c .before .before .before .before .before .before .before .before .before .before .before .before .before .before .before .before .before .before .before .before .before .before .before .before .before .before .before .before .before .before .before .before .before .before .args .left)) (now (c .before .before .before .before .before .before .before .before .before .before .before .before .before .before .before .before .before .before .before .before .before .before .before .before .before .before .before .before .before .before .before .before .before .before .args .right)) (now (c .before .before .before .before .before .before .before .before .before .before .before .before .before .before .before .before .before .before .before .before .before .before .before .before .before .before .before .before .before .before .before .before .before .before .args .links)) = record { prepared = p; left-room = l; right-room = r; fresh = e } in
+  λ p l r f w e.
+      let g : Given (now (c .before .before .before .before .before .before .before .before .before .before .before .before .before .before .before .before .before .before .before .before .before .before .before .before .before .before .before .before .before .before .before .before .before .before .args .table)) (now (c .before .before .before .before .before .before .before .before .before .before .before .before .before .before .before .before .before .before .before .before .before .before .before .before .before .before .before .before .before .before .before .before .before .before .args .widths)) (now (c .before .before .before .before .before .before .before .before .before .before .before .before .before .before .before .before .before .before .before .before .before .before .before .before .before .before .before .before .before .before .before .before .before .before .args .variables)) (now (c .before .before .before .before .before .before .before .before .before .before .before .before .before .before .before .before .before .before .before .before .before .before .before .before .before .before .before .before .before .before .before .before .before .before .args .lows)) (c .before .before .before .before .before .before .before .before .before .before .before .before .before .before .before .before .before .before .before .before .before .before .before .before .before .before .before .before .before .before .before .before .before .before .args .from) (c .before .before .before .before .before .before .before .before .before .before .before .before .before .before .before .before .before .before .before .before .before .before .before .before .before .before .before .before .before .before .before .before .before .before .args .to) (now (c .before .before .before .before .before .before .before .before .before .before .before .before .before .before .before .before .before .before .before .before .before .before .before .before .before .before .before .before .before .before .before .before .before .before .args .left)) (now (c .before .before .before .before .before .before .before .before .before .before .before .before .before .before .before .before .before .before .before .before .before .before .before .before .before .before .before .before .before .before .before .before .before .before .args .right)) (now (c .before .before .before .before .before .before .before .before .before .before .before .before .before .before .before .before .before .before .before .before .before .before .before .before .before .before .before .before .before .before .before .before .before .before .args .links)) = record { prepared = p; left-room = l; right-room = r; forth = f; within = w; held = e } in
       let b = c .before .before .before .before .before .before .before .before .before .before .before .before .before .before .before .before .before .before .before .before .before .before .before .before .solve .inv .5 g in
       let s = sides (c .before .before .before .before .before .before .before .before .before .before .before .before .before .before .before) g in
-      let w = c .before .before .before .before .before .before .before .before .before .before .loop in
-      between-conflict _ _ _ _ b (row-there (c .before .before .before .before .before .before .before .before .before .before .before .before .before .before .before))
+      let q = c .before .before .before .before .before .before .before .before .before .before .loop in
+      between-conflict _ _ _ w _ _ _ _ b (row-below (c .before .before .before .before .before .before .before .before .before .before .before .before .before .before .before))
       (ap (λ (v : List Pair). rep (run (rootsOf (c .before .before .before .before .before .before .before .before .before .before .before .before .before .before .before .before .before .before .before .before .before .before .before .before .solve .links)) v) 1) (sym (s .pairs))
-      ∙ taking-conflict _ _ _ (w .links) (w .k) (w .found) (w .inv .4 b s) _ _ (pair-taken (c .before .before .before .before) b s) (ap numberOf (c .enum-told3 .given .1)) _ (c .before .before .before .before .before .before .before .before .before .loop-test .taken)) _
+      ∙ taking-conflict _ _ _ (q .links) (q .k) (q .found) (q .inv .4 (b .held) s) _ _ (pair-taken (c .before .before .before .before) (b .held) s) (ap numberOf (c .enum-told3 .given .1)) _ (c .before .before .before .before .before .before .before .before .before .loop-test .taken)) _
       (c .before .before .before .before .before .before .before .before .before .before .before .before .before .before .before .before .before .before .before .before .before .before .before .before .solve .inv .1),
-  λ p l r.
-      let g : Room (now (c .before .before .before .before .before .before .before .before .before .before .before .before .before .before .before .before .before .before .before .before .before .before .before .before .before .before .before .before .before .before .before .before .before .before .args .table)) (now (c .before .before .before .before .before .before .before .before .before .before .before .before .before .before .before .before .before .before .before .before .before .before .before .before .before .before .before .before .before .before .before .before .before .before .args .widths)) (now (c .before .before .before .before .before .before .before .before .before .before .before .before .before .before .before .before .before .before .before .before .before .before .before .before .before .before .before .before .before .before .before .before .before .before .args .variables)) (now (c .before .before .before .before .before .before .before .before .before .before .before .before .before .before .before .before .before .before .before .before .before .before .before .before .before .before .before .before .before .before .before .before .before .before .args .left)) (now (c .before .before .before .before .before .before .before .before .before .before .before .before .before .before .before .before .before .before .before .before .before .before .before .before .before .before .before .before .before .before .before .before .before .before .args .right)) = record { numbered = p; left-room = l; right-room = r } in
-      standing-conflict _ _ _ _ _ _ (standing-more _ _ _ _ _ _ (c .before .before .before .before .before .before .before .before .before .before .before .before .before .before .before .before .before .before .before .before .before .before .before .before .solve .inv .6 g) _ _ _ (written (c .before .before .before .before .before .before .before .before .before .before .before .before .before .before .before) g)),
+  λ p l r f w.
+      let g : Room (now (c .before .before .before .before .before .before .before .before .before .before .before .before .before .before .before .before .before .before .before .before .before .before .before .before .before .before .before .before .before .before .before .before .before .before .args .table)) (now (c .before .before .before .before .before .before .before .before .before .before .before .before .before .before .before .before .before .before .before .before .before .before .before .before .before .before .before .before .before .before .before .before .before .before .args .widths)) (now (c .before .before .before .before .before .before .before .before .before .before .before .before .before .before .before .before .before .before .before .before .before .before .before .before .before .before .before .before .before .before .before .before .before .before .args .variables)) (c .before .before .before .before .before .before .before .before .before .before .before .before .before .before .before .before .before .before .before .before .before .before .before .before .before .before .before .before .before .before .before .before .before .before .args .from) (c .before .before .before .before .before .before .before .before .before .before .before .before .before .before .before .before .before .before .before .before .before .before .before .before .before .before .before .before .before .before .before .before .before .before .args .to) (now (c .before .before .before .before .before .before .before .before .before .before .before .before .before .before .before .before .before .before .before .before .before .before .before .before .before .before .before .before .before .before .before .before .before .before .args .left)) (now (c .before .before .before .before .before .before .before .before .before .before .before .before .before .before .before .before .before .before .before .before .before .before .before .before .before .before .before .before .before .before .before .before .before .before .args .right)) = record { numbered = p; left-room = l; right-room = r; forth = f; within = w } in
+      standing-conflict _ _ _ _ _ _ _ _ (standing-more _ _ _ _ _ _ _ _ (c .before .before .before .before .before .before .before .before .before .before .before .before .before .before .before .before .before .before .before .before .before .before .before .before .solve .inv .6 g) _ _ _ (written (c .before .before .before .before .before .before .before .before .before .before .before .before .before .before .before) g) (row-below (c .before .before .before .before .before .before .before .before .before .before .before .before .before .before .before))),
 )
 
 pub take-equations-spec : {M : Type 1} → statement M

@@ -30,10 +30,10 @@ same-length-2 c = search needs
 
 returns : tie.Need-returns
 returns c =
-    λ accepted widths variables sources long linked k sixteen room.
+    λ placed linked k sixteen room.
     let i = c .before .before .before .before in
     let d = i .before .before .before .before in
-    tells-never _ _ _ _ 0 (now (d .before .before .before .before .before .before .before .before .args .plan)) _ accepted (d .table-classes .ensures accepted widths variables sources long (omega (arith, length-replicate {A = ℕ} 4096 0)) linked) sixteen room (i .if1 .taken) (c .before .before .put-never .ensures)
+    tells-never _ _ _ _ 0 (now (d .before .before .before .before .before .before .before .before .args .plan)) _ (placed .numbered .accepted) (d .table-classes .ensures placed (omega (arith, length-replicate {A = ℕ} 4096 0)) linked) sixteen room (i .if1 .taken) (c .before .before .put-never .ensures)
 
 put-rows-requires : tie.Need-put-rows-requires
 put-rows-requires c κs = search needs
@@ -46,10 +46,10 @@ same-length-4 c = search needs
 
 returns-2 : tie.Need-returns-2
 returns-2 c =
-    λ accepted widths variables sources long linked k sixteen room.
+    λ placed linked k sixteen room.
     let i = c .before .before .before .before .before in
     let d = i .before .before .before .before in
-    tells-rows _ _ _ _ _ (now (d .before .before .before .before .before .before .before .before .args .plan)) _ accepted (d .table-classes .ensures accepted widths variables sources long (omega (arith, length-replicate {A = ℕ} 4096 0)) linked) sixteen room (i .if1 .left) k (c .before .before .put-rows .ensures)
+    tells-rows _ _ _ _ _ (now (d .before .before .before .before .before .before .before .before .args .plan)) _ (placed .numbered .accepted) (d .table-classes .ensures placed (omega (arith, length-replicate {A = ℕ} 4096 0)) linked) sixteen room (i .if1 .left) k (c .before .before .put-rows .ensures)
 
 pub plan-table-spec : {M : Type 1} → statement M
 plan-table-spec =

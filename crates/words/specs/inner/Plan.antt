@@ -2,20 +2,19 @@
 -- there are. Fixed rows stand from row 1 on (at most 64), equal rows from row 65 on (at most 1,023).
 use mathlib.Core.Path.{_≡_}
 use mathlib.Core.Logic.{_⊎_}
-use mathlib.Core.Bool.{Bool, true, false, not, _&&_}
+use mathlib.Core.Bool.{Bool, true, false, _&&_}
 use mathlib.Core.List.{List}
 use Prim.Native.Nat.{ℕ, suc, _+_, _*_, _/_, _%_, _^_, _-_, _≤_, _<_, min}
 use lib.Bits.{bitAnd}
-use lib.Dec.{eqb, leb, ltb}
-use lib.ListN.{length, getD, take}
-use Rattle.terms.specs.declared.Fault.the-variants.{Accepted}
-use Rattle.terms.specs.Table.{rowsOf, bitsOf, widthOf, countKind, satisfies}
-use Rattle.terms.specs.Faults.{firstFault}
-use Rattle.terms.specs.inner.Places.{sourceBefore}
+use lib.Dec.{eqb, leb}
+use lib.ListN.{length, getD}
+use Rattle.terms.specs.Table.{rowsOf, bitsOf, countKind, satisfies}
+use Rattle.terms.specs.inner.Placed.{Placed}
 use Rattle.laws.specs.Lists.{below}
-use Rattle.answers.specs.Answer.{implies, variableWidths}
+use Rattle.laws.specs.Bools.{implies}
+use Rattle.answers.specs.Answer.{variableWidths}
 use Rattle.groups.specs.inner.Places.{equalTest, fixedPlace, agreesAt}
-use Rattle.words.specs.Words.{wordsBits, sixteens}
+use Rattle.windows.specs.Words.{wordsBits, sixteens}
 
 -- A fixed row is x, mask, value, 0: the bits of word x that the mask has are the value.
 unfoldable pub fixedTest : List ℕ → List ℕ → ℕ → Bool
@@ -64,18 +63,13 @@ abbrev pub Tells : List ℕ → List ℕ → Type 0
 Tells table plan =
     (window : List ℕ) → length window ≡ countKind 0 (rowsOf table) → meetsPlan plan window ≡ satisfies (rowsOf table) (wordsBits window)
 
--- The plan of an accepted table of k variables that have 16 bits each, from its widths, the places of its variables, and a link for each
--- source.
+-- The plan of a table that was placed, of k variables that have 16 bits each, from a link for each source.
 abbrev pub Plans : List ℕ → List ℕ → List ℕ → List ℕ → ℕ → List ℕ → List ℕ → Type 0
 Plans table widths places links k plan plan′ =
-    firstFault table ≡ Accepted → ((r : ℕ) → r < length (rowsOf table) → getD widths r 0 ≡ widthOf (rowsOf table) r)
-    → ((r : ℕ) → r < length (rowsOf table) → getD places r 0 ≡ countKind 0 (take r (rowsOf table)))
-    → ((v : ℕ) → v ≤ countKind 0 (rowsOf table) → getD places (512 + v) 0 ≡ sourceBefore (rowsOf table) v) → 577 ≤ length places
-    → length links ≡ suc (suc (bitsOf (rowsOf table))) → k ≡ countKind 0 (rowsOf table)
+    Placed table widths places → length links ≡ suc (suc (bitsOf (rowsOf table))) → k ≡ countKind 0 (rowsOf table)
     → sixteens (variableWidths (rowsOf table)) ≡ true → 4352 ≤ length plan → Tells table plan′
 
--- The same from its widths alone.
-abbrev pub Prepares : List ℕ → List ℕ → List ℕ → List ℕ → Type 0
-Prepares table widths plan plan′ =
-    firstFault table ≡ Accepted → ((r : ℕ) → r < length (rowsOf table) → getD widths r 0 ≡ widthOf (rowsOf table) r)
-    → sixteens (variableWidths (rowsOf table)) ≡ true → 4352 ≤ length plan → Tells table plan′
+-- The same, from its variable bits.
+abbrev pub Prepares : List ℕ → List ℕ → List ℕ → ℕ → List ℕ → List ℕ → Type 0
+Prepares table widths places bits plan plan′ =
+    Placed table widths places → bits ≡ bitsOf (rowsOf table) → sixteens (variableWidths (rowsOf table)) ≡ true → 4352 ≤ length plan → Tells table plan′

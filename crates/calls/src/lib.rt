@@ -1,0 +1,1 @@
+// The calls together: what is said of every one of them. There is no code here: specs/ has the definitions, proofs/ the theorems.

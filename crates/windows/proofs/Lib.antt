@@ -1,0 +1,5 @@
+pub mod WordsBits
+pub mod Sixteens
+pub mod Starts
+pub mod Positions
+pub mod Worked
