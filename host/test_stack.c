@@ -44,6 +44,22 @@ typedef struct {
     size_t size;      /* the field free, a right side's length, or a page's lines */
 } call;
 
+/*
+  A test: the steps by which its input is made, each a function with a number,
+  and what the call gives then.
+*/
+typedef struct {
+    const char *name;
+    struct {
+        void (*make)(call *, size_t number);
+        size_t number;
+    } steps[5];
+    uint32_t outcome;
+    size_t size;
+} test;
+
+/* Tables. */
+
 static void add(call *c, size_t kind, size_t a, size_t b, size_t low)
 {
     uint16_t *n = c->table + c->table_len;
@@ -64,15 +80,15 @@ static void marker(call *c, size_t width)
     add(c, LW_VALUE, 1, width, 0);
 }
 
-/* Each row is a cut of all bits of the row before it. */
-static void add_cuts(call *c, size_t width)
+/* Each row up to row 511 is a cut of all bits of the row before it. */
+static void cuts(call *c, size_t width)
 {
     for (size_t r = 1; r < 512; r++)
         add(c, LW_CUT, r - 1, width - 1, 0);
 }
 
 /* Each row is a join of the row before it, on the left, and of a row of one bit, row 0 or 1. */
-static void add_left_joins(call *c, size_t bit)
+static void left_joins(call *c, size_t bit)
 {
     add(c, LW_CUT, 0, 0, 0);
     for (size_t r = 2; r < 512; r++)
@@ -80,7 +96,7 @@ static void add_left_joins(call *c, size_t bit)
 }
 
 /* The same with the row before it on the right. */
-static void add_right_joins(call *c, size_t bit)
+static void right_joins(call *c, size_t bit)
 {
     add(c, LW_CUT, 0, 0, 0);
     for (size_t r = 2; r < 512; r++)
@@ -88,7 +104,7 @@ static void add_right_joins(call *c, size_t bit)
 }
 
 /* Cuts and joins in turn. */
-static void add_cuts_and_joins(call *c, size_t bit)
+static void cuts_and_joins(call *c, size_t bit)
 {
     for (size_t r = 1; r < 512; r++)
         if (r % 2 == 1)
@@ -97,90 +113,22 @@ static void add_cuts_and_joins(call *c, size_t bit)
             add(c, LW_JOIN, r - 1, bit, 0);
 }
 
-static void cuts(call *c)
+/* Row 511 is changed: a cut from this bit on, or a marker of this many bits, too few for its value. */
+
+static void last_cut(call *c, size_t high)
 {
-    variable(c, 1024);
-    add_cuts(c, 1024);
+    c->table[4 * 511 + 2] = (uint16_t)high;
 }
 
-static void left_joins(call *c)
+static void last_marker(call *c, size_t width)
 {
-    variable(c, 1);
-    add_left_joins(c, 0);
+    c->table_len = 4 * 511;
+    add(c, LW_VALUE, 65535, width, 0);
 }
-
-static void right_joins(call *c)
-{
-    variable(c, 1);
-    add_right_joins(c, 0);
-}
-
-static void cuts_and_joins(call *c)
-{
-    variable(c, 1);
-    add_cuts_and_joins(c, 0);
-}
-
-static void cuts_of_marker(call *c)
-{
-    marker(c, 16);
-    add_cuts(c, 16);
-}
-
-static void left_joins_of_marker(call *c)
-{
-    marker(c, 1);
-    add_left_joins(c, 0);
-}
-
-static void right_joins_of_marker(call *c)
-{
-    marker(c, 1);
-    add_right_joins(c, 0);
-}
-
-static void cuts_and_joins_of_marker(call *c)
-{
-    marker(c, 1);
-    add_cuts_and_joins(c, 0);
-}
-
-static void one_variable(call *c)
-{
-    variable(c, 1024);
-}
-
-/* Refused at its last row. */
-static void bad_cut(call *c)
-{
-    cuts(c);
-    c->table[4 * 511 + 2] = 1024;
-}
-
-static void bad_marker(call *c)
-{
-    cuts(c);
-    c->table[4 * 511] = LW_VALUE, c->table[4 * 511 + 1] = 65535, c->table[4 * 511 + 2] = 15;
-}
-
-/* Refused at once. */
-static void no_whole_row(call *c)
-{
-    cuts(c);
-    c->table_len--;
-}
-
-static void bad_pattern(call *c)
-{
-    cuts(c);
-    c->pattern[1023] = 2;
-}
-
-/* Tables to be solved. */
 
 /*
-  Puts an equation in place of the last rows: row 508, which has this width,
-  without its low bit and without its high bit.
+  In place of the last rows an equation: row 508, which has this width, without
+  its low bit and without its high bit.
 */
 static void shift(call *c, size_t width)
 {
@@ -190,62 +138,25 @@ static void shift(call *c, size_t width)
     add(c, LW_EQUATION, 509, 510, 0);
 }
 
-static void solve_cuts(call *c)
+/* The same, the second side without its two high bits. */
+static void uneven_shift(call *c, size_t width)
 {
-    cuts(c);
-    shift(c, 1024);
+    shift(c, width);
+    c->table[4 * 510 + 2]--;
 }
 
-static void solve_left_joins(call *c)
+/*
+  In place of the last rows an equation: row 508, which has this width, without
+  its high and its low bit, equal to itself. Before it stands a variable. The run
+  is the longest.
+*/
+static void search(call *c, size_t width)
 {
-    left_joins(c);
-    shift(c, 508);
-}
-
-static void solve_right_joins(call *c)
-{
-    right_joins(c);
-    shift(c, 508);
-}
-
-static void solve_cuts_and_joins(call *c)
-{
-    cuts_and_joins(c);
-    shift(c, 255);
-}
-
-static void solve_cuts_of_marker(call *c)
-{
-    cuts_of_marker(c);
-    shift(c, 16);
-}
-
-static void solve_left_joins_of_marker(call *c)
-{
-    left_joins_of_marker(c);
-    shift(c, 508);
-}
-
-static void solve_right_joins_of_marker(call *c)
-{
-    right_joins_of_marker(c);
-    shift(c, 508);
-}
-
-static void solve_cuts_and_joins_of_marker(call *c)
-{
-    cuts_and_joins_of_marker(c);
-    shift(c, 255);
-}
-
-/* The same for joins of a marker, the second side without its two high bits. */
-static void solve_short(call *c)
-{
-    left_joins_of_marker(c);
     c->table_len = 4 * 509;
-    add(c, LW_CUT, 508, 507, 1);
-    add(c, LW_CUT, 508, 505, 0);
-    add(c, LW_EQUATION, 509, 510, 0);
+    add(c, LW_CUT, 508, width - 2, 1);
+    add(c, LW_VARIABLE, 16, 0, 0);
+    add(c, LW_EQUATION, 509, 509, 0);
+    c->words_len = LW_MAX_WORDS;
 }
 
 /* 64 variables of 64 bits, joined to four words of 1024 bits, and so many equations between these. */
@@ -265,122 +176,6 @@ static void words(call *c, size_t equations)
         add(c, LW_EQUATION, word[e % 4], word[(e + 1) % 4], 0);
 }
 
-static void solve_words(call *c)
-{
-    words(c, 64);
-}
-
-/* Gives the equations line numbers, so many different ones. */
-static void number_lines(call *c, size_t lines)
-{
-    for (size_t i = 0, e = 0; i < c->table_len; i += 4)
-        if (c->table[i] == LW_EQUATION)
-            c->table[i + 3] = (uint16_t)(1 + e++ % lines);
-}
-
-static void solve_lines(call *c)
-{
-    words(c, 64);
-    number_lines(c, 64);
-}
-
-/* Half of the equations do not count. */
-static void solve_revised(call *c)
-{
-    words(c, 64);
-    number_lines(c, 32);
-}
-
-/* The last equation cannot be met. */
-static void solve_never(call *c)
-{
-    words(c, 63);
-    add(c, LW_FILL, 0, 1, 0);
-    add(c, LW_FILL, 1, 1, 0);
-    add(c, LW_EQUATION, c->table_len / 4 - 2, c->table_len / 4 - 1, 0);
-}
-
-static void short_work(call *c)
-{
-    words(c, 64);
-    c->work_len--;
-}
-
-/* Tables of 16-bit variables, on the longest run; its words are all 0. */
-
-static void longest_run(call *c)
-{
-    c->words_len = LW_MAX_WORDS;
-}
-
-/*
-  Puts an equation in place of the last rows: row 508, which has this width,
-  without its high and its low bit, equal to itself. Before it stands a variable.
-*/
-static void search(call *c, size_t width)
-{
-    c->table_len = 4 * 509;
-    add(c, LW_CUT, 508, width - 2, 1);
-    add(c, LW_VARIABLE, 16, 0, 0);
-    add(c, LW_EQUATION, 509, 509, 0);
-    longest_run(c);
-}
-
-static void search_word(call *c)
-{
-    variable(c, 16);
-    longest_run(c);
-}
-
-static void search_cuts(call *c)
-{
-    variable(c, 16);
-    add_cuts(c, 16);
-    search(c, 16);
-}
-
-static void search_left_joins(call *c)
-{
-    variable(c, 16);
-    add_left_joins(c, 1);
-    search(c, 508);
-}
-
-static void search_right_joins(call *c)
-{
-    variable(c, 16);
-    add_right_joins(c, 1);
-    search(c, 508);
-}
-
-static void search_cuts_and_joins(call *c)
-{
-    variable(c, 16);
-    add_cuts_and_joins(c, 1);
-    search(c, 255);
-}
-
-static void search_left_joins_of_marker(call *c)
-{
-    marker(c, 16);
-    add_left_joins(c, 1);
-    search(c, 508);
-}
-
-static void search_right_joins_of_marker(call *c)
-{
-    marker(c, 16);
-    add_right_joins(c, 1);
-    search(c, 508);
-}
-
-static void search_cuts_and_joins_of_marker(call *c)
-{
-    marker(c, 16);
-    add_cuts_and_joins(c, 1);
-    search(c, 255);
-}
-
 /* All bits of so many of 64 words are equal. The run is shorter, for the time. */
 static void equal_words(call *c, size_t count)
 {
@@ -394,56 +189,30 @@ static void equal_words(call *c, size_t count)
     c->words_len = 1000;
 }
 
-static void search_equal(call *c)
+/* Gives the equations line numbers, so many different ones. */
+static void line_numbers(call *c, size_t lines)
 {
-    equal_words(c, 64);
+    for (size_t i = 0, e = 0; i < c->table_len; i += 4)
+        if (c->table[i] == LW_EQUATION)
+            c->table[i + 3] = (uint16_t)(1 + e++ % lines);
 }
 
-static void search_revised(call *c)
+/* One equation more, which cannot be met: between fills of 0 and 1, or of a marker of this width and variable 0. */
+
+static void unequal_fills(call *c, size_t width)
 {
-    equal_words(c, 64);
-    number_lines(c, 32);
+    add(c, LW_FILL, 0, width, 0);
+    add(c, LW_FILL, 1, width, 0);
+    add(c, LW_EQUATION, c->table_len / 4 - 2, c->table_len / 4 - 1, 0);
 }
 
-/* The last equation cannot be met. */
-static void search_never(call *c)
+static void unequal_marker(call *c, size_t width)
 {
-    equal_words(c, 63);
-    add(c, LW_VALUE, 1, 16, 0);
+    marker(c, width);
     add(c, LW_EQUATION, c->table_len / 4 - 1, 0, 0);
 }
 
-static void no_word(call *c)
-{
-    variable(c, 1024);
-    longest_run(c);
-}
-
-static void too_long_run(call *c)
-{
-    search_word(c);
-    c->words_len++;
-}
-
-/* Answer tables. */
-
-static void all_rows(call *c)
-{
-    c->rows_in_use = LW_ANSWER_NUMBERS / LW_ANSWER_ROW_NUMBERS;
-}
-
-static void no_such_variable(call *c)
-{
-    all_rows(c);
-    c->variable = 1;
-}
-
-static void too_many_rows(call *c)
-{
-    c->rows_in_use = LW_ANSWER_NUMBERS / LW_ANSWER_ROW_NUMBERS + 1;
-}
-
-/* Answer tables of which a pattern is made, with fresh bits that are all 0. */
+/* Answer tables, and fresh bits that are all 0. */
 
 static void answer_row(call *c, size_t variable, size_t kind, size_t width, size_t fresh, size_t home, size_t high)
 {
@@ -451,129 +220,59 @@ static void answer_row(call *c, size_t variable, size_t kind, size_t width, size
     n[0] = (uint16_t)variable, n[1] = (uint16_t)kind, n[2] = (uint16_t)width, n[3] = (uint16_t)fresh;
     n[4] = (uint16_t)home, n[5] = (uint16_t)high;
     c->answer_len += LW_ANSWER_ROW_NUMBERS;
+    c->pattern_len += width;
 }
 
-static void no_rows(call *c)
+static void one_fill(call *c, size_t width)
 {
-    c->pattern_len = sizeof c->pattern;
+    answer_row(c, 0, 1, width, 0, 0, width - 1);
 }
 
-static void one_bit(call *c)
+/* So many rows of width 1, each a fresh piece of its own. */
+static void fresh_rows(call *c, size_t count)
 {
-    answer_row(c, 0, LW_FRESH, 1, 0, 0, 0);
-    c->pattern_len = c->fresh_len = 1;
-}
-
-static void one_fill(call *c)
-{
-    answer_row(c, 0, 1, 1024, 0, 0, 1023);
-    c->pattern_len = 1024;
-}
-
-/* 4096 rows of width 1, each a fresh piece of its own. */
-static void fresh_rows(call *c)
-{
-    for (size_t i = 0; i < 4096; i++)
-        answer_row(c, i / 1024, LW_FRESH, 1, i, i / 1024, 1023 - i % 1024);
-    c->pattern_len = c->fresh_len = 4096;
+    for (size_t i = 0; i < count; i++)
+        answer_row(c, i / 1024, LW_FRESH, 1, i, i / 1024, (count - 1 - i) % 1024);
+    c->fresh_len = count;
 }
 
 /* The same with one fresh piece. */
-static void one_piece(call *c)
+static void one_piece(call *c, size_t count)
 {
-    for (size_t i = 0; i < 4096; i++)
+    for (size_t i = 0; i < count; i++)
         answer_row(c, i / 1024, LW_FRESH, 1, 0, 0, 1023);
-    c->pattern_len = 4096;
     c->fresh_len = 1;
 }
 
 /* The same with fills of 0 and 1 in turn. */
-static void fill_rows(call *c)
+static void fill_rows(call *c, size_t count)
 {
-    for (size_t i = 0; i < 4096; i++)
+    for (size_t i = 0; i < count; i++)
         answer_row(c, i / 1024, i % 2, 1, 0, i / 1024, 1023 - i % 1024);
-    c->pattern_len = 4096;
 }
 
-/* 64 variables, each of 64 bits in one fresh piece. */
-static void wide_rows(call *c)
+/* So many variables, each of 64 bits in one fresh piece. */
+static void wide_rows(call *c, size_t count)
 {
-    for (size_t v = 0; v < 64; v++)
+    for (size_t v = 0; v < count; v++)
         answer_row(c, v, LW_FRESH, 64, v, v, 63);
-    c->pattern_len = c->fresh_len = 4096;
+    c->fresh_len = c->pattern_len;
 }
 
-static void no_whole_answer_row(call *c)
+/* The record of a solved table of so many pieces, and of a refusal. */
+static void solved(call *c, size_t pieces)
 {
-    fresh_rows(c);
-    c->answer_len--;
+    c->record = (lw_record){.outcome = LW_SOLVED, .pieces = (uint32_t)pieces};
 }
 
-/* Refused at its last row: for its fresh number, its home and its high. */
-static void bad_answer_row(call *c)
+static void refused(call *c, size_t outcome)
 {
-    fresh_rows(c);
-    c->answer[6 * 4095 + 3] = 4096;
+    c->record.outcome = (uint32_t)outcome;
 }
 
-static void bad_home(call *c)
-{
-    fresh_rows(c);
-    c->answer[6 * 4095 + 4] = 2;
-}
+/* Sheets: so many lines more, as far as there is room. Their tables are lent whole. */
 
-static void bad_high(call *c)
-{
-    fresh_rows(c);
-    c->answer[6 * 4095 + 5] = 1;
-}
-
-static void few_fresh_bits(call *c)
-{
-    fresh_rows(c);
-    c->fresh_len--;
-}
-
-static void bad_fresh_bit(call *c)
-{
-    fresh_rows(c);
-    c->fresh[4095] = 2;
-}
-
-static void short_pattern(call *c)
-{
-    fresh_rows(c);
-    c->pattern_len--;
-}
-
-/* Pages. */
-
-static void full_page(call *c)
-{
-    fresh_rows(c);
-    c->record = (lw_record){.outcome = LW_SOLVED, .pieces = 4096};
-}
-
-static void last_page(call *c)
-{
-    full_page(c);
-    c->number = 69;
-}
-
-static void past_page(call *c)
-{
-    full_page(c);
-    c->number = SIZE_MAX;
-}
-
-static void refused_page(call *c)
-{
-    c->record.outcome = UINT32_MAX;
-}
-
-/* Sheets; their tables are lent whole. */
-
-static void lines(call *c, const char *line, size_t count)
+static void add_lines(call *c, const char *line, size_t count)
 {
     size_t len = strlen(line);
     c->table_len = LW_TABLE_NUMBERS;
@@ -583,161 +282,159 @@ static void lines(call *c, const char *line, size_t count)
     }
 }
 
-static void one_line(call *c)
-{
-    lines(c, "kind a b c\n", 1);
-    lines(c, "0 8 0 0\n", 1);
-}
+#define LINES(name, line)                                                                              \
+    static void name(call *c, size_t count)                                                            \
+    {                                                                                                  \
+        add_lines(c, line, count);                                                                     \
+    }
 
-/* The longest sheet that is read. */
-static void long_lines(call *c)
-{
-    lines(c, "c b a kind\n", 1);
-    lines(c, "65535 65535 65535 65535\n", 512);
-}
+LINES(names, "kind a b c\n")
+LINES(names_turned, "c b a kind\n")
+LINES(names_twice_b, "c b a kinb\n")
+LINES(variable_of_8_bits, "0 8 0 0\n")
+LINES(zeros, "0 0 0 0\n")
+LINES(decimal, "65535 65535 65535 65535\n")
+LINES(hexadecimal, "hffff hffff hffff hffff\n")
+LINES(end_of_16384, "10000 10000 10000 10\n")
+LINES(empty, "\n")
 
-/* As long, in hexadecimal. */
-static void hexadecimal_lines(call *c)
-{
-    lines(c, "c b a kind\n", 1);
-    lines(c, "hffff hffff hffff hffff\n", 512);
-}
+/* A field is this number, or is so much less; the last of an array is this number. */
 
-/* The longest sheet that is looked at. */
-static void many_lines(call *c)
-{
-    lines(c, "c b a kind\n0 0 0 0\n", 1);
-    lines(c, "65535 65535 65535 65535\n", 681);
-    lines(c, "10000 10000 10000 10\n", 1);
-}
+#define SET(field)                                                                                     \
+    static void set_##field(call *c, size_t number)                                                    \
+    {                                                                                                  \
+        c->field = number;                                                                             \
+    }
+#define LESS(field)                                                                                    \
+    static void less_##field(call *c, size_t number)                                                   \
+    {                                                                                                  \
+        c->field -= number;                                                                            \
+    }
+#define LAST(name, type, array, index)                                                                 \
+    static void name(call *c, size_t number)                                                           \
+    {                                                                                                  \
+        c->array[index] = (type)number;                                                                \
+    }
 
-static void too_long(call *c)
-{
-    many_lines(c);
-    lines(c, "\n", 1);
-}
+SET(words_len)
+SET(rows_in_use)
+SET(variable)
+SET(number)
+SET(pattern_len)
+LESS(table_len)
+LESS(work_len)
+LESS(sheet_len)
+LESS(answer_len)
+LESS(fresh_len)
+LESS(pattern_len)
+LAST(last_bit, uint8_t, pattern, c->pattern_len - 1)
+LAST(last_fresh_bit, uint8_t, fresh, c->fresh_len - 1)
+LAST(last_fresh, uint16_t, answer, c->answer_len - 3)
+LAST(last_home, uint16_t, answer, c->answer_len - 2)
+LAST(last_high, uint16_t, answer, c->answer_len - 1)
 
-static void no_names(call *c)
-{
-    long_lines(c);
-    c->sheet[9] = 'b';
-}
+/* The tests of each call. */
 
-static void no_end(call *c)
-{
-    long_lines(c);
-    c->sheet_len--;
-}
-
-static void short_output(call *c)
-{
-    long_lines(c);
-    c->table_len--;
-}
-
-/* The tests: what a call is made on, and what it gives then. */
-
-typedef struct {
-    const char *name;
-    void (*make)(call *);
-    uint32_t outcome;
-    size_t size;
-} test;
+#define CUTS {variable, 1024}, {cuts, 1024}
+#define NOT_WHOLE_ROWS {"refused 11", {CUTS, {less_table_len, 1}}, LW_REFUSED_TABLE, 0}
+#define BAD_CUT {"refused 16 at row 511", {CUTS, {last_cut, 1024}}, LW_REFUSED_CUT, 0}
+#define BAD_MARKER {"refused 40 at row 511", {CUTS, {last_marker, 15}}, LW_REFUSED_VALUE, 0}
 
 /* The last is for values alone: only they have a pattern. */
 static const test tables[] = {
-    {"one variable", one_variable, LW_ACCEPTED, 1024},
-    {"512 rows, chained cuts", cuts, LW_ACCEPTED, 1024},
-    {"512 rows, joins chained on the left", left_joins, LW_ACCEPTED, 511},
-    {"512 rows, joins chained on the right", right_joins, LW_ACCEPTED, 511},
-    {"512 rows, cuts and joins in turn", cuts_and_joins, LW_ACCEPTED, 256},
-    {"chained cuts of a marker", cuts_of_marker, LW_ACCEPTED, 16},
-    {"joins of a marker, on the left", left_joins_of_marker, LW_ACCEPTED, 511},
-    {"joins of a marker, on the right", right_joins_of_marker, LW_ACCEPTED, 511},
-    {"cuts and joins of a marker", cuts_and_joins_of_marker, LW_ACCEPTED, 256},
-    {"refused 11", no_whole_row, LW_REFUSED_TABLE, 0},
-    {"refused 16 at row 511", bad_cut, LW_REFUSED_CUT, 0},
-    {"refused 40 at row 511", bad_marker, LW_REFUSED_VALUE, 0},
-    {"refused 31", bad_pattern, LW_REFUSED_PATTERN, 0},
+    {"one variable", {{variable, 1024}}, LW_ACCEPTED, 1024},
+    {"512 rows, chained cuts", {CUTS}, LW_ACCEPTED, 1024},
+    {"512 rows, joins chained on the left", {{variable, 1}, {left_joins, 0}}, LW_ACCEPTED, 511},
+    {"512 rows, joins chained on the right", {{variable, 1}, {right_joins, 0}}, LW_ACCEPTED, 511},
+    {"512 rows, cuts and joins in turn", {{variable, 1}, {cuts_and_joins, 0}}, LW_ACCEPTED, 256},
+    {"chained cuts of a marker", {{marker, 16}, {cuts, 16}}, LW_ACCEPTED, 16},
+    {"joins of a marker, on the left", {{marker, 1}, {left_joins, 0}}, LW_ACCEPTED, 511},
+    {"joins of a marker, on the right", {{marker, 1}, {right_joins, 0}}, LW_ACCEPTED, 511},
+    {"cuts and joins of a marker", {{marker, 1}, {cuts_and_joins, 0}}, LW_ACCEPTED, 256},
+    NOT_WHOLE_ROWS,
+    BAD_CUT,
+    BAD_MARKER,
+    {"refused 31", {CUTS, {last_bit, 2}}, LW_REFUSED_PATTERN, 0},
 };
 static const test sheets[] = {
-    {"one line", one_line, LW_ACCEPTED, 0},
-    {"12299 bytes, 512 lines", long_lines, LW_ACCEPTED, 0},
-    {"12299 bytes, hexadecimal", hexadecimal_lines, LW_ACCEPTED, 0},
-    {"refused 20", too_long, LW_REFUSED_SHEET, 0},
-    {"refused 21", no_names, LW_REFUSED_NAMES, 0},
-    {"refused 22 at line 511", no_end, LW_REFUSED_LINE, 0},
-    {"16384 bytes, refused 23", many_lines, LW_REFUSED_LINES, 0},
-    {"refused 32", short_output, LW_REFUSED_OUTPUT, 0},
+    {"one line", {{names, 1}, {variable_of_8_bits, 1}}, LW_ACCEPTED, 0},
+    {"12299 bytes, 512 lines", {{names_turned, 1}, {decimal, 512}}, LW_ACCEPTED, 0},
+    {"12299 bytes, hexadecimal", {{names_turned, 1}, {hexadecimal, 512}}, LW_ACCEPTED, 0},
+    {"refused 20", {{names_turned, 1}, {zeros, 1}, {decimal, 681}, {end_of_16384, 1}, {empty, 1}}, LW_REFUSED_SHEET, 0},
+    {"refused 21", {{names_twice_b, 1}, {decimal, 512}}, LW_REFUSED_NAMES, 0},
+    {"refused 22 at line 511", {{names_turned, 1}, {decimal, 512}, {less_sheet_len, 1}}, LW_REFUSED_LINE, 0},
+    {"16384 bytes, refused 23", {{names_turned, 1}, {zeros, 1}, {decimal, 681}, {end_of_16384, 1}}, LW_REFUSED_LINES, 0},
+    {"refused 32", {{names_turned, 1}, {decimal, 512}, {less_table_len, 1}}, LW_REFUSED_OUTPUT, 0},
 };
 static const test solves[] = {
-    {"one variable", one_variable, LW_ALWAYS, 1024},
-    {"512 rows, chained cuts", solve_cuts, LW_SOLVED, 1},
-    {"512 rows, joins chained on the left", solve_left_joins, LW_ALWAYS, 1},
-    {"512 rows, joins chained on the right", solve_right_joins, LW_ALWAYS, 1},
-    {"512 rows, cuts and joins in turn", solve_cuts_and_joins, LW_ALWAYS, 1},
-    {"chained cuts of a marker", solve_cuts_of_marker, LW_NEVER, 0},
-    {"joins of a marker, on the left", solve_left_joins_of_marker, LW_ALWAYS, 0},
-    {"joins of a marker, on the right", solve_right_joins_of_marker, LW_ALWAYS, 0},
-    {"cuts and joins of a marker", solve_cuts_and_joins_of_marker, LW_ALWAYS, 0},
-    {"joins of a word's bit, on the left", search_left_joins, LW_ALWAYS, 32},
-    {"joins of a word's bit, on the right", search_right_joins, LW_ALWAYS, 32},
-    {"joins of a marker's bit, on the left", search_left_joins_of_marker, LW_ALWAYS, 16},
-    {"joins of a marker's bit, on the right", search_right_joins_of_marker, LW_ALWAYS, 16},
-    {"sides of unequal width", solve_short, LW_NEVER, 0},
-    {"64 equations of 1024 bits", solve_words, LW_SOLVED, 1024},
-    {"64 line numbers", solve_lines, LW_SOLVED, 1024},
-    {"32 of 64 equations revised", solve_revised, LW_SOLVED, 1024},
-    {"never at the last of 64 equations", solve_never, LW_NEVER, 0},
-    {"refused 10", short_work, LW_REFUSED_MEMORY, 0},
-    {"refused 11", no_whole_row, LW_REFUSED_TABLE, 0},
-    {"refused 16 at row 511", bad_cut, LW_REFUSED_CUT, 0},
-    {"refused 40 at row 511", bad_marker, LW_REFUSED_VALUE, 0},
+    {"one variable", {{variable, 1024}}, LW_ALWAYS, 1024},
+    {"512 rows, chained cuts", {CUTS, {shift, 1024}}, LW_SOLVED, 1},
+    {"512 rows, joins chained on the left", {{variable, 1}, {left_joins, 0}, {shift, 508}}, LW_ALWAYS, 1},
+    {"512 rows, joins chained on the right", {{variable, 1}, {right_joins, 0}, {shift, 508}}, LW_ALWAYS, 1},
+    {"512 rows, cuts and joins in turn", {{variable, 1}, {cuts_and_joins, 0}, {shift, 255}}, LW_ALWAYS, 1},
+    {"chained cuts of a marker", {{marker, 16}, {cuts, 16}, {shift, 16}}, LW_NEVER, 0},
+    {"joins of a marker, on the left", {{marker, 1}, {left_joins, 0}, {shift, 508}}, LW_ALWAYS, 0},
+    {"joins of a marker, on the right", {{marker, 1}, {right_joins, 0}, {shift, 508}}, LW_ALWAYS, 0},
+    {"cuts and joins of a marker", {{marker, 1}, {cuts_and_joins, 0}, {shift, 255}}, LW_ALWAYS, 0},
+    {"joins of a word's bit, on the left", {{variable, 16}, {left_joins, 1}, {search, 508}}, LW_ALWAYS, 32},
+    {"joins of a word's bit, on the right", {{variable, 16}, {right_joins, 1}, {search, 508}}, LW_ALWAYS, 32},
+    {"joins of a marker's bit, on the left", {{marker, 16}, {left_joins, 1}, {search, 508}}, LW_ALWAYS, 16},
+    {"joins of a marker's bit, on the right", {{marker, 16}, {right_joins, 1}, {search, 508}}, LW_ALWAYS, 16},
+    {"sides of unequal width", {{marker, 1}, {left_joins, 0}, {uneven_shift, 508}}, LW_NEVER, 0},
+    {"64 equations of 1024 bits", {{words, 64}}, LW_SOLVED, 1024},
+    {"64 line numbers", {{words, 64}, {line_numbers, 64}}, LW_SOLVED, 1024},
+    {"32 of 64 equations revised", {{words, 64}, {line_numbers, 32}}, LW_SOLVED, 1024},
+    {"never at the last of 64 equations", {{words, 63}, {unequal_fills, 1}}, LW_NEVER, 0},
+    {"refused 10", {{words, 64}, {less_work_len, 1}}, LW_REFUSED_MEMORY, 0},
+    NOT_WHOLE_ROWS,
+    BAD_CUT,
+    BAD_MARKER,
 };
+/* Runs of words that are all 0. */
 static const test searches[] = {
-    {"one variable", search_word, LW_ACCEPTED, 0},
-    {"512 rows, chained cuts", search_cuts, LW_ACCEPTED, 0},
-    {"joins of a word's bit, on the left", search_left_joins, LW_ACCEPTED, 0},
-    {"joins of a word's bit, on the right", search_right_joins, LW_ACCEPTED, 0},
-    {"cuts and joins of a word's bit", search_cuts_and_joins, LW_ACCEPTED, 0},
-    {"joins of a marker's bit, on the left", search_left_joins_of_marker, LW_ACCEPTED, 0},
-    {"joins of a marker's bit, on the right", search_right_joins_of_marker, LW_ACCEPTED, 0},
-    {"cuts and joins of a marker's bit", search_cuts_and_joins_of_marker, LW_ACCEPTED, 0},
-    {"64 words of equal bits", search_equal, LW_ACCEPTED, 0},
-    {"32 of 64 equations revised", search_revised, LW_ACCEPTED, 0},
-    {"never at the last of 64 equations", search_never, LW_ACCEPTED, 0},
-    {"refused 11", no_whole_row, LW_REFUSED_TABLE, 0},
-    {"refused 16 at row 511", bad_cut, LW_REFUSED_CUT, 0},
-    {"refused 40 at row 511", bad_marker, LW_REFUSED_VALUE, 0},
-    {"refused 41", no_word, LW_REFUSED_WINDOW, 0},
-    {"refused 42", too_long_run, LW_REFUSED_RUN, 0},
+    {"one variable", {{variable, 16}, {set_words_len, LW_MAX_WORDS}}, LW_ACCEPTED, 0},
+    {"512 rows, chained cuts", {{variable, 16}, {cuts, 16}, {search, 16}}, LW_ACCEPTED, 0},
+    {"joins of a word's bit, on the left", {{variable, 16}, {left_joins, 1}, {search, 508}}, LW_ACCEPTED, 0},
+    {"joins of a word's bit, on the right", {{variable, 16}, {right_joins, 1}, {search, 508}}, LW_ACCEPTED, 0},
+    {"cuts and joins of a word's bit", {{variable, 16}, {cuts_and_joins, 1}, {search, 255}}, LW_ACCEPTED, 0},
+    {"joins of a marker's bit, on the left", {{marker, 16}, {left_joins, 1}, {search, 508}}, LW_ACCEPTED, 0},
+    {"joins of a marker's bit, on the right", {{marker, 16}, {right_joins, 1}, {search, 508}}, LW_ACCEPTED, 0},
+    {"cuts and joins of a marker's bit", {{marker, 16}, {cuts_and_joins, 1}, {search, 255}}, LW_ACCEPTED, 0},
+    {"64 words of equal bits", {{equal_words, 64}}, LW_ACCEPTED, 0},
+    {"32 of 64 equations revised", {{equal_words, 64}, {line_numbers, 32}}, LW_ACCEPTED, 0},
+    {"never at the last of 64 equations", {{equal_words, 63}, {unequal_marker, 16}}, LW_ACCEPTED, 0},
+    NOT_WHOLE_ROWS,
+    BAD_CUT,
+    BAD_MARKER,
+    {"refused 41", {{variable, 1024}, {set_words_len, LW_MAX_WORDS}}, LW_REFUSED_WINDOW, 0},
+    {"refused 42", {{variable, 16}, {set_words_len, LW_MAX_WORDS + 1}}, LW_REFUSED_RUN, 0},
 };
 static const test parts[] = {
-    {"4096 rows of one variable", all_rows, 0, LW_ANSWER_NUMBERS},
-    {"no such variable", no_such_variable, 0, 0},
-    {"too many rows", too_many_rows, 0, 0},
+    {"4096 rows of one variable", {{set_rows_in_use, 4096}}, 0, LW_ANSWER_NUMBERS},
+    {"no such variable", {{set_rows_in_use, 4096}, {set_variable, 1}}, 0, 0},
+    {"too many rows", {{set_rows_in_use, 4097}}, 0, 0},
 };
 static const test patterns[] = {
-    {"no rows", no_rows, LW_ACCEPTED, 0},
-    {"one fresh bit", one_bit, LW_ACCEPTED, 1},
-    {"one fill", one_fill, LW_ACCEPTED, 1024},
-    {"4096 fresh pieces", fresh_rows, LW_ACCEPTED, 4096},
-    {"4096 rows, one fresh piece", one_piece, LW_ACCEPTED, 4096},
-    {"4096 fills", fill_rows, LW_ACCEPTED, 4096},
-    {"64 variables of 64 bits", wide_rows, LW_ACCEPTED, 4096},
-    {"refused 33, not whole rows", no_whole_answer_row, LW_REFUSED_ANSWER, 0},
-    {"refused 33 at row 4095", bad_answer_row, LW_REFUSED_ANSWER, 0},
-    {"refused 33, the last home wrong", bad_home, LW_REFUSED_ANSWER, 0},
-    {"refused 33, the last high wrong", bad_high, LW_REFUSED_ANSWER, 0},
-    {"refused 34, fresh bits too few", few_fresh_bits, LW_REFUSED_FRESH, 0},
-    {"refused 34, the last byte above 1", bad_fresh_bit, LW_REFUSED_FRESH, 0},
-    {"refused 32", short_pattern, LW_REFUSED_OUTPUT, 0},
+    {"no rows", {{set_pattern_len, 4096}}, LW_ACCEPTED, 0},
+    {"one fresh bit", {{fresh_rows, 1}}, LW_ACCEPTED, 1},
+    {"one fill", {{one_fill, 1024}}, LW_ACCEPTED, 1024},
+    {"4096 fresh pieces", {{fresh_rows, 4096}}, LW_ACCEPTED, 4096},
+    {"4096 rows, one fresh piece", {{one_piece, 4096}}, LW_ACCEPTED, 4096},
+    {"4096 fills", {{fill_rows, 4096}}, LW_ACCEPTED, 4096},
+    {"64 variables of 64 bits", {{wide_rows, 64}}, LW_ACCEPTED, 4096},
+    {"refused 33, not whole rows", {{fresh_rows, 4096}, {less_answer_len, 1}}, LW_REFUSED_ANSWER, 0},
+    {"refused 33 at row 4095", {{fresh_rows, 4096}, {last_fresh, 4096}}, LW_REFUSED_ANSWER, 0},
+    {"refused 33, the last home wrong", {{fresh_rows, 4096}, {last_home, 2}}, LW_REFUSED_ANSWER, 0},
+    {"refused 33, the last high wrong", {{fresh_rows, 4096}, {last_high, 1}}, LW_REFUSED_ANSWER, 0},
+    {"refused 34, fresh bits too few", {{fresh_rows, 4096}, {less_fresh_len, 1}}, LW_REFUSED_FRESH, 0},
+    {"refused 34, the last byte above 1", {{fresh_rows, 4096}, {last_fresh_bit, 2}}, LW_REFUSED_FRESH, 0},
+    {"refused 32", {{fresh_rows, 4096}, {less_pattern_len, 1}}, LW_REFUSED_OUTPUT, 0},
 };
 static const test pages[] = {
-    {"page 0 of 4096 pieces", full_page, 0, LW_PAGE_LINES},
-    {"page 69 of 4096 pieces", last_page, 0, LW_PAGE_LINES},
-    {"past the last page", past_page, 0, LW_PAGE_LINES},
-    {"outcome 4294967295", refused_page, 0, LW_PAGE_LINES},
+    {"page 0 of 4096 pieces", {{fresh_rows, 4096}, {solved, 4096}}, 0, LW_PAGE_LINES},
+    {"page 69 of 4096 pieces", {{fresh_rows, 4096}, {solved, 4096}, {set_number, 69}}, 0, LW_PAGE_LINES},
+    {"past the last page", {{fresh_rows, 4096}, {solved, 4096}, {set_number, SIZE_MAX}}, 0, LW_PAGE_LINES},
+    {"outcome 4294967295", {{refused, UINT32_MAX}}, 0, LW_PAGE_LINES},
 };
 
 /* The calls. */
@@ -900,7 +597,8 @@ static void make(call *c, const test *t)
 {
     memset(c, 0, sizeof *c);
     c->work_len = LW_WORK_NUMBERS;
-    t->make(c);
+    for (size_t i = 0; i < COUNT(t->steps) && t->steps[i].make != NULL; i++)
+        t->steps[i].make(c, t->steps[i].number);
     memcpy(c->rows, c->table, sizeof c->table);
     c->row_count = c->table_len % 4 == 0 ? c->table_len / 4 : LW_MAX_ROWS + 1; /* for no whole rows one too many */
     c->row = c->table_len / 4 - 1;

@@ -3,10 +3,10 @@ use mathlib.Core.Path.{_≡_, refl, sym, ap, _∙_}
 use mathlib.Core.Logic.{_⊎_, inl, inr, _≢_}
 use mathlib.Core.Bool.{true, _&&_, and-true}
 use mathlib.Core.List.{List, [], _∷_, reverse, reverseAux}
-use Prim.Native.Nat.{ℕ, suc, _≤_, _<_, min, max}
+use Prim.Native.Nat.{ℕ, zero, suc, _≤_, _<_, min, max}
 use native.Mathlib.Omega.{arith}
 use lib.Dec.{eqb}
-use lib.ListN.{length, length-map, List·getD-eq-default}
+use lib.ListN.{length, getD, length-map, List·getD-eq-default}
 use borrow.Author.Tests.{eqb-true, eq-eqb}
 use Rattle.terms.specs.Assignments.{Assignment}
 use Rattle.terms.specs.Table.{bitOf}
@@ -62,6 +62,23 @@ module _ (n : ℕ) (c : List ℕ) (seen : List Pair) (inv : Represents n c seen)
         let b = inv .full p h (next-old (rep c) (inv .low) (inv .root) (q .left) (q .right) (bitOf p) k) in
         both-hold p q seen a b;
   }
+
+-- the bits of places and of constants
+pub place-bit : (p : List ℕ) (i : ℕ) → bitOf p (suc (suc i)) ≡ getD p i 0
+unfolding bitOf
+place-bit p i = refl
+
+pub fixed-bit : (p : List ℕ) (b : ℕ) → b ≤ 1 → bitOf p b ≡ b
+unfolding bitOf
+fixed-bit p zero l = refl
+fixed-bit p (suc zero) l = refl
+fixed-bit p (suc (suc b)) l = absurd (omega arith)
+
+-- where the constants are apart, each is its own class
+pub fixed-class : (n : ℕ) (c : List ℕ) (seen : List Pair) → Represents n c seen → rep c 1 ≡ 1 → (b : ℕ) → b ≤ 1 → rep c b ≡ b
+fixed-class n c seen inv one zero l = omega (arith, inv .low 0)
+fixed-class n c seen inv one (suc zero) l = one
+fixed-class n c seen inv one (suc (suc b)) l = absurd (omega arith)
 
 pub bit-past : {n : ℕ} {p : List ℕ} → Assignment n p → (i : ℕ) → suc (suc n) ≤ i → bitOf p i ≡ 0
 unfolding bitOf

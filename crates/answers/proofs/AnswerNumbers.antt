@@ -9,7 +9,7 @@ use lib.Seq.{getD-append-add}
 use Rattle.laws.proofs.Lists.{map-take}
 use Rattle.answers.specs.declared.AnswerRow.{AnswerRow}
 use Rattle.answers.specs.Answer.{noAnswerRow, answerRowAt, answerRowNumbers, numbersFrom, answerNumbers, answerRowsOf}
-use Rattle.answers.specs.inner.FourNumbers.{fourNumbers}
+use Rattle.answers.specs.inner.FourNumbers.{fourNumbers, answerColumns}
 use Rattle.answers.specs.RightSide.{rowVariables}
 
 -- the rows' own four numbers
@@ -22,10 +22,6 @@ pub four-length : (f : List AnswerRow) → length (fourNumbers f) ≡ length f *
 unfolding fourNumbers
 four-length [] = refl
 four-length (p ∷ f) = omega (arith, four-length f)
-
--- the row whose columns are the numbers at place i
-abbrev pub answerColumns : List ℕ → ℕ → AnswerRow
-answerColumns t i = record { variable = getD t i 0; kind = getD t (i + 1) 0; width = getD t (i + 2) 0; fresh = getD t (i + 3) 0 }
 
 four-skip : (v k w f : ℕ) (t : List ℕ) (r : ℕ) → answerColumns t (r * 4) ≡ answerColumns (v ∷ k ∷ w ∷ f ∷ t) (suc r * 4)
 four-skip v k w f t r =

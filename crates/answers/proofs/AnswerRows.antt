@@ -14,6 +14,7 @@ use Rattle.laws.specs.Lists.{tally, member}
 use Rattle.answers.specs.Answer.{begins, unfixed, goesOn, lowest, appears, placeRow, widened, placed, rowsTo, isFresh, freshNumbers}
 use Rattle.answers.specs.declared.AnswerRow.{AnswerRow}
 use Rattle.laws.proofs.Bools.{and-second}
+use Rattle.laws.proofs.Lists.{copies-snoc}
 use Rattle.laws.proofs.Numbers.{lt-or-le}
 use Rattle.laws.proofs.Tallies.{tally-mono, member-more}
 use Rattle.answers.proofs.Slots.{Slot, fill, part, glued}
@@ -21,7 +22,7 @@ use Rattle.answers.proofs.Gluing.{glued-e, place, front, reach}
 use Rattle.answers.proofs.OurPieces.{mark-place, mark, home, number, slot, wide, slot-loose, slot-fixed, slot-next, wide-is, home-le, front-le, home-mark}
 use Rattle.answers.proofs.Relation.{fixed-is, unfixed-is, goes-loose, goes-fixed, lowest-is, appears-is}
 
--- a row that is put behind others
+-- a row that begins stands before the others
 pub placed-new : (r : AnswerRow) (rows : List AnswerRow) → placed false r rows ≡ r ∷ rows
 unfolding placed
 placed-new r [] = refl
@@ -45,10 +46,6 @@ unfolding partsFrom
 parts-more f o zero = ap (λ (x : ℕ). part f x ∷ []) (omega arith)
 parts-more f o (suc w) = ap (λ (l : List Slot). part f o ∷ l) (parts-more f (suc o) w ∙ ap (λ (x : ℕ). partsFrom f (suc o) w ++ (part f x ∷ [])) (omega arith))
 
-fills-more : (w : ℕ) (x : Slot) → replicate (suc w) x ≡ replicate w x ++ (x ∷ [])
-fills-more zero x = refl
-fills-more (suc w) x = ap (λ (l : List Slot). x ∷ l) (fills-more w x)
-
 -- the slot behind a row
 unfoldable pub following : AnswerRow → Slot
 following r = cond (isFresh r) (part (r .fresh) (r .width)) (fill (r .kind))
@@ -60,7 +57,7 @@ wider-slots r = go (isFresh r)
     go : (b : Bool) → cond b (partsFrom (r .fresh) 0 (suc (r .width))) (replicate (suc (r .width)) (fill (r .kind)))
         ≡ cond b (partsFrom (r .fresh) 0 (r .width)) (replicate (r .width) (fill (r .kind))) ++ (cond b (part (r .fresh) (r .width)) (fill (r .kind)) ∷ [])
     go true = parts-more (r .fresh) 0 (r .width) ∙ ap (λ (x : ℕ). partsFrom (r .fresh) 0 (r .width) ++ (part (r .fresh) x ∷ [])) (omega arith)
-    go false = fills-more (r .width) (fill (r .kind))
+    go false = sym (copies-snoc (r .width) (fill (r .kind)))
 
 -- something of every row
 abbrev pub Each : (AnswerRow → Type 0) → List AnswerRow → Type 0

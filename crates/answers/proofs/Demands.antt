@@ -18,18 +18,18 @@ use Rattle.answers.specs.Pairs.{Pair, equationPairs, satisfiesPairs, equ
 use Rattle.answers.specs.inner.Classes.{rep, inClass, roots, Represents}
 use Rattle.answers.specs.declared.AnswerRow.{AnswerRow}
 use Rattle.answers.specs.Answer.{variableWidths, begins, appears, answerRows, freshPieces, freeBits, instantiate}
+use Rattle.laws.proofs.Bools.{clash}
 use Rattle.laws.specs.Lists.{tally}
 use Rattle.answers.specs.Systems.{Part, SolvedSystem, freshCount, systemBits, Gives}
 use Rattle.answers.specs.Solve.{valid, unsatisfiable, unsatRow, pairsTogether, tiesTo, solvedRows, alwaysRecord, neverRecord, solvedRecord, answerRecord}
-use Rattle.answers.proofs.Agreement.{satisfies-reverse}
 use Rattle.answers.proofs.Slots.{fresh}
 use Rattle.answers.proofs.OurPieces.{mark}
 use Rattle.answers.proofs.FreeBits.{free-widths}
 use Rattle.answers.proofs.AnswerRows.{tally-same}
 use Rattle.answers.proofs.GeneralSystems.{widthSum, minimal-system}
 use Rattle.answers.proofs.Instantiating.{fresh-pieces, free-bits, filling-satisfies, fillingOf, filling-bits, filling-gives, filling-unique}
-use Rattle.answers.proofs.Variables.{widths-sum, begins-first, begins-behind, system-bits}
-use Rattle.answers.proofs.Tables.{tableClasses, represent, satisfies-is, apart-one, rows-by-classes, table-count, roots-ties, every-same, equal-same, not-valid}
+use Rattle.answers.proofs.Variables.{widths-sum, begins-first, begins-last, system-bits}
+use Rattle.answers.proofs.Tables.{tableClasses, represent, satisfies-seen, apart-one, rows-by-classes, table-count, roots-ties, every-same, equal-same, not-valid}
 use Rattle.answers.specs.Demands.{Demand2, Demand3, Filled, SameAnswer, TheFilling}
 
 module _ (table : List ℕ) (accepted : firstFault table ≡ Accepted) where
@@ -55,10 +55,7 @@ module _ (table : List ℕ) (accepted : firstFault table ≡ Accepted) where
   begin = begins-first ws
 
   last : begins ws n ≡ true
-  last = ap (begins ws) (sym (widths-sum t)) ∙ begins-behind ws
-
-  by-seen : (p : List ℕ) → Assignment n p → satisfies t p ≡ satisfiesPairs p seen
-  by-seen p a = satisfies-is table accepted p a ∙ sym (satisfies-reverse p (pairsTogether (equationPairs t)))
+  last = begins-last t
 
   module _ (some : unsatisfiable (rowsOf table) ≡ false) where
     abbrev one : rep c 1 ≡ 1
@@ -87,8 +84,8 @@ module _ (table : List ℕ) (accepted : firstFault table ≡ Accepted) where
         record {
           every-filling = λ f a.
               let h = filling-satisfies n c seen inv one ws begin last f (subst (λ (rows : List AnswerRow). Assignment (freeBits rows) f) rows-are a) in
-              rw rows-are (h .0, by-seen (instantiate (answerRows n ws (inClass c)) f) (h .0) ∙ h .1);
-          one-filling = λ p a s. rw rows-are (the-one p a (sym (by-seen p a) ∙ s));
+              rw rows-are (h .0, satisfies-seen table accepted (instantiate (answerRows n ws (inClass c)) f) (h .0) ∙ h .1);
+          one-filling = λ p a s. rw rows-are (the-one p a (sym (satisfies-seen table accepted p a) ∙ s));
         }
       where
         the-one : (p : List ℕ) → Assignment n p → satisfiesPairs p seen ≡ true → TheFilling (answerRows n ws (inClass c)) p
@@ -116,8 +113,8 @@ module _ (table : List ℕ) (accepted : firstFault table ≡ Accepted) where
           fresh-are,
           minimal-system n c seen inv one ws (widths-sum t) sides S (record {
             passes = λ φ h. let a : Assignment n (systemBits φ sides) = subst (λ (x : ℕ). Assignment x (systemBits φ sides)) (widths-sum t) (system-bits ws sides S φ h) in
-                sym (by-seen (systemBits φ sides) a) ∙ G .passes φ h;
-            reaches = λ p a s. G .reaches p a (by-seen p a ∙ s);
+                sym (satisfies-seen table accepted (systemBits φ sides) a) ∙ G .passes φ h;
+            reaches = λ p a s. G .reaches p a (satisfies-seen table accepted p a ∙ s);
           }),
         )
 
@@ -146,9 +143,6 @@ module _ (table : List ℕ) (accepted : firstFault table ≡ Accepted) where
   whole-all : count n (satisfies t) ≡ 2 ^ n → valid t ≡ true
   unfolding valid
   whole-all e = every-of n (satisfies t) (count-all-at n (satisfies t) e)
-
-  clash : {A : Type 0} (b : Bool) → b ≡ true → b ≡ false → A
-  clash b h k = let z : _≡_ {A = ℕ} 0 1 = cc in absurd (omega arith)
 
   -- Demand 3.
   pub demand-3 : Demand3 t

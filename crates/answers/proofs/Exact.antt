@@ -23,6 +23,7 @@ use Rattle.answers.proofs.Agreement.{relabel-zero, step, base, run-repr
 use Rattle.laws.proofs.Numbers.{lt-or-le}
 use Rattle.laws.proofs.Lists.{tail-length, tail-at}
 use Rattle.laws.proofs.Least.{least-is}
+use Rattle.laws.proofs.Tallies.{implied}
 
 -- the assignment that has 1 in the class r, and in the class of 1
 unfoldable pub onesIn : ℕ → ℕ → ℕ
@@ -94,10 +95,6 @@ module _ (n : ℕ) (c : List ℕ) (seen : List Pair) (inv : Represents n c seen)
 
   pub witness-satisfies : (r : ℕ) → r ≢ 0 → satisfiesPairs (witness r) seen ≡ true
   witness-satisfies r z = inv .full (witness r) (witness-bits r z) (λ i. witness-at r z i ∙ ap (onesIn r) (sym (inv .root i)) ∙ sym (witness-at r z (rep c i)))
-
-  implied : (a b : Bool) → not a || b ≡ true → a ≡ true → b ≡ true
-  implied true b h e = h
-  implied false b h e = cc
 
   implies : (a b : Bool) → (a ≡ true → b ≡ true) → not a || b ≡ true
   implies true b h = h refl

@@ -10,12 +10,12 @@ use borrow.Author.Tests.{eqb-true, eq-eqb, le-leb}
 use Rattle.answers.specs.Pairs.{Pair}
 use Rattle.answers.specs.inner.Classes.{rep, roots, Represents}
 use Rattle.laws.specs.Lists.{tally}
-use Rattle.laws.proofs.Bools.{same-test}
+use Rattle.laws.proofs.Bools.{same-test, clash}
 use Rattle.laws.proofs.Lists.{tail-length, tail-at}
 use Rattle.laws.proofs.Numbers.{two}
 use Rattle.laws.proofs.Tallies.{select-rank, tally-front}
 use Rattle.answers.proofs.Slots.{loose, glued, heads}
-use Rattle.answers.proofs.Gluing.{Glue, glued-e, reach, differ, glue-in, reach-step}
+use Rattle.answers.proofs.Gluing.{Glue, glued-e, reach, glue-in, reach-step}
 use Rattle.answers.proofs.OurPieces.{mark, wide, class-home}
 
 roots-tally : (k : ℕ) (v : List ℕ) (f : ℕ → Bool) → ((i : ℕ) → f i ≡ eqb (getD v i 0) (k + i)) → roots k v ≡ tally (length v) f
@@ -67,7 +67,7 @@ module _ (n : ℕ) (c : List ℕ) (seen : List Pair) (inv : Represents n c seen)
           (ap C (sym q) ∙ class-home n c seen inv one start begin last (suc i) (G .there))
 
       go : (j : ℕ) → C (suc i) - 2 ≡ j → own (suc i) ≡ true
-      go zero q = absurd (differ n start C begin last (start 0) begin (back 0 q .0))
+      go zero q = clash (start 0) begin (back 0 q .0)
       go (suc j) q =
           eq-eqb (C (suc i)) (suc (suc (suc i)))
           (omega (arith, e, back (suc j) q .1, inv .low (suc (suc j)), inv .low (suc (suc (suc i))), G .there))

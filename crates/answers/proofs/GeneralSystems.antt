@@ -83,7 +83,7 @@ begins-marks (w ∷ ws) i = go (ltb i w) refl (begins-marks ws (i - w))
     go true e k = sym (marks-first w i (allMarks ws) (ltb-true i w e))
     go false e k = k ∙ sym (marks-past true w i (allMarks ws) (ltb-false i w e))
 
-begins-end : (ws : List ℕ) → begins ws (widthSum ws) ≡ true
+pub begins-end : (ws : List ℕ) → begins ws (widthSum ws) ≡ true
 begins-end ws = begins-marks ws (widthSum ws) ∙ List·getD-eq-default (allMarks ws) true (omega (arith, all-marks-length ws))
 
 -- the marks of the cells

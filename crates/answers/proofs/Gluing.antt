@@ -3,12 +3,12 @@
 use mathlib.Core.Path.{_≡_, refl, sym, ap, _∙_}
 use mathlib.Core.Logic.{_⊎_, inl, inr, _≢_}
 use mathlib.Core.Bool.{Bool, true, false, not, _&&_, _||_, cond}
-use Prim.Native.Nat.{ℕ, zero, suc, _+_, _-_, _≤_, _<_, pred}
+use Prim.Native.Nat.{ℕ, zero, suc, _+_, _≤_, _<_, pred}
 use native.Mathlib.Omega.{arith}
 use lib.Dec.{eqb}
-use borrow.Author.Tests.{eqb-true, eq-eqb, leb-true, le-leb}
+use borrow.Author.Tests.{eqb-true, eq-eqb, leb-true, le-leb, not-true}
 use Rattle.laws.specs.Lists.{below}
-use Rattle.laws.proofs.Bools.{and-first, and-second, and-both, same-test}
+use Rattle.laws.proofs.Bools.{and-first, and-both, and-parts, same-test, clash}
 use Rattle.laws.proofs.Numbers.{dec-eq}
 use Rattle.laws.proofs.Tallies.{below-of, below-at, implied}
 use Rattle.answers.proofs.Slots.{loose, glued, heads}
@@ -22,64 +22,43 @@ pub record Glue (n : ℕ) (start : ℕ → Bool) (C : ℕ → ℕ) (i : ℕ) : T
   pub onward : (k : ℕ) → k < n → C k ≡ C i → (start (suc k) ≡ false) × (C (suc k) ≡ C (suc i))
 
 module _ (n : ℕ) (start : ℕ → Bool) (C : ℕ → ℕ) where
-  pub not-e : (b : Bool) → not b ≡ true → b ≡ false
-  not-e true h = cc
-  not-e false h = refl
+  -- its two tests of place k
+  abbrev bk : ℕ → ℕ → Bool
+  bk i k = not (eqb (C k) (C (suc i))) || (not (start k) && eqb (C (pred k)) (C i))
+
+  abbrev fw : ℕ → ℕ → Bool
+  fw i k = not (eqb (C k) (C i)) || (not (start (suc k)) && eqb (C (suc k)) (C (suc i)))
 
   pub glued-e : (i : ℕ) → glued n start C i ≡ true → Glue n start C i
   unfolding glued
-  glued-e i h = record {
-    here = leb-true 2 (C i) (and-first (loose C i) (loose C (suc i)) h3);
-    there = leb-true 2 (C (suc i)) (and-second (loose C i) (loose C (suc i)) h3);
-    open' = not-e (start (suc i)) (and-second (loose C i && loose C (suc i)) (not (start (suc i))) h2);
-    back = λ k l e.
-        let t = implied (eqb (C k) (C (suc i))) (not (start k) && eqb (C (pred k)) (C i)) (below-at n bk h1b k l) (eq-eqb (C k) (C (suc i)) e) in
-        (not-e (start k) (and-first (not (start k)) (eqb (C (pred k)) (C i)) t), eqb-true (C (pred k)) (C i) (and-second (not (start k)) (eqb (C (pred k)) (C i)) t));
-    onward = λ k l e.
-        let t = implied (eqb (C k) (C i)) (not (start (suc k)) && eqb (C (suc k)) (C (suc i))) (below-at n fw h0 k l) (eq-eqb (C k) (C i) e) in
-        (not-e (start (suc k)) (and-first (not (start (suc k))) (eqb (C (suc k)) (C (suc i))) t), eqb-true (C (suc k)) (C (suc i)) (and-second (not (start (suc k))) (eqb (C (suc k)) (C (suc i))) t));
-  }
+  glued-e i h =
+      let p = and-parts (loose C i && loose C (suc i) && not (start (suc i)) && below n (bk i)) (below n (fw i)) h in
+      let q = and-parts (loose C i && loose C (suc i) && not (start (suc i))) (below n (bk i)) (p .0) in
+      let r = and-parts (loose C i && loose C (suc i)) (not (start (suc i))) (q .0) in
+      let s = and-parts (loose C i) (loose C (suc i)) (r .0) in
+      record {
+        here = leb-true 2 (C i) (s .0);
+        there = leb-true 2 (C (suc i)) (s .1);
+        open' = not-true (start (suc i)) (r .1);
+        back = λ k l e. both (start k) (C (pred k)) (C i) (implied (eqb (C k) (C (suc i))) _ (below-at n (bk i) (q .1) k l) (eq-eqb (C k) (C (suc i)) e));
+        onward = λ k l e. both (start (suc k)) (C (suc k)) (C (suc i)) (implied (eqb (C k) (C i)) _ (below-at n (fw i) (p .1) k l) (eq-eqb (C k) (C i) e));
+      }
     where
-      bk : ℕ → Bool
-      bk k = not (eqb (C k) (C (suc i))) || (not (start k) && eqb (C (pred k)) (C i))
-
-      fw : ℕ → Bool
-      fw k = not (eqb (C k) (C i)) || (not (start (suc k)) && eqb (C (suc k)) (C (suc i)))
-
-      h0 : below n fw ≡ true
-      h0 = and-second (loose C i && loose C (suc i) && not (start (suc i)) && below n bk) (below n fw) h
-
-      h1 : loose C i && loose C (suc i) && not (start (suc i)) && below n bk ≡ true
-      h1 = and-first (loose C i && loose C (suc i) && not (start (suc i)) && below n bk) (below n fw) h
-
-      h1b : below n bk ≡ true
-      h1b = and-second (loose C i && loose C (suc i) && not (start (suc i))) (below n bk) h1
-
-      h2 : loose C i && loose C (suc i) && not (start (suc i)) ≡ true
-      h2 = and-first (loose C i && loose C (suc i) && not (start (suc i))) (below n bk) h1
-
-      h3 : loose C i && loose C (suc i) ≡ true
-      h3 = and-first (loose C i && loose C (suc i)) (not (start (suc i))) h2
+      both : (a : Bool) (x y : ℕ) → not a && eqb x y ≡ true → (a ≡ false) × (x ≡ y)
+      both a x y t = let p = and-parts (not a) (eqb x y) t in (not-true a (p .0), eqb-true x y (p .1))
 
   pub glued-i : (i : ℕ) → Glue n start C i → glued n start C i ≡ true
   unfolding glued
-  glued-i i G =
-      rw (le-leb 2 (C i) (G .here), le-leb 2 (C (suc i)) (G .there), G .open', below-of n bk bk1) (below-of n fw fw1)
+  glued-i i G = rw (le-leb 2 (C i) (G .here), le-leb 2 (C (suc i)) (G .there), G .open', below-of n (bk i) bk1) (below-of n (fw i) fw1)
     where
-      bk : ℕ → Bool
-      bk k = not (eqb (C k) (C (suc i))) || (not (start k) && eqb (C (pred k)) (C i))
-
-      fw : ℕ → Bool
-      fw k = not (eqb (C k) (C i)) || (not (start (suc k)) && eqb (C (suc k)) (C (suc i)))
-
-      bk1 : (k : ℕ) → k < n → bk k ≡ true
+      bk1 : (k : ℕ) → k < n → bk i k ≡ true
       bk1 k l = go (eqb (C k) (C (suc i))) refl
         where
           go : (t : Bool) → eqb (C k) (C (suc i)) ≡ t → not t || (not (start k) && eqb (C (pred k)) (C i)) ≡ true
           go false e = refl
           go true e = let g = G .back k l (eqb-true (C k) (C (suc i)) e) in rw (g .0) (eq-eqb (C (pred k)) (C i) (g .1))
 
-      fw1 : (k : ℕ) → k < n → fw k ≡ true
+      fw1 : (k : ℕ) → k < n → fw i k ≡ true
       fw1 k l = go (eqb (C k) (C i)) refl
         where
           go : (t : Bool) → eqb (C k) (C i) ≡ t → not t || (not (start (suc k)) && eqb (C (suc k)) (C (suc i))) ≡ true
@@ -136,16 +115,23 @@ module _ (n : ℕ) (start : ℕ → Bool) (C : ℕ → ℕ) (begin : start 0 ≡
       go true e = omega arith
       go false e = omega arith
 
-  pub differ : (t : Bool) → t ≡ true → t ≡ false → ⊥
-  differ t a b = let z : _≡_ {A = ℕ} 0 1 = cc in omega arith
-
-  -- a piece does not go on past the end
-  pub glue-in : (i : ℕ) → i < n → glued n start C i ≡ true → suc i < n
-  glue-in i l h = go (dec-eq (suc i) n)
+  -- a place with no start behind it is not the last, so a piece does not go on past the end
+  pub start-in : (i : ℕ) → i < n → start (suc i) ≡ false → suc i < n
+  start-in i l s = go (dec-eq (suc i) n)
     where
       go : (suc i ≡ n) ⊎ (suc i ≢ n) → suc i < n
-      go (inl e) = absurd (differ (start (suc i)) (ap start e ∙ last) (glued-e n start C i h .open'))
+      go (inl e) = clash (start (suc i)) (ap start e ∙ last) s
       go (inr e) = omega arith
+
+  pub glue-in : (i : ℕ) → i < n → glued n start C i ≡ true → suc i < n
+  glue-in i l h = start-in i l (glued-e n start C i h .open')
+
+  pub glue-end : (j : ℕ) → n ≡ suc j → glued n start C j ≡ false
+  glue-end j e = go (glued n start C j) refl
+    where
+      go : (t : Bool) → glued n start C j ≡ t → glued n start C j ≡ false
+      go true h = absurd (omega (arith, glue-in j (omega arith) h))
+      go false h = h
 
   -- both bits are glued to the one before them, or neither is
   pub place-class : (i j : ℕ) → i < n → j < n → C i ≡ C j → (place n start C i ≡ place n start C j) × (C (front n start C i) ≡ C (front n start C j))
@@ -155,12 +141,12 @@ module _ (n : ℕ) (start : ℕ → Bool) (C : ℕ → ℕ) (begin : start 0 ≡
     where
       go : (t : Bool) → glued n start C i ≡ t → (cond t (suc (place n start C i)) 0 ≡ 0) × (C (cond t (front n start C i) (suc i)) ≡ C 0)
       go false h = (refl, e)
-      go true h = absurd (differ (start 0) begin (glued-e n start C i h .back 0 b (sym e) .0))
+      go true h = clash (start 0) begin (glued-e n start C i h .back 0 b (sym e) .0)
   place-class zero (suc j) a b e = go (glued n start C j) refl
     where
       go : (t : Bool) → glued n start C j ≡ t → (0 ≡ cond t (suc (place n start C j)) 0) × (C 0 ≡ C (cond t (front n start C j) (suc j)))
       go false h = (refl, e)
-      go true h = absurd (differ (start 0) begin (glued-e n start C j h .back 0 a e .0))
+      go true h = clash (start 0) begin (glued-e n start C j h .back 0 a e .0)
   place-class (suc i) (suc j) a b e = go (glued n start C i) (glued n start C j) refl refl (λ (q : C i ≡ C j). place-class i j (omega arith) (omega arith) q)
     where
       go : (s t : Bool) → glued n start C i ≡ s → glued n start C j ≡ t
@@ -169,8 +155,8 @@ module _ (n : ℕ) (start : ℕ → Bool) (C : ℕ → ℕ) (begin : start 0 ≡
           × (C (cond s (front n start C i) (suc i)) ≡ C (cond t (front n start C j) (suc j)))
       go false false h k r = (refl, e)
       go true true h k r = let w = r (sym (glued-e n start C i h .back (suc j) b (sym e) .1)) in (ap suc (w .0), w .1)
-      go true false h k r = absurd (differ (glued n start C j) (glue-under n start C i j a b e h) k)
-      go false true h k r = absurd (differ (glued n start C i) (glue-under n start C j i b a (sym e) k) h)
+      go true false h k r = clash (glued n start C j) (glue-under n start C i j a b e h) k
+      go false true h k r = clash (glued n start C i) (glue-under n start C j i b a (sym e) k) h
 
   -- pieces of one class go on equally far
   pub reach-class : (d e i j : ℕ) → n ≤ d + i → n ≤ e + j → i < n → j < n → C i ≡ C j → reach n start C d i ≡ reach n start C e j
@@ -257,6 +243,6 @@ module _ (n : ℕ) (start : ℕ → Bool) (C : ℕ → ℕ) (begin : start 0 ≡
     where
       go : (t : Bool) → glued n start C j ≡ t → loose C (suc j) && not t ≡ true
       go false k = and-both (loose C (suc j)) true (rw (← e) h) refl
-      go true k = absurd (differ (start 0) begin (glued-e n start C j k .back 0 a e .0))
+      go true k = clash (start 0) begin (glued-e n start C j k .back 0 a e .0)
   heads-class (suc i) zero a b e h = rw (← e) (and-first (loose C (suc i)) (not (glued n start C i)) h)
   heads-class (suc i) (suc j) a b e h = rw (← glue-both n start C i j a b e, ← e) h

@@ -3,7 +3,7 @@ use mathlib.Core.Path.{_≡_, refl, sym, _∙_, ap, ap₂}
 use mathlib.Core.Bool.{Bool, true, false, _&&_, cond}
 use mathlib.Core.List.{List, [], _∷_, _++_, append-assoc}
 use mathlib.Core.Logic.{_⊎_, inl, inr}
-use Prim.Native.Nat.{ℕ, zero, suc, _+_, _-_, _≤_, _<_}
+use Prim.Native.Nat.{ℕ, suc, _+_, _-_, _≤_, _<_}
 use native.Mathlib.Omega.{arith}
 use lib.Dec.{eqb}
 use lib.ListN.{length, take, drop, length-append, length-drop}
@@ -13,21 +13,11 @@ use Rattle.terms.specs.Table.{extract}
 use Rattle.laws.specs.Lists.{least}
 use Rattle.laws.proofs.Bools.{and-first, and-second, and-both, clash}
 use Rattle.laws.proofs.Numbers.{lt-or-le}
-use Rattle.laws.proofs.Least.{least-is, least-within, least-passed}
+use Rattle.laws.proofs.Least.{least-is, least-within, least-passed, least-found}
 use Rattle.answers.specs.declared.AnswerRow.{AnswerRow}
 use Rattle.answers.specs.Answer.{noAnswerRow, answerRowAt, isFresh, freshPieces, freshWidth, freeBits, rowBits, instantiate, widthInRows, highBit, homeRow}
 use Rattle.answers.specs.Homes.{FirstPlaces, WholePieces, sideBitsOf, HomeHasBits, Untouched}
 use Rattle.answers.proofs.AnswerNumbers.{rows-back}
-
--- what is found passes, where the last number does
-least-found : (g : ℕ → Bool) (k d : ℕ) → g (k + d) ≡ true → g (least g k d) ≡ true
-unfolding least
-least-found g k zero t = let e : k + 0 ≡ k = omega arith in rw e at t
-least-found g k (suc d) t = go (g k) refl (least-found g (suc k) d (let e : k + suc d ≡ suc k + d = omega arith in rw e at t))
-  where
-    go : (b : Bool) → g k ≡ b → g (least g (suc k) d) ≡ true → g (cond b k (least g (suc k) d)) ≡ true
-    go true e h = e
-    go false e h = h
 
 module _ (rows : List AnswerRow) where
   abbrev at : ℕ → AnswerRow
@@ -64,12 +54,18 @@ module _ (rows : List AnswerRow) where
   unfolding homeRow
   home-is j m f l t h = rw f (least-is (ofPiece j) j 0 m (omega arith) (omega arith) t h)
 
+  home-fresh : (j : ℕ) → isFresh (at j) ≡ true → isFresh (at (homeRow rows j)) ≡ true
+  home-fresh j f = and-first (isFresh (at (homeRow rows j))) _ (home-of j f)
+
+  home-number : (j : ℕ) → isFresh (at j) ≡ true → at (homeRow rows j) .fresh ≡ at j .fresh
+  home-number j f = eqb-true (at (homeRow rows j) .fresh) (at j .fresh) (and-second (isFresh (at (homeRow rows j))) _ (home-of j f))
+
   -- The home row of a row.
   pub first-places : FirstPlaces rows
   first-places =
       record {
-        home-fresh = λ j f. and-first (isFresh (at (homeRow rows j))) _ (home-of j f);
-        home-number = λ j f. eqb-true (at (homeRow rows j) .fresh) (at j .fresh) (and-second (isFresh (at (homeRow rows j))) _ (home-of j f));
+        home-fresh = home-fresh;
+        home-number = home-number;
         none-before = λ j i f l g e.
             clash (ofPiece j i) (and-both (isFresh (at i)) (eqb (at i .fresh) (at j .fresh)) g (eq-eqb (at i .fresh) (at j .fresh) e)) (before-not j i f l);
         first-own = λ j f h. first j f h (lt-or-le (homeRow rows j) j);
@@ -78,9 +74,7 @@ module _ (rows : List AnswerRow) where
     where
       first : (j : ℕ) → isFresh (at j) ≡ true → ((i : ℕ) → i < j → isFresh (at i) ≡ true → at i .fresh ≡ at j .fresh → ⊥)
           → (homeRow rows j < j) ⊎ (j ≤ homeRow rows j) → homeRow rows j ≡ j
-      first j f h (inl l) =
-          absurd (h (homeRow rows j) l (and-first (isFresh (at (homeRow rows j))) _ (home-of j f))
-          (eqb-true (at (homeRow rows j) .fresh) (at j .fresh) (and-second (isFresh (at (homeRow rows j))) _ (home-of j f))))
+      first j f h (inl l) = absurd (h (homeRow rows j) l (home-fresh j f) (home-number j f))
       first j f h (inr l) = omega (arith, home-le j)
 
 -- The bits of a variable's rows are as many as these are wide.

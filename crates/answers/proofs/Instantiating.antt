@@ -20,9 +20,9 @@ use Rattle.answers.specs.declared.AnswerRow.{AnswerRow}
 use Rattle.laws.proofs.Numbers.{dec-eq}
 use Rattle.laws.proofs.Numbers.{lt-or-le}
 use Rattle.laws.proofs.Tallies.{select, member-more, distinct-is}
-use Rattle.answers.proofs.Slots.{tab-assignment, Slot, fill, part, value, glued}
+use Rattle.answers.proofs.Slots.{slots-assignment, Slot, fill, part, value}
 use Rattle.laws.proofs.Lists.{tab, tab-at, tab-length, tab-more}
-use Rattle.answers.proofs.Gluing.{glued-e}
+use Rattle.answers.proofs.Gluing.{glue-end}
 use Rattle.answers.proofs.OurPieces.{mark, slot, wide, slot-gives, slot-bits, filled, slot-reads, slot-there, slot-inside}
 use Rattle.answers.proofs.AnswerRows.{partsFrom, rowSlots, slotsTo, Each, slotsBelow, Whole, Rows, rows-are, ended}
 use Rattle.answers.proofs.FreeBits.{widthsTo}
@@ -117,16 +117,9 @@ module _ (n : ℕ) (c : List ℕ) (seen : List Pair) (inv : Represents n c seen)
   unfolding rowsTo slotsTo slotsBelow tally
   known = go n refl
     where
-      open-end : (j : ℕ) → n ≡ suc j → 2 ≤ C j → glued n (begins ws) C j ≡ false
-      open-end j e l = two (glued n (begins ws) C j) refl
-        where
-          two : (b : Bool) → glued n (begins ws) C j ≡ b → b ≡ false
-          two false h = refl
-          two true h = let z : true ≡ false = sym (ap (begins ws) (sym e) ∙ last) ∙ glued-e n (begins ws) C j h .open' in cc
-
       of-rows : (j : ℕ) → n ≡ suc j → (rows : List AnswerRow) → Rows n c seen inv one ws begin last j rows → Known rows
       of-rows j e rows R =
-          let w : Each WholeRow (R .row ∷ R .rest) = (ended n c seen inv one ws begin last j (R .row) (omega arith) (R .reaching) (open-end j e), R .whole) in
+          let w : Each WholeRow (R .row ∷ R .rest) = (ended n c seen inv one ws begin last j (R .row) (omega arith) (R .reaching) (λ q. glue-end n (begins ws) C begin last j e), R .whole) in
           subst Known (sym (R .are)) (record { whole = w; slots = R .slots ∙ ap (slotsBelow n c seen inv one ws begin last) (sym e); numbers = λ k l. R .numbers k (subst (λ (m : ℕ). k < tally m (mark n c seen inv one (begins ws) begin last)) e l) })
 
       none : (k : ℕ) → k < tally 0 (mark n c seen inv one (begins ws) begin last) → ⊥
@@ -255,10 +248,6 @@ module _ (n : ℕ) (c : List ℕ) (seen : List Pair) (inv : Represents n c seen)
             nothing : (l : List ℕ) → l ++ bitsOfRows answer f [] ≡ l
             nothing l = unfold bitsOfRows in (append-nil l)
 
-  value-bit : (φ : ℕ → ℕ → ℕ) → ((k o : ℕ) → φ k o ≤ 1) → (x : Slot) → ((b : ℕ) → x ≡ fill b → b ≤ 1) → value φ x ≤ 1
-  value-bit φ h (fill b) k = k b refl
-  value-bit φ h (part g o) k = h g o
-
   -- Every filling gives an assignment that satisfies the pairs.
   pub filling-satisfies : (f : List ℕ) → Assignment (freeBits answer) f → Assignment n (instantiate answer f) × (satisfiesPairs (instantiate answer f) seen ≡ true)
   unfolding bitOfPiece
@@ -266,7 +255,7 @@ module _ (n : ℕ) (c : List ℕ) (seen : List Pair) (inv : Represents n c seen)
       let len : length f ≡ widthsBelow pieces = assignment-length a ∙ free-bits in
       let small : (k o : ℕ) → bitOfPiece f k o ≤ 1 = λ k o. assignment-bit a (widthsBelow k + o) in
       rw (instantiate-is f len) (
-        tab-assignment n (λ i. value (bitOfPiece f) (slotOf i)) (λ i. value-bit (bitOfPiece f) small (slotOf i) (slot-bits n c seen inv one (begins ws) begin last i)),
+        slots-assignment n slotOf (slot-bits n c seen inv one (begins ws) begin last) (bitOfPiece f) small,
         slot-gives n c seen inv one (begins ws) begin last (bitOfPiece f) small,
       )
 

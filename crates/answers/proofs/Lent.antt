@@ -15,7 +15,7 @@ use Rattle.terms.specs.Acceptance.{Exactly}
 use Rattle.terms.specs.Calls.{faultNumber, refusal, stopAt}
 use Rattle.terms.specs.Faults.{firstFault, isAccepted}
 use Rattle.terms.specs.Table.{rowsOf, bitsOf, satisfies}
-use Rattle.terms.proofs.AcceptedTable.{table-bits, fault-none, fault-high}
+use Rattle.terms.proofs.AcceptedTable.{fault-none, fault-high, table-bits}
 use Rattle.laws.proofs.Buffers.{overwrite-fits}
 use Rattle.answers.specs.Answer.{variableWidths, answerNumbers}
 use Rattle.answers.specs.Pairs.{equalUnder}

@@ -8,8 +8,8 @@ pub mod Filled
 pub mod Order
 pub mod Theorems
 pub mod Slots
-pub mod Minimal
 pub mod Gluing
+pub mod Minimal
 pub mod OurPieces
 pub mod Cells
 pub mod GeneralSystems

@@ -18,7 +18,7 @@ use Rattle.answers.proofs.Slots.{heads}
 use Rattle.answers.proofs.Gluing.{heads-class}
 use Rattle.answers.proofs.OurPieces.{class-home}
 use Rattle.answers.proofs.Relation.{unfixed-is, heads-are, lowest-is, appears-is}
-use Rattle.answers.proofs.Variables.{widths-sum, begins-first, begins-behind}
+use Rattle.answers.proofs.Variables.{begins-first, begins-last}
 use Rattle.answers.proofs.Tables.{tableClasses, represent, apart-one, same-relation}
 
 -- where bits are equal as `same` says
@@ -45,7 +45,6 @@ module _ (table : List ℕ) (accepted : firstFault table ≡ Accepted) (some : u
   pub table-lowest : LowestAppears (bitsOf (rowsOf table)) (variableWidths (rowsOf table)) (equalUnder (bitsOf (rowsOf table)) (satisfies (rowsOf table)))
   table-lowest =
       let ws = variableWidths (rowsOf table) in
-      let end : begins ws (bitsOf (rowsOf table)) ≡ true = ap (begins ws) (sym (widths-sum (rowsOf table))) ∙ begins-behind ws in
       subst (LowestAppears (bitsOf (rowsOf table)) ws) (sym (same-relation table accepted some))
       (lowest-appears (bitsOf (rowsOf table)) (tableClasses table accepted) (reverse (pairsTogether (equationPairs (rowsOf table))))
-      (represent table accepted) (apart-one table accepted some) ws (begins-first ws) end)
+      (represent table accepted) (apart-one table accepted some) ws (begins-first ws) (begins-last (rowsOf table)))

@@ -1,32 +1,29 @@
 -- Every solved system with the same patterns has as many fresh pieces, or more.
 use mathlib.Core.Path.{_≡_, refl, sym, ap, _∙_}
 use mathlib.Core.Logic.{_⊎_, inl, inr, _≢_}
-use mathlib.Core.Bool.{Bool, true, false, not, _&&_, _||_, cond}
+use mathlib.Core.Bool.{Bool, true, false, not, _&&_, cond}
 use mathlib.Core.List.{List}
-use Prim.Native.Nat.{ℕ, zero, suc, _-_, _≤_, _<_, pred}
+use Prim.Native.Nat.{ℕ, zero, suc, _≤_, _<_, pred}
 use native.Mathlib.Omega.{arith}
 use lib.Dec.{eqb}
-use lib.ListN.{getD}
-use borrow.Author.Tests.{eqb-true, eq-eqb, leb-true, le-leb, not-true}
+use borrow.Author.Tests.{eqb-true, eq-eqb, leb-true, not-true}
 use Rattle.terms.specs.Assignments.{Assignment}
 use Rattle.terms.specs.Table.{bitOf}
 use Rattle.answers.specs.Pairs.{Pair, satisfiesPairs}
 use Rattle.answers.specs.inner.Classes.{rep, Represents}
 use Rattle.laws.specs.Lists.{below, member, distinct}
-use Rattle.laws.proofs.Bools.{and-first, and-second, and-both}
+use Rattle.laws.proofs.Bools.{and-first, and-second, one-most, clash}
 use Rattle.laws.proofs.Numbers.{lt-or-le}
 use Rattle.answers.proofs.Exact.{equals-to}
-use Rattle.laws.proofs.Tallies.{below-of, pigeon}
-use Rattle.answers.proofs.Slots.{equals-from, tab-assignment, Slot, fill, part, value, System, loose, glued, heads, fresh}
-use Rattle.laws.proofs.Lists.{tab, tab-at}
+use Rattle.laws.proofs.Tallies.{pigeon}
+use Rattle.answers.proofs.Agreement.{place-bit, fixed-bit, fixed-class}
+use Rattle.answers.proofs.Gluing.{glued-i}
+use Rattle.answers.proofs.Slots.{equals-from, slots-assignment, slots-at, Slot, fill, part, value, System, loose, glued, heads, fresh}
+use Rattle.laws.proofs.Lists.{tab}
 
 module _ (n : ℕ) (c : List ℕ) (seen : List Pair) (inv : Represents n c seen) (one : rep c 1 ≡ 1) (start : ℕ → Bool) (last : start n ≡ true) (S : System n start seen) where
   abbrev C : ℕ → ℕ
   C i = rep c (suc (suc i))
-
-  pub place-bit : (p : List ℕ) (i : ℕ) → bitOf p (suc (suc i)) ≡ getD p i 0
-  unfolding bitOf
-  place-bit p i = refl
 
   -- what holds in every pattern is in the classes, and the other way round
   pub class-i : (s t : ℕ) → ((p : List ℕ) → Assignment n p → satisfiesPairs p seen ≡ true → bitOf p s ≡ bitOf p t) → rep c s ≡ rep c t
@@ -37,7 +34,6 @@ module _ (n : ℕ) (c : List ℕ) (seen : List Pair) (inv : Represents n c seen)
 
   -- one place of the system: one class
   slot-class : (i j f o : ℕ) → i < n → j < n → S .slot i ≡ part f o → S .slot j ≡ part f o → C i ≡ C j
-  unfolding C
   slot-class i j f o a b s t =
       class-i (suc (suc i)) (suc (suc j)) (λ p h m.
       let k = S .takes p h m in
@@ -49,15 +45,11 @@ module _ (n : ℕ) (c : List ℕ) (seen : List Pair) (inv : Represents n c seen)
 
   given-assignment : (φ : ℕ → ℕ → ℕ) → ((f o : ℕ) → φ f o ≤ 1) → Assignment n (given φ)
   unfolding given
-  given-assignment φ h = tab-assignment n (λ i. value φ (S .slot i)) (λ i. go (S .slot i) (λ b. S .bits i b))
-    where
-      go : (x : Slot) → ((b : ℕ) → x ≡ fill b → b ≤ 1) → value φ x ≤ 1
-      go (fill b) k = k b refl
-      go (part f o) k = h f o
+  given-assignment = slots-assignment n (S .slot) (S .bits)
 
   given-at : (φ : ℕ → ℕ → ℕ) (i : ℕ) → i < n → bitOf (given φ) (suc (suc i)) ≡ value φ (S .slot i)
   unfolding given
-  given-at φ i l = place-bit (given φ) i ∙ tab-at n (λ j. value φ (S .slot j)) i l
+  given-at = slots-at n (S .slot)
 
   -- the filling with 1 at bit o of piece f alone
   mark : ℕ → ℕ → ℕ → ℕ → ℕ
@@ -65,11 +57,7 @@ module _ (n : ℕ) (c : List ℕ) (seen : List Pair) (inv : Represents n c seen)
 
   mark-le : (f o g u : ℕ) → mark f o g u ≤ 1
   unfolding mark
-  mark-le f o g u = go (eqb g f && eqb u o)
-    where
-      go : (t : Bool) → cond {A = ℕ} t 1 0 ≤ 1
-      go true = omega arith
-      go false = omega arith
+  mark-le f o g u = one-most (eqb g f && eqb u o)
 
   mark-self : (f o : ℕ) → mark f o f o ≡ 1
   unfolding mark
@@ -86,7 +74,7 @@ module _ (n : ℕ) (c : List ℕ) (seen : List Pair) (inv : Represents n c seen)
 
   -- two bits of one class have one value under every filling
   class-value : (i j : ℕ) → i < n → j < n → C i ≡ C j → (φ : ℕ → ℕ → ℕ) → ((f o : ℕ) → φ f o ≤ 1) → value φ (S .slot i) ≡ value φ (S .slot j)
-  unfolding C given
+  unfolding given
   class-value i j a b e φ h = cc (class-e (suc (suc i)) (suc (suc j)) e (given φ) (given-assignment φ h) (S .gives φ h), given-at φ i a, given-at φ j b)
 
   class-slot : (i j f o : ℕ) → i < n → j < n → C i ≡ C j → S .slot i ≡ part f o → S .slot j ≡ part f o
@@ -105,97 +93,48 @@ module _ (n : ℕ) (c : List ℕ) (seen : List Pair) (inv : Represents n c seen)
           let m = mark-one f o g u (sym k ∙ mark-self f o) in
           cc
 
-  -- the class of a fixed bit
-  pub fixed-class : (b : ℕ) → b ≤ 1 → rep c b ≡ b
-  fixed-class zero l = omega (arith, inv .low 0)
-  fixed-class (suc zero) l = one
-  fixed-class (suc (suc b)) l = absurd (omega arith)
-
-  pub fixed-bit : (p : List ℕ) (b : ℕ) → b ≤ 1 → bitOf p b ≡ b
-  unfolding bitOf
-  fixed-bit p zero l = refl
-  fixed-bit p (suc zero) l = refl
-  fixed-bit p (suc (suc b)) l = absurd (omega arith)
-
   loose-slot : (i : ℕ) → i < n → 2 ≤ C i → (f : ℕ) × (o : ℕ) × (S .slot i ≡ part f o)
-  unfolding C
   loose-slot i l h = go (S .slot i) refl
     where
       go : (x : Slot) → S .slot i ≡ x → (f : ℕ) × (o : ℕ) × (S .slot i ≡ part f o)
       go (fill b) t =
           let s = S .bits i b t in
           let e = class-i (suc (suc i)) b (λ p k m. let w = S .takes p k m in cc (w .1 i l, place-bit p i, fixed-bit p b s)) in
-          absurd (omega (arith, fixed-class b s))
+          absurd (omega (arith, fixed-class n c seen inv one b s))
       go (part f o) t = (f, o, t)
 
   part-loose : (i f o : ℕ) → i < n → S .slot i ≡ part f o → 2 ≤ C i
-  unfolding C given
+  unfolding given
   part-loose i f o l t = go (lt-or-le (C i) 2)
     where
       go : (C i < 2) ⊎ (2 ≤ C i) → 2 ≤ C i
       go (inr h) = h
       go (inl h) =
           let b : ℕ = C i in
-          let e : rep c (suc (suc i)) ≡ rep c b = sym (fixed-class b (omega arith)) in
+          let e : rep c (suc (suc i)) ≡ rep c b = sym (fixed-class n c seen inv one b (omega arith)) in
           let at : (φ : ℕ → ℕ → ℕ) → ((f o : ℕ) → φ f o ≤ 1) → φ f o ≡ b = λ φ k. cc (class-e (suc (suc i)) b e (given φ) (given-assignment φ k) (S .gives φ k), given-at φ i l, fixed-bit (given φ) b (omega arith)) in
           absurd (omega (arith, mark-self f o, at (mark f o) (mark-le f o), at (λ g u. 0) (λ g u. omega arith)))
 
   -- where the other system goes on with a piece, so does the rule
   glue : (i f o : ℕ) → suc i < n → S .slot (suc i) ≡ part f (suc o) → glued n start C i ≡ true
-  unfolding glued
   glue i f o l t =
-      and-both (a && b && d && below n back) (below n on) (and-both (a && b && d) (below n back) (and-both (a && b) d (and-both a b a1 b1) d1) (below-of n back back1)) (below-of n on on1)
+      glued-i n start C i (record {
+        here = part-loose i f o (omega arith) (low .1);
+        there = part-loose (suc i) f (suc o) l t;
+        open' = low .0;
+        back = λ k m e. at k m (class-slot (suc i) k f (suc o) l m (sym e) t);
+        onward = λ k m e.
+            let u = S .after k f o m (class-slot i k f o (omega arith) m (sym e) (low .1)) (S .inside (suc i) f (suc o) l t .1) in
+            let w : suc k ≢ n = λ q. clash (start (suc k)) (ap start q ∙ last) (u .0) in
+            (u .0, slot-class (suc k) (suc i) f (suc o) (omega arith) l (u .1) t);
+      })
     where
-      a : Bool
-      a = loose C i
-
-      b : Bool
-      b = loose C (suc i)
-
-      d : Bool
-      d = not (start (suc i))
-
-      back : ℕ → Bool
-      back k = not (eqb (C k) (C (suc i))) || (not (start k) && eqb (C (pred k)) (C i))
-
-      on : ℕ → Bool
-      on k = not (eqb (C k) (C i)) || (not (start (suc k)) && eqb (C (suc k)) (C (suc i)))
-
       low : (start (suc i) ≡ false) × (S .slot i ≡ part f o)
       low = S .before i f o l t
 
-      a1 : a ≡ true
-      a1 = le-leb 2 (C i) (part-loose i f o (omega arith) (low .1))
-
-      b1 : b ≡ true
-      b1 = le-leb 2 (C (suc i)) (part-loose (suc i) f (suc o) l t)
-
-      d1 : d ≡ true
-      d1 = rw (low .0)
-
-      back1 : (k : ℕ) → k < n → back k ≡ true
-      back1 k m = go (eqb (C k) (C (suc i))) refl
-        where
-          at : (k : ℕ) → k < n → S .slot k ≡ part f (suc o) → not (start k) && eqb (C (pred k)) (C i) ≡ true
-          at zero m s = absurd (S .first f o s)
-          at (suc k) m s =
-              let u = S .before k f o m s in
-              rw (u .0) (eq-eqb (C k) (C i) (slot-class k i f o (omega arith) (omega arith) (u .1) (low .1)))
-
-          go : (x : Bool) → eqb (C k) (C (suc i)) ≡ x → not x || (not (start k) && eqb (C (pred k)) (C i)) ≡ true
-          go false e = refl
-          go true e = at k m (class-slot (suc i) k f (suc o) l m (sym (eqb-true (C k) (C (suc i)) e)) t)
-
-      on1 : (k : ℕ) → k < n → on k ≡ true
-      on1 k m = go (eqb (C k) (C i)) refl
-        where
-          go : (x : Bool) → eqb (C k) (C i) ≡ x → not x || (not (start (suc k)) && eqb (C (suc k)) (C (suc i))) ≡ true
-          go false e = refl
-          go true e =
-              let s = class-slot i k f o (omega arith) m (sym (eqb-true (C k) (C i) e)) (low .1) in
-              let u = S .after k f o m s (S .inside (suc i) f (suc o) l t .1) in
-              let w : suc k ≢ n = λ q. let z : false ≡ true = sym (u .0) ∙ ap start q ∙ last in let y : _≡_ {A = ℕ} 0 1 = cc in omega arith in
-              rw (u .0) (eq-eqb (C (suc k)) (C (suc i)) (slot-class (suc k) (suc i) f (suc o) (omega arith) l (u .1) t))
+      at : (k : ℕ) → k < n → S .slot k ≡ part f (suc o) → (start k ≡ false) × (C (pred k) ≡ C i)
+      at zero m s = absurd (S .first f o s)
+      at (suc k) m s = let u = S .before k f o m s in (u .0, slot-class k i f o (omega arith) (omega arith) (u .1) (low .1))
 
   heads-loose : (i : ℕ) → heads n start C i ≡ true → 2 ≤ C i
   unfolding heads

@@ -1,6 +1,6 @@
 -- What pairs say depends on the assignments that satisfy them alone, so neither on their order nor on the order of their sides.
 use mathlib.Core.Path.{_≡_, refl, sym, _∙_, ap, ap₂}
-use mathlib.Core.Bool.{Bool, true, false, not, _&&_, _||_, and-comm}
+use mathlib.Core.Bool.{Bool, not, _&&_, _||_, and-comm, and-assoc}
 use mathlib.Core.List.{List, [], _∷_, _++_, map}
 use Prim.Native.Nat.{ℕ, zero, suc, _+_}
 use lib.Dec.{eqb}
@@ -28,16 +28,12 @@ pub representative-same : (n : ℕ) (qs rs : List Pair) → SaySame qs rs → (s
 unfolding representative
 representative-same n qs rs h s = least-ext (equals n qs s) (equals n rs s) (equals-same n qs rs h s) 0 s
 
-and-group : (a b c : Bool) → a && (b && c) ≡ (a && b) && c
-and-group true b c = refl
-and-group false b c = refl
-
 pub satisfies-append : (p : List ℕ) (qs rs : List Pair) → satisfiesPairs p (qs ++ rs) ≡ satisfiesPairs p qs && satisfiesPairs p rs
 unfolding satisfiesPairs
 satisfies-append p [] rs = refl
 satisfies-append p (q ∷ qs) rs =
     ap (λ (b : Bool). eqb (bitOf p (q .left)) (bitOf p (q .right)) && b) (satisfies-append p qs rs)
-    ∙ and-group (eqb (bitOf p (q .left)) (bitOf p (q .right))) (satisfiesPairs p qs) (satisfiesPairs p rs)
+    ∙ sym (and-assoc (eqb (bitOf p (q .left)) (bitOf p (q .right))) (satisfiesPairs p qs) (satisfiesPairs p rs))
 
 pub parts-exchanged : (qs rs : List Pair) → SaySame (qs ++ rs) (rs ++ qs)
 parts-exchanged qs rs p =

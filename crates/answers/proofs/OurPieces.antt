@@ -1,6 +1,6 @@
 -- The solver's answer, place by place, is a solved system.
 use mathlib.Core.Path.{_≡_, refl, sym, ap, ap₂, _∙_}
-use mathlib.Core.Logic.{_⊎_, inl, inr, _≢_}
+use mathlib.Core.Logic.{_⊎_, inl, inr}
 use mathlib.Core.Bool.{Bool, true, false, not, _&&_, cond}
 use mathlib.Core.List.{List}
 use Prim.Native.Nat.{ℕ, zero, suc, _+_, _-_, _≤_, _<_}
@@ -14,13 +14,12 @@ use Rattle.answers.specs.Pairs.{Pair, satisfiesPairs}
 use Rattle.answers.specs.inner.Classes.{rep, Represents}
 use Rattle.laws.specs.Lists.{tally}
 use Rattle.laws.proofs.Bools.{and-first, and-second, and-both}
-use Rattle.laws.proofs.Numbers.{dec-eq}
-use Rattle.answers.proofs.Agreement.{bit-past}
+use Rattle.answers.proofs.Agreement.{place-bit, fixed-bit, fixed-class, bit-past}
 use Rattle.laws.proofs.Numbers.{lt-or-le}
 use Rattle.laws.proofs.Tallies.{tally-mono, select, select-rank, select-mark}
-use Rattle.laws.proofs.Lists.{tab, tab-at}
-use Rattle.answers.proofs.Slots.{tab-assignment, Slot, fill, part, value, loose, glued, heads}
-use Rattle.answers.proofs.Gluing.{glued-e, place, front, reach, front-place, differ, place-class, reach-class, reach-pos, reach-front, reach-two, front-head, front-loose, heads-class}
+use Rattle.laws.proofs.Lists.{tab}
+use Rattle.answers.proofs.Slots.{slots-assignment, slots-at, Slot, fill, part, value, loose, glued, heads}
+use Rattle.answers.proofs.Gluing.{glued-e, start-in, place, front, reach, front-place, place-class, reach-class, reach-pos, reach-front, reach-two, front-head, front-loose, heads-class}
 
 module _ (n : ℕ) (c : List ℕ) (seen : List Pair) (inv : Represents n c seen) (one : rep c 1 ≡ 1) (start : ℕ → Bool) (begin : start 0 ≡ true) (last : start n ≡ true) where
   abbrev C : ℕ → ℕ
@@ -151,39 +150,20 @@ module _ (n : ℕ) (c : List ℕ) (seen : List Pair) (inv : Represents n c seen)
           let q : home i + suc (place n start C i) ≡ suc (home i + place n start C i) = omega arith in
           ap C q ∙ G .onward (home i + place n start C i) (omega (arith, home-le i, front-place n start C begin last i)) (r (G .here)) .1
 
-  pub fixed-class : (b : ℕ) → b ≤ 1 → rep c b ≡ b
-  fixed-class zero l = omega (arith, inv .low 0)
-  fixed-class (suc zero) l = one
-  fixed-class (suc (suc b)) l = absurd (omega arith)
-
-  pub fixed-bit : (p : List ℕ) (b : ℕ) → b ≤ 1 → bitOf p b ≡ b
-  unfolding bitOf
-  fixed-bit p zero l = refl
-  fixed-bit p (suc zero) l = refl
-  fixed-bit p (suc (suc b)) l = absurd (omega arith)
-
-  pub place-bit : (p : List ℕ) (i : ℕ) → bitOf p (suc (suc i)) ≡ getD p i 0
-  unfolding bitOf
-  place-bit p i = refl
-
   pub slot-gives : (φ : ℕ → ℕ → ℕ) → ((f o : ℕ) → φ f o ≤ 1) → satisfiesPairs (tab n (λ i. value φ (slot i))) seen ≡ true
   slot-gives φ h = inv .full p pat at
     where
       p : List ℕ
       p = tab n (λ i. value φ (slot i))
 
-      val : (x : Slot) → ((b : ℕ) → x ≡ fill b → b ≤ 1) → value φ x ≤ 1
-      val (fill b) k = k b refl
-      val (part f o) k = h f o
-
       pat : Assignment n p
-      pat = tab-assignment n (λ i. value φ (slot i)) (λ i. val (slot i) (slot-bits i))
+      pat = slots-assignment n slot slot-bits φ h
 
       here : (i : ℕ) → i < n → bitOf p (suc (suc i)) ≡ value φ (slot i)
-      here i l = place-bit p i ∙ tab-at n (λ j. value φ (slot j)) i l
+      here = slots-at n slot φ
 
       at : (s : ℕ) → bitOf p s ≡ bitOf p (rep c s)
-      at zero = ap (bitOf p) (sym (fixed-class 0 (omega arith)))
+      at zero = ap (bitOf p) (sym (fixed-class n c seen inv one 0 (omega arith)))
       at (suc zero) = ap (bitOf p) (sym one)
       at (suc (suc i)) = go (lt-or-le i n) (lt-or-le (C i) 2)
         where
@@ -242,15 +222,8 @@ module _ (n : ℕ) (c : List ℕ) (seen : List Pair) (inv : Represents n c seen)
       let h = slot-there k o l (omega arith) in
       let a = slot-after (select n mark k + o) k o (h .0) (h .1) w in
       let e : select n mark k + suc o ≡ suc (select n mark k + o) = omega arith in
-      let i : suc (select n mark k + o) < n = inside (select n mark k + o) (h .0) (a .0) in
+      let i : suc (select n mark k + o) < n = start-in n start C begin last (select n mark k + o) (h .0) (a .0) in
       (omega (arith, i), ap slot e ∙ a .1)
-    where
-      inside : (i : ℕ) → i < n → start (suc i) ≡ false → suc i < n
-      inside i l s = go (dec-eq (suc i) n)
-        where
-          go : (suc i ≡ n) ⊎ (suc i ≢ n) → suc i < n
-          go (inl e) = absurd (differ n start C begin last (start (suc i)) (ap start e ∙ last) s)
-          go (inr e) = omega arith
 
   -- a slot of a fresh piece is one of its places
   pub slot-inside : (i f o : ℕ) → i < n → slot i ≡ part f o → (f < tally n mark) × (o < wide f)

@@ -20,15 +20,14 @@ use Rattle.answers.specs.declared.AnswerRow.{AnswerRow}
 use Rattle.laws.specs.Lists.{distinct}
 use Rattle.answers.specs.Systems.{fill as fillPart, fresh as freshPart, FinePart, SolvedSystem, labelsOf, freshCount, pieceBits, partBits, sideBits, systemBits, Filling, Gives}
 use Rattle.answers.specs.Solve.{valid, unsatisfiable, pairsTogether, solvedRows, answerRecord}
-use Rattle.answers.proofs.Agreement.{satisfies-reverse}
-use Rattle.answers.proofs.Slots.{Slot, fill, part, value, tab-assignment}
+use Rattle.answers.proofs.Slots.{Slot, fill, value, slots-assignment}
 use Rattle.laws.proofs.Lists.{tab, tab-at, tab-length, tab-more}
 use Rattle.answers.proofs.OurPieces.{slot, wide, slot-bits, slot-gives, slot-reads, filled}
 use Rattle.answers.proofs.AnswerRows.{partsFrom, rowSlots, slotsTo, Each, slotsBelow, Whole, rows-are}
 use Rattle.answers.proofs.Instantiating.{fills-value, answer-whole}
 use Rattle.answers.proofs.GeneralSystems.{widthSum}
-use Rattle.answers.proofs.Variables.{widths-sum, begins-first, begins-behind}
-use Rattle.answers.proofs.Tables.{tableClasses, represent, satisfies-is, apart-one, solved-rows}
+use Rattle.answers.proofs.Variables.{widths-sum, begins-first, begins-last}
+use Rattle.answers.proofs.Tables.{tableClasses, represent, satisfies-seen, apart-one, solved-rows}
 use Rattle.answers.proofs.Demands.{demand-3}
 use Rattle.answers.proofs.RowSides.{flat, labels-flat, bits-flat, row-labels, flat-rows, fine-sides, InOrder, in-order}
 use Rattle.answers.specs.Demands.{partOf, sidesOf, AnswerSystem}
@@ -60,10 +59,6 @@ rows-slots φ (x ∷ xs) ys =
     ∙ ap (λ (l : List ℕ). map (value φ) (slotsTo xs) ++ (l ++ sideBits φ (map partOf ys))) (row-slots φ x)
     ∙ sym (append-assoc (map (value φ) (slotsTo xs)) (map (value φ) (rowSlots x)) (sideBits φ (map partOf ys)))
     ∙ ap (λ (l : List ℕ). l ++ sideBits φ (map partOf ys)) (sym (map-append (value φ) (slotsTo xs) (rowSlots x)))
-
-value-bit : (φ : ℕ → ℕ → ℕ) → Filling φ → (x : Slot) → ((b : ℕ) → x ≡ fill b → b ≤ 1) → value φ x ≤ 1
-value-bit φ h (fill b) k = k b refl
-value-bit φ h (part g o) k = h g o
 
 module _ (n : ℕ) (c : List ℕ) (seen : List Pair) (inv : Represents n c seen) (one : rep c 1 ≡ 1) (ws : List ℕ) (begin : begins ws 0 ≡ true) (last : begins ws n ≡ true) (sum : widthSum ws ≡ n) where
   abbrev answer : List AnswerRow
@@ -128,9 +123,7 @@ module _ (n : ℕ) (c : List ℕ) (seen : List Pair) (inv : Represents n c seen)
       turned = unfold answerRows sideBits in (rows-slots φ (rowsTo n ws (inClass c) n) [] ∙ append-nil (map (value φ) (slotsTo (rowsTo n ws (inClass c) n))))
 
   answer-assignment : (φ : ℕ → ℕ → ℕ) → Filling φ → Assignment n (systemBits φ (sidesOf ws (answerRows n ws (inClass c))))
-  answer-assignment φ h =
-      rw (system-is φ)
-      (tab-assignment n (λ i. value φ (slotOf i)) (λ i. value-bit φ h (slotOf i) (slot-bits n c seen inv one (begins ws) begin last i)))
+  answer-assignment φ h = rw (system-is φ) (slots-assignment n slotOf (slot-bits n c seen inv one (begins ws) begin last) φ h)
 
   answer-gives : Gives n (λ p. satisfiesPairs p seen) (sidesOf ws (answerRows n ws (inClass c)))
   answer-gives =
@@ -184,10 +177,7 @@ module _ (table : List ℕ) (accepted : firstFault table ≡ Accepted) (solved :
   one = apart-one table accepted some
 
   ending : begins ws n ≡ true
-  ending = ap (begins ws) (sym (widths-sum t)) ∙ begins-behind ws
-
-  by-seen : (p : List ℕ) → Assignment n p → satisfies t p ≡ satisfiesPairs p seen
-  by-seen p a = satisfies-is table accepted p a ∙ sym (satisfies-reverse p (pairsTogether (equationPairs t)))
+  ending = begins-last t
 
   rows-are-those : solvedRows t ≡ answerRows n ws (inClass c)
   rows-are-those = solved-rows table accepted some
@@ -197,10 +187,10 @@ module _ (table : List ℕ) (accepted : firstFault table ≡ Accepted) (solved :
       let G = answer-gives n c seen (represent table accepted) one ws (begins-first ws) ending (widths-sum t) in
       record {
         passes = λ φ h.
-            by-seen (systemBits φ (sidesOf ws (answerRows n ws (inClass c))))
+            satisfies-seen table accepted (systemBits φ (sidesOf ws (answerRows n ws (inClass c))))
             (answer-assignment n c seen (represent table accepted) one ws (begins-first ws) ending (widths-sum t) φ h)
             ∙ G .passes φ h;
-        reaches = λ p a s. G .reaches p a (sym (by-seen p a) ∙ s);
+        reaches = λ p a s. G .reaches p a (sym (satisfies-seen table accepted p a) ∙ s);
       }
 
   -- The answer is a solved system with the table's patterns.

@@ -1,6 +1,6 @@
 -- The answer's definitions where equal bits are those of one class: they come to the classes' numbers.
 use mathlib.Core.Path.{_≡_, refl, sym, ap, ap₂, _∙_}
-use mathlib.Core.Logic.{_⊎_, inl, inr, _≢_}
+use mathlib.Core.Logic.{_⊎_, inl, inr}
 use mathlib.Core.Bool.{Bool, true, false, not, _&&_, _||_, and-false}
 use mathlib.Core.List.{List}
 use Prim.Native.Nat.{ℕ, zero, suc, _+_, _-_, _≤_, _<_, pred}
@@ -8,13 +8,13 @@ use native.Mathlib.Omega.{arith}
 use lib.Dec.{eqb, leb}
 use borrow.Author.Tests.{eqb-true, eq-eqb, ne-eqb, le-leb, lt-leb, not-true}
 use Rattle.answers.specs.Pairs.{Pair}
-use Rattle.laws.specs.Lists.{least}
 use Rattle.answers.specs.inner.Classes.{rep, inClass, Represents}
 use Rattle.laws.specs.Lists.{below}
 use Rattle.answers.specs.Answer.{begins, fixedTo, unfixed, contiguous, fixedAlike, goesOn, lowest, appears}
 use Rattle.laws.proofs.Bools.{and-first, same-test}
-use Rattle.laws.proofs.Numbers.{dec-eq}
+use Rattle.laws.proofs.Least.{least-at}
 use Rattle.laws.proofs.Numbers.{lt-or-le}
+use Rattle.answers.proofs.Agreement.{fixed-class}
 use Rattle.answers.proofs.Slots.{loose, glued, heads}
 use Rattle.answers.proofs.Gluing.{glued-e}
 
@@ -22,14 +22,9 @@ module _ (n : ℕ) (c : List ℕ) (seen : List Pair) (inv : Represents n c seen)
   abbrev C : ℕ → ℕ
   C i = rep c (suc (suc i))
 
-  zero-rep : rep c 0 ≡ 0
-  zero-rep = omega (arith, inv .low 0)
-
   pub fixed-is : (i b : ℕ) → b ≤ 1 → fixedTo (inClass c) i b ≡ eqb (C i) b
   unfolding inClass
-  fixed-is i zero l = ap (eqb (C i)) zero-rep
-  fixed-is i (suc zero) l = ap (eqb (C i)) one
-  fixed-is i (suc (suc b)) l = absurd (omega arith)
+  fixed-is i b l = ap (eqb (C i)) (fixed-class n c seen inv one b l)
 
   pub unfixed-is : (i : ℕ) → unfixed (inClass c) i ≡ loose C i
   unfixed-is i =
@@ -87,35 +82,18 @@ module _ (n : ℕ) (c : List ℕ) (seen : List Pair) (inv : Represents n c seen)
       go (suc (suc x)) y k = rw (ne-eqb (suc (suc x)) 0 (omega arith), ne-eqb (suc (suc x)) 1 (omega arith), ne-eqb (suc (suc x)) y (omega arith))
 
   -- the lowest tied place
-  least-at : (f : ℕ → Bool) (k d j : ℕ) → j < d → f (k + j) ≡ true → ((m : ℕ) → k ≤ m → m < k + j → f m ≡ false) → least f k d ≡ k + j
-  unfolding least
-  least-at f k zero j l h g = absurd (omega arith)
-  least-at f k (suc d) zero l h g = let e : k + 0 ≡ k = omega arith in rw (e, rw e at h)
-  least-at f k (suc d) (suc j) l h g =
-      let e : k + suc j ≡ suc k + j = omega arith in
-      rw (g k (omega arith) (omega arith)) (least-at f (suc k) d j (omega arith) (ap f (sym e) ∙ h) (λ m a b. g m (omega arith) (omega arith)) ∙ sym e)
-
-  least-none : (f : ℕ → Bool) (k d : ℕ) → ((m : ℕ) → k ≤ m → m < k + d → f m ≡ false) → least f k d ≡ k + d
-  unfolding least
-  least-none f k zero g = omega arith
-  least-none f k (suc d) g = rw (g k (omega arith) (omega arith)) (least-none f (suc k) d (λ m a b. g m (omega arith) (omega arith)) ∙ omega arith)
-
   pub lowest-is : (i : ℕ) → 2 ≤ C i → lowest (inClass c) i ≡ C i - 2
   unfolding lowest inClass
-  lowest-is i l = go (dec-eq (C i) (suc (suc i)))
+  lowest-is i l =
+      least-at f 0 i (C i - 2) (omega (arith, inv .low (suc (suc i)))) (λ q. there) (λ m a b. ne-eqb (C i) (C m) (omega (arith, inv .low (suc (suc m))))) ∙ omega arith
     where
       f : ℕ → Bool
       f k = eqb (C i) (C k)
 
-      lower : (m : ℕ) → m < C i - 2 → f m ≡ false
-      lower m h = ne-eqb (C i) (C m) (omega (arith, inv .low (suc (suc m))))
-
-      go : (C i ≡ suc (suc i)) ⊎ (C i ≢ suc (suc i)) → least f 0 i ≡ C i - 2
-      go (inl e) = least-none f 0 i (λ m a b. lower m (omega arith)) ∙ omega arith
-      go (inr e) =
+      there : f (0 + (C i - 2)) ≡ true
+      there =
           let s : suc (suc (C i - 2)) ≡ C i = omega arith in
-          let k : f (0 + (C i - 2)) ≡ true = ap f (omega arith) ∙ eq-eqb (C i) (C (C i - 2)) (sym (ap (rep c) s ∙ inv .root (suc (suc i)))) in
-          least-at f 0 i (C i - 2) (omega (arith, inv .low (suc (suc i)))) k (λ m a b. lower m (omega arith)) ∙ omega arith
+          ap f (omega arith) ∙ eq-eqb (C i) (C (C i - 2)) (sym (ap (rep c) s ∙ inv .root (suc (suc i))))
 
   pub heads-are : (i : ℕ) → 2 ≤ C i → not (goesOn n ws (inClass c) i) ≡ heads n (begins ws) C i
   unfolding heads goesOn

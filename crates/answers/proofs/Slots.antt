@@ -3,7 +3,7 @@ use mathlib.Core.Path.{_≡_, refl}
 use mathlib.Core.Logic.{_≢_}
 use mathlib.Core.Bool.{Bool, true, false, not, _&&_, _||_}
 use mathlib.Core.List.{List}
-use Prim.Native.Nat.{ℕ, zero, suc, _-_, _≤_, _<_, pred}
+use Prim.Native.Nat.{ℕ, zero, suc, _≤_, _<_, pred}
 use lib.Dec.{eqb, leb}
 use lib.ListN.{getD}
 use borrow.Author.Tests.{eq-eqb}
@@ -23,9 +23,6 @@ equals-from n seen s t h = every-of n (λ p. not (satisfiesPairs p seen) || eqb 
     go p k true m = eq-eqb (bitOf p s) (bitOf p t) (h p k m)
     go p k false m = refl
 
-pub tab-assignment : (n : ℕ) (f : ℕ → ℕ) → ((i : ℕ) → f i ≤ 1) → Assignment n (tab n f)
-tab-assignment n f h = assignment-of n (tab n f) (tab-length n f) (λ i l. rw (tab-at n f i l) (h i))
-
 -- what stands at a bit: a fill's bit, or bit o of fresh piece f
 pub data Slot : Type 0 where
   fill : ℕ → Slot
@@ -34,6 +31,20 @@ pub data Slot : Type 0 where
 abbrev pub value : (ℕ → ℕ → ℕ) → Slot → ℕ
 value φ (fill b) = b
 value φ (part f o) = φ f o
+
+-- slots give an assignment at each filling
+pub slots-assignment : (n : ℕ) (slot : ℕ → Slot) → ((i b : ℕ) → slot i ≡ fill b → b ≤ 1) → (φ : ℕ → ℕ → ℕ) → ((f o : ℕ) → φ f o ≤ 1)
+    → Assignment n (tab n (λ i. value φ (slot i)))
+slots-assignment n slot bits φ h =
+    assignment-of n (tab n (λ i. value φ (slot i))) (tab-length n (λ i. value φ (slot i))) (λ i l. rw (tab-at n (λ j. value φ (slot j)) i l) (go (slot i) (bits i)))
+  where
+    go : (x : Slot) → ((b : ℕ) → x ≡ fill b → b ≤ 1) → value φ x ≤ 1
+    go (fill b) k = k b refl
+    go (part f o) k = h f o
+
+pub slots-at : (n : ℕ) (slot : ℕ → Slot) (φ : ℕ → ℕ → ℕ) (i : ℕ) → i < n → bitOf (tab n (λ j. value φ (slot j))) (suc (suc i)) ≡ value φ (slot i)
+unfolding bitOf
+slots-at n slot φ i l = tab-at n (λ j. value φ (slot j)) i l
 
 pub record System (n : ℕ) (start : ℕ → Bool) (seen : List Pair) : Type 0 where
   pub labels : List ℕ

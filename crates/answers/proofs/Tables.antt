@@ -3,7 +3,7 @@ use mathlib.Core.Path.{_≡_, refl, sym, _∙_, ap, ap₂, fun-ext}
 use mathlib.Core.Logic.{_⊎_, inl, inr, _≢_}
 use mathlib.Core.Bool.{Bool, true, false, not, _||_, and-true}
 use mathlib.Core.List.{List, [], _∷_, reverse, reverseAux}
-use Prim.Native.Nat.{ℕ, zero, suc, _+_, _-_, _^_, _≤_, _<_}
+use Prim.Native.Nat.{ℕ, zero, suc, _+_, _^_, _≤_, _<_}
 use native.Mathlib.Omega.{arith}
 use lib.Dec.{eqb}
 use lib.ListN.{length, take, drop}
@@ -107,6 +107,9 @@ module _ (table : List ℕ) (accepted : firstFault table ≡ Accepted) where
   pub satisfies-is : (p : List ℕ) → Assignment n p → satisfies t p ≡ satisfiesPairs p qs
   satisfies-is p a = table-pairs t p sound (assignment-length a) ∙ sym (satisfies-together p es)
 
+  pub satisfies-seen : (p : List ℕ) → Assignment n p → satisfies t p ≡ satisfiesPairs p (reverse qs)
+  satisfies-seen p a = satisfies-is p a ∙ sym (satisfies-reverse p qs)
+
   none-is : unsatisfiable t ≡ noneSatisfies n qs
   unfolding unsatisfiable noneSatisfies
   none-is = every-same n (λ p. not (satisfies t p)) (λ p. not (satisfiesPairs p qs)) (λ p a. ap not (satisfies-is p a))
@@ -167,7 +170,7 @@ module _ (table : List ℕ) (accepted : firstFault table ≡ Accepted) where
     pub same-relation : equalUnder n (satisfies t) ≡ inClass tableClasses
     unfolding inClass
     same-relation =
-        equal-same n (satisfies t) (λ p. satisfiesPairs p (reverse qs)) (λ p a. satisfies-is p a ∙ sym (satisfies-reverse p qs))
+        equal-same n (satisfies t) (λ p. satisfiesPairs p (reverse qs)) satisfies-seen
         ∙ fun-ext (λ s. fun-ext (λ u. equals-is n tableClasses (reverse qs) represent apart-one s u))
 
     pub rows-by-classes : answerRows n (variableWidths t) (equalUnder n (satisfies t)) ≡ answerRows n (variableWidths t) (inClass tableClasses)

@@ -1,20 +1,19 @@
--- The widths of the variables of a table: they add up to its variable bits, there is one for each variable, and a variable begins at
--- place 0 and behind the last place.
-use mathlib.Core.Path.{_≡_, refl, _∙_, ap}
+-- The widths of the variables of a table: they are as many as its variables and add up to its variable bits, and a variable begins at place 0 and behind the last place.
+use mathlib.Core.Path.{_≡_, refl, sym, _∙_, ap}
 use mathlib.Core.Bool.{Bool, true, false, cond}
 use mathlib.Core.List.{List, [], _∷_, _++_, map}
 use Prim.Native.Nat.{ℕ, zero, suc, _+_, _-_, _≤_}
 use native.Mathlib.Omega.{arith}
 use lib.Dec.{eqb, ltb}
 use lib.ListN.{length, replicate}
-use borrow.Author.Tests.{eq-eqb, ne-eqb, ltb-true}
+use borrow.Author.Tests.{eq-eqb, ne-eqb}
 use Rattle.terms.specs.declared.Row.{Row}
 use Rattle.terms.specs.Assignments.{Assignment, done, off, on}
 use Rattle.terms.specs.Table.{bitsIn, bitsOf, countKind}
 use Rattle.terms.proofs.RowKinds.{by-variable, bits-variable, bits-other}
 use Rattle.answers.specs.Answer.{variableWidths, begins}
 use Rattle.answers.specs.Systems.{Part, fill, fresh, partWidth, sideWidth, FinePart, FineSide, FineSides, SolvedSystem, pieceBits, partBits, sideBits, systemBits, Filling}
-use Rattle.answers.proofs.GeneralSystems.{widthSum}
+use Rattle.answers.proofs.GeneralSystems.{widthSum, begins-end}
 
 pub widths-sum : (t : List Row) → widthSum (variableWidths t) ≡ bitsOf t
 unfolding widthSum variableWidths bitsOf
@@ -25,11 +24,11 @@ widths-sum (r ∷ t) =
     (λ e. omega (arith, bits-variable r e))
     (λ h. omega (arith, bits-other r h))
 
-pub variables-count : (t : List Row) → length (variableWidths t) ≡ countKind 0 t
+pub widths-count : (t : List Row) → length (variableWidths t) ≡ countKind 0 t
 unfolding variableWidths countKind
-variables-count [] = refl
-variables-count (r ∷ t) =
-    let later = variables-count t in
+widths-count [] = refl
+widths-count (r ∷ t) =
+    let later = widths-count t in
     by-variable r (r .a ∷ variableWidths t) (variableWidths t) (λ (ws : List ℕ). length ws ≡ cond (eqb (r .kind) 0) 1 0 + countKind 0 t)
     (λ e. rw (eq-eqb (r .kind) 0 e) (omega arith))
     (λ n. rw (ne-eqb (r .kind) 0 n) (omega arith))
@@ -46,17 +45,8 @@ begins-first (w ∷ ws) = go (ltb 0 w) (begins-first ws)
     go true h = refl
     go false h = ap (begins ws) z ∙ h
 
-pub begins-behind : (ws : List ℕ) → begins ws (widthSum ws) ≡ true
-unfolding begins widthSum
-begins-behind [] = refl
-begins-behind (w ∷ ws) = go (ltb (w + widthSum ws) w) refl (begins-behind ws)
-  where
-    z : w + widthSum ws - w ≡ widthSum ws
-    z = omega arith
-
-    go : (b : Bool) → ltb (w + widthSum ws) w ≡ b → begins ws (widthSum ws) ≡ true → cond b (eqb (w + widthSum ws) 0) (begins ws (w + widthSum ws - w)) ≡ true
-    go true e h = absurd (omega (arith, ltb-true (w + widthSum ws) w e))
-    go false e h = ap (begins ws) z ∙ h
+pub begins-last : (t : List Row) → begins (variableWidths t) (bitsOf t) ≡ true
+begins-last t = ap (begins (variableWidths t)) (sym (widths-sum t)) ∙ begins-end (variableWidths t)
 
 -- a system's assignment has the bits of its variables
 bit-first : (b n : ℕ) (p : List ℕ) → b ≤ 1 → Assignment n p → Assignment (suc n) (b ∷ p)

@@ -16,8 +16,7 @@ use Rattle.answers.specs.Answer.{begins, variableAt, fixedTo, unfixed, goesOn, 
 use Rattle.answers.specs.declared.AnswerRow.{AnswerRow}
 use Rattle.laws.proofs.Numbers.{lt-or-le}
 use Rattle.laws.proofs.Tallies.{tally-mono, tally-up}
-use Rattle.answers.proofs.Slots.{glued}
-use Rattle.answers.proofs.Gluing.{glued-e}
+use Rattle.answers.proofs.Gluing.{glue-end}
 use Rattle.answers.proofs.GeneralSystems.{widthSum}
 use Rattle.answers.proofs.OurPieces.{mark, home, number, wide, home-le, front-le, home-mark}
 use Rattle.answers.proofs.Relation.{unfixed-is, goes-open, goes-fixed}
@@ -26,7 +25,8 @@ use Rattle.answers.proofs.Instantiating.{each-turn, width-found}
 use Rattle.answers.proofs.RowSides.{variable-low}
 use Rattle.assignments.specs.Form.{patternBits, rowsFine}
 use Rattle.assignments.proofs.Places.{Sized, placeIn, variable-first, place-first, Next, next-place, place-small}
-use Rattle.assignments.proofs.Turning.{FineBack, fine-rows, numbers-reverse, number-here, Follows, Differs, Below, Behind, behind-fine}
+use Rattle.assignments.proofs.FreshPieces.{number-here, Below, none-below}
+use Rattle.assignments.proofs.Turning.{FineBack, fine-rows, numbers-reverse, Follows, Differs, Behind, behind-fine}
 use Rattle.laws.proofs.Bools.{clash}
 
 module _ (n : ℕ) (c : List ℕ) (seen : List Pair) (inv : Represents n c seen) (one : rep c 1 ≡ 1) (ws : List ℕ) (begin : begins ws 0 ≡ true) (last : begins ws n ≡ true)
@@ -175,7 +175,7 @@ module _ (n : ℕ) (c : List ℕ) (seen : List Pair) (inv : Represents n c seen)
       nothing = unfold widthInRows in refl
 
       none : Below (tally 0 marked) []
-      none = record { there = λ k q. absurd (unfold tally in omega arith); only = λ k m. unfold freshNumbers member in clash false m refl }
+      none = unfold tally in none-below
 
   -- the next place
   module _ (j : ℕ) (l : suc j < n) (row : AnswerRow) (rest : List AnswerRow) (K : Known j row rest) (L : Last j row rest) where
@@ -314,14 +314,6 @@ module _ (n : ℕ) (c : List ℕ) (seen : List Pair) (inv : Represents n c seen)
             fine = (behind-fine (F .rest) (F .row) (row-behind j (omega arith) (F .row) (F .rest) (F .last-row) (K′ .whole .0) (K′ .whole .1)), F .fine);
           }
 
-  -- the last row ends at the end
-  open-end : (j : ℕ) → n ≡ suc j → 2 ≤ C j → glued n (begins ws) C j ≡ false
-  open-end j e l = two (glued n (begins ws) C j) refl
-    where
-      two : (b : Bool) → glued n (begins ws) C j ≡ b → b ≡ false
-      two false h = refl
-      two true h = clash (begins ws n) last (ap (begins ws) e ∙ glued-e n (begins ws) C j h .open')
-
   -- Each row of the answer is fine behind those before it.
   pub answer-fine : rowsFine [] (answerRows n ws (inClass c)) ≡ true
   unfolding answerRows
@@ -333,5 +325,5 @@ module _ (n : ℕ) (c : List ℕ) (seen : List Pair) (inv : Represents n c seen)
           let l : j < n = omega arith in
           let F = formed j l in
           let K = known j l (F .row) (F .rest) (F .are) in
-          let W = ended n c seen inv one ws begin last j (F .row) l (K .reaching) (open-end j e) in
+          let W = ended n c seen inv one ws begin last j (F .row) l (K .reaching) (λ q. glue-end n (begins ws) C begin last j e) in
           subst FineBack (sym (F .are)) (behind-fine (F .rest) (F .row) (row-behind j l (F .row) (F .rest) (F .last-row) W (K .whole)), F .fine)

@@ -1,28 +1,22 @@
 -- In a table of the form the home of a row has its piece, and the first four numbers of each row decide the others. Assumes nothing.
 use mathlib.Core.Path.{_≡_, refl, sym, ap, ap₂, _∙_}
-use mathlib.Core.Logic.{_⊎_, inl, inr}
-use mathlib.Core.Bool.{Bool, true, false, _&&_, cond}
+use mathlib.Core.Bool.{Bool, true, false, cond}
 use mathlib.Core.List.{List, [], _∷_, _++_}
-use Prim.Native.Nat.{ℕ, zero, suc, _+_, _-_, _*_, _%_, _≤_, _<_}
+use Prim.Native.Nat.{ℕ, zero, suc, _+_, _-_, _*_, _≤_, _<_}
 use native.Mathlib.Omega.{arith}
-use lib.Dec.{eqb}
 use lib.ListN.{length, getD, take, drop, replicate, length-append, length-drop, length-replicate}
 use lib.Seq.{length-take-le, take-at, take-take, drop-drop, drop-append-add}
-use Rattle.laws.proofs.Bools.{and-parts}
 use Rattle.laws.proofs.Lists.{drop-take}
-use Rattle.laws.proofs.Numbers.{below-or-at}
-use Rattle.laws.proofs.Tallies.{distinct-is}
 use Rattle.terms.specs.Table.{extract}
-use Rattle.terms.proofs.Satisfies.{same-word}
 use Rattle.answers.specs.declared.AnswerRow.{AnswerRow}
-use Rattle.answers.specs.Answer.{answerRowAt, isFresh, freshNumbers, freshPieces, freshWidth, freshStart, freeBits, rowBits, bitsOfRows, instantiate, widthInRows, highBit, homeRow, answerRowNumbers, answerNumbers, answerRowsOf}
+use Rattle.answers.specs.Answer.{answerRowAt, isFresh, freshStart, freeBits, rowBits, bitsOfRows, instantiate, widthInRows, highBit, homeRow, answerRowNumbers, answerNumbers, answerRowsOf}
 use Rattle.answers.proofs.AnswerNumbers.{number-at}
 use Rattle.answers.specs.Homes.{WholePieces}
 use Rattle.answers.proofs.Homes.{home-le, same-width, same-bits}
-use Rattle.assignments.specs.Form.{patternBits, rowsFine, homesFine, hasForm}
+use Rattle.assignments.specs.Form.{patternBits}
 use Rattle.assignments.specs.Homes.{variableStart, variableBits, bitsAt, homeAt, highAt, HomeHasPiece, FourDecide}
 use Rattle.assignments.proofs.VariableBits.{width-parts, on-wide, row-start, variable-within}
-use Rattle.assignments.proofs.FormFacts.{Formed, formed-rows, number-in}
+use Rattle.assignments.proofs.FormFacts.{Formed, formed-rows, piece-within, parts}
 
 -- The bits of rows, where each row has as many as it is wide.
 module _ (rows : List AnswerRow) (f : List ℕ) where
@@ -54,27 +48,7 @@ module _ (rows : List AnswerRow) (F : Formed rows) (f : List ℕ) (enough : leng
   abbrev p : List ℕ
   p = instantiate rows f
 
-  starts-rise : (k m : ℕ) → k < m → freshStart rows k + freshWidth rows k ≤ freshStart rows m
-  unfolding freshStart
-  starts-rise k zero l = absurd (omega arith)
-  starts-rise k (suc m) l = go (below-or-at k m l) (λ (q : k < m). starts-rise k m q)
-    where
-      go : (k < m) ⊎ (k ≡ m) → (k < m → freshStart rows k + freshWidth rows k ≤ freshStart rows m)
-          → freshStart rows k + freshWidth rows k ≤ freshStart rows m + freshWidth rows m
-      go (inl q) h = omega (arith, h q)
-      go (inr e) h = rw e (omega arith)
-
-  pieces-are : freshPieces rows ≡ F .seen
-  unfolding freshPieces
-  pieces-are = distinct-is (F .seen) (freshNumbers rows) (F .numbers .only) (F .numbers .there)
-
   -- each row has as many bits as it is wide: those of a fresh piece are among the fresh bits
-  piece-within : (j : ℕ) → j < length rows → isFresh (at j) ≡ true → freshStart rows (at j .fresh) + at j .width ≤ length f
-  piece-within j l e =
-      let low : at j .fresh < F .seen = F .numbers .only (at j .fresh) (number-in rows j l e) in
-      let all : freeBits rows ≡ freshStart rows (freshPieces rows) = unfold freeBits in refl in
-      omega (arith, starts-rise (at j .fresh) (F .seen) low, F .widths j l e, ap (freshStart rows) pieces-are)
-
   row-sized : Sized rows f rows
   unfolding rowBits
   row-sized j l = go (isFresh (at j)) refl
@@ -83,7 +57,7 @@ module _ (rows : List AnswerRow) (F : Formed rows) (f : List ℕ) (enough : leng
           → length (cond b (take (at j .width) (drop (freshStart rows (at j .fresh)) f)) (replicate (at j .width) (at j .kind))) ≡ at j .width
       go true e =
           length-take-le (at j .width) (drop (freshStart rows (at j .fresh)) f)
-          (omega (arith, length-drop (freshStart rows (at j .fresh)) f, piece-within j l e))
+          (omega (arith, length-drop (freshStart rows (at j .fresh)) f, piece-within rows F j l e))
       go false e = length-replicate (at j .width) (at j .kind)
 
   whole : WholePieces rows f
@@ -164,18 +138,6 @@ module _ (rows : List AnswerRow) (F : Formed rows) (f : List ℕ) (enough : leng
             ∙ ap (take (at j .width)) (drop-take before on (drop (variableStart rows v) p))
             ∙ take-take (at j .width) on (drop before (drop (variableStart rows v) p)) (omega (arith, on-here, width-same))
             ∙ ap (take (at j .width)) (drop-drop before (variableStart rows v) p))
-
--- What the form says of the numbers.
-record Parts (t : List ℕ) : Type 0 where
-  rows-fine : rowsFine [] (answerRowsOf t) ≡ true
-  numbers-are : answerNumbers (answerRowsOf t) ≡ t
-
-parts : (t : List ℕ) → hasForm t ≡ true → Parts t
-unfolding hasForm homesFine
-parts t h =
-    let a = and-parts (eqb (length t % 6) 0 && rowsFine [] (answerRowsOf t)) (homesFine t) h in
-    let b = and-parts (eqb (length t % 6) 0) (rowsFine [] (answerRowsOf t)) (a .0) in
-    record { rows-fine = b .1; numbers-are = same-word (answerNumbers (answerRowsOf t)) t (a .1) }
 
 -- The home has the piece.
 pub home-has-piece : HomeHasPiece

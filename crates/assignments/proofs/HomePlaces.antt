@@ -2,12 +2,12 @@
 use mathlib.Core.Path.{_≡_, refl, sym, ap, _∙_}
 use mathlib.Core.Logic.{_⊎_, inl, inr}
 use mathlib.Core.Bool.{Bool, true, false, not, _&&_, cond}
-use mathlib.Core.List.{List, [], _∷_, _++_, map}
+use mathlib.Core.List.{List, [], _∷_, map}
 use Prim.Native.Nat.{ℕ, zero, suc, _+_, _-_, _≤_, _<_}
 use native.Mathlib.Omega.{arith}
 use lib.Dec.{eqb, ltb}
 use lib.ListN.{length, getD, take, drop}
-use lib.Seq.{take-suc, take-length}
+use lib.Seq.{take-length}
 use borrow.Author.Tests.{eqb-true, eq-eqb, ne-eqb, lt-ltb, le-ltb, not-true}
 use Rattle.terms.specs.declared.Row.{Row}
 use Rattle.terms.specs.declared.Fault.the-variants.{Accepted}
@@ -19,8 +19,9 @@ use Rattle.laws.proofs.Least.{least-within}
 use Rattle.laws.proofs.Numbers.{lt-or-le, below-or-at}
 use Rattle.laws.proofs.Tallies.{tally-mono}
 use Rattle.answers.specs.declared.AnswerRow.{AnswerRow}
-use Rattle.answers.specs.Answer.{variableWidths, noAnswerRow, answerRowAt, fixedTo, unfixed, goesOn, lowest, appears, placeRow, answerRows, variableAt, isFresh, widthInRows, highBit, homeRow, answerRowNumbers}
+use Rattle.answers.specs.Answer.{variableWidths, answerRowAt, fixedTo, unfixed, goesOn, lowest, appears, placeRow, answerRows, variableAt, isFresh, widthInRows, highBit, homeRow, answerRowNumbers}
 use Rattle.answers.specs.Demands.{partOf, sideOf, sidesFrom, sidesOf}
+use Rattle.answers.specs.inner.Orderly.{Ordered}
 use Rattle.answers.specs.Pairs.{equalUnder}
 use Rattle.answers.specs.Solve.{solvedRows, answerRecord}
 use Rattle.answers.specs.Systems.{fill, fresh, sideWidth}
@@ -34,25 +35,17 @@ use Rattle.answers.proofs.Variables.{widths-sum}
 use Rattle.assignments.specs.Form.{patternBits}
 use Rattle.assignments.specs.Homes.{variableStart, bitAt, homePlace, homeOf, HomesAreLowest}
 use Rattle.assignments.proofs.RowPlaces.{Begins, begins-at, row-of, all-bits}
-use Rattle.assignments.proofs.VariableBits.{Ordered, width-parts, on-wide, row-start}
+use Rattle.assignments.proofs.VariableBits.{bits-next, width-parts, on-wide, row-start}
 use Rattle.assignments.proofs.FormFacts.{Formed, formed-rows}
 use Rattle.assignments.proofs.Theorems.{rows-fine}
 
--- the first place of the next row
-bits-append : (xs : List AnswerRow) (r : AnswerRow) → patternBits (xs ++ (r ∷ [])) ≡ patternBits xs + r .width
-unfolding patternBits
-bits-append [] r = omega arith
-bits-append (x ∷ xs) r = omega (arith, bits-append xs r)
-
-first-next : (rows : List AnswerRow) (j : ℕ) → j < length rows → patternBits (take (suc j) rows) ≡ patternBits (take j rows) + answerRowAt rows j .width
-first-next rows j l = ap patternBits (take-suc rows j noAnswerRow l) ∙ bits-append (take j rows) (answerRowAt rows j)
-
+-- the first places of rows rise
 first-rise : (rows : List AnswerRow) (i j : ℕ) → i < j → j ≤ length rows → patternBits (take i rows) + answerRowAt rows i .width ≤ patternBits (take j rows)
 first-rise rows i zero a b = absurd (omega arith)
 first-rise rows i (suc j) a b = go (below-or-at i j a) (λ (m : i < j). first-rise rows i j m (omega arith))
   where
     next : patternBits (take (suc j) rows) ≡ patternBits (take j rows) + answerRowAt rows j .width
-    next = first-next rows j (omega arith)
+    next = bits-next rows j (omega arith)
 
     go : (i < j) ⊎ (i ≡ j) → (i < j → patternBits (take i rows) + answerRowAt rows i .width ≤ patternBits (take j rows))
         → patternBits (take i rows) + answerRowAt rows i .width ≤ patternBits (take (suc j) rows)

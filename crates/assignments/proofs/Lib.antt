@@ -1,4 +1,5 @@
 pub mod Places
+pub mod FreshPieces
 pub mod Turning
 pub mod FineRows
 pub mod VariableBits

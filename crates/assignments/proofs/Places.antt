@@ -13,13 +13,13 @@ use Rattle.terms.specs.declared.Fault.the-variants.{Accepted}
 use Rattle.terms.specs.Faults.{firstFault}
 use Rattle.terms.specs.Table.{rowsOf, rowAt}
 use Rattle.terms.proofs.RowKinds.{by-variable}
-use Rattle.terms.proofs.AcceptedTable.{accepted-table, few-variables}
+use Rattle.terms.proofs.AcceptedTable.{accepted-table, table-totals}
 use Rattle.terms.proofs.Faults.{kept, kept-width}
 use Rattle.terms.proofs.Values.{width-variable}
 use Rattle.answers.specs.Answer.{variableWidths, begins, variableAt}
 use Rattle.laws.proofs.Numbers.{lt-or-le}
 use Rattle.answers.proofs.GeneralSystems.{widthSum}
-use Rattle.answers.proofs.Variables.{variables-count, begins-first}
+use Rattle.answers.proofs.Variables.{widths-count, begins-first}
 use Rattle.laws.proofs.Bools.{clash}
 
 -- widths of variables: from 1 to 1,024
@@ -104,4 +104,4 @@ module _ (table : List ℕ) (accepted : firstFault table ≡ Accepted) where
       (omega (arith, k .0), omega (arith, k .1)))
 
   pub table-variables : length (variableWidths (rowsOf table)) ≤ 64
-  table-variables = omega (arith, few-variables table accepted, variables-count (rowsOf table))
+  table-variables = omega (arith, widths-count (rowsOf table), table-totals table accepted .0)

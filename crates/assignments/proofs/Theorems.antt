@@ -22,11 +22,11 @@ use Rattle.laws.proofs.Buffers.{overwrite-fits}
 use Rattle.laws.specs.Buffers.{overwrite}
 use Rattle.laws.specs.Lists.{allBits, distinct}
 use Rattle.answers.specs.declared.AnswerRow.{AnswerRow}
-use Rattle.answers.specs.Answer.{variableWidths, begins, numbersFrom, answerNumbers, answerRowsOf, freshNumbers, freshPieces, freshStart, freeBits, bitsOfRows, instantiate}
+use Rattle.answers.specs.Answer.{variableWidths, numbersFrom, answerNumbers, answerRowsOf, freshNumbers, freshPieces, freshStart, freeBits, bitsOfRows, instantiate}
 use Rattle.answers.specs.Solve.{unsatisfiable, pairsTogether, solvedRows, answerRecord}
 use Rattle.answers.specs.Pairs.{equationPairs, equalUnder}
 use Rattle.answers.proofs.AnswerNumbers.{numbers-length, rows-back}
-use Rattle.answers.proofs.Variables.{widths-sum, begins-first, begins-behind}
+use Rattle.answers.proofs.Variables.{widths-sum, begins-first, begins-last}
 use Rattle.answers.proofs.Tables.{tableClasses, represent, apart-one, solved-rows}
 use Rattle.answers.proofs.Demands.{demand-2, demand-3}
 use Rattle.answers.proofs.OurSystem.{some-left}
@@ -61,14 +61,11 @@ module _ (table : List ℕ) (accepted : firstFault table ≡ Accepted) (solved :
   abbrev ws : List ℕ
   ws = variableWidths (rowsOf table)
 
-  ending : begins ws (bitsOf t) ≡ true
-  ending = ap (begins ws) (sym (widths-sum t)) ∙ begins-behind ws
-
   pub rows-fine : rowsFine [] (solvedRows (rowsOf table)) ≡ true
   rows-fine =
       ap (rowsFine []) (solved-rows table accepted some)
       ∙ answer-fine (bitsOf t) (tableClasses table accepted) (reverse (pairsTogether (equationPairs t))) (represent table accepted) (apart-one table accepted some) ws
-      (begins-first ws) ending (table-sized table accepted) (widths-sum t) (table-variables table accepted) (table-bits table accepted)
+      (begins-first ws) (begins-last t) (table-sized table accepted) (widths-sum t) (table-variables table accepted) (table-bits table accepted)
 
   -- The answer of a solved table has the form that is asked for.
   pub solved-form : hasForm (answerNumbers (solvedRows (rowsOf table))) ≡ true

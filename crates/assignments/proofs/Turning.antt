@@ -1,21 +1,19 @@
 -- The rows of an answer read last first: what is asked of a row behind those before it.
 use mathlib.Core.Path.{_≡_, refl, sym, ap, _∙_}
 use mathlib.Core.Logic.{_⊎_, inl, inr, _≢_}
-use mathlib.Core.Bool.{Bool, true, false, not, _&&_, _||_, cond, or-true}
+use mathlib.Core.Bool.{Bool, true, false, not, _&&_, _||_, or-true, or-false}
 use mathlib.Core.List.{List, [], _∷_, _++_, reverse, reverseAux, reverse-cons}
 use Prim.Native.Nat.{ℕ, suc, _+_, _≤_, _<_}
 use native.Mathlib.Omega.{arith}
 use lib.Dec.{eqb, ltb}
-use lib.ListN.{length}
 use borrow.Author.Tests.{eqb-true, eq-eqb, lt-ltb}
 use Rattle.answers.specs.declared.AnswerRow.{AnswerRow}
 use Rattle.answers.specs.Answer.{isFresh, freshNumbers, freshWidth, widthInRows}
 use Rattle.laws.specs.Lists.{member}
 use Rattle.laws.proofs.Bools.{and-both, or-shared}
 use Rattle.laws.proofs.Numbers.{lt-or-le}
-use Rattle.laws.proofs.Tallies.{distinct-is, distinct-most}
 use Rattle.assignments.specs.Form.{variableFine, kindFine, widthFine, variableWide, patternBits, patternWide, fillFine, neighboursFine, lowestUnseen, freshFine, rowFine, rowsFine}
-use Rattle.laws.proofs.Least.{least-at}
+use Rattle.assignments.proofs.FreshPieces.{has, has-more, Below, lowest-is}
 
 -- Rows that stand last first, each fine behind those before it.
 abbrev pub FineBack : List AnswerRow → Type 0
@@ -50,17 +48,6 @@ in-reverse v xs = in-turned v xs [] ∙ unfold widthInRows in omega arith
 pub bits-reverse : (xs : List AnswerRow) → patternBits (reverse xs) ≡ patternBits xs
 bits-reverse xs = bits-turned xs [] ∙ unfold patternBits in omega arith
 
-has : ℕ → AnswerRow → Bool
-has k r = isFresh r && eqb k (r .fresh)
-
-has-more : (k : ℕ) (r : AnswerRow) (xs : List AnswerRow) → member k (freshNumbers (r ∷ xs)) ≡ has k r || member k (freshNumbers xs)
-unfolding freshNumbers member has
-has-more k r xs = go (isFresh r)
-  where
-    go : (b : Bool) → member k (cond b (r .fresh ∷ freshNumbers xs) (freshNumbers xs)) ≡ (b && eqb k (r .fresh)) || member k (freshNumbers xs)
-    go true = refl
-    go false = refl
-
 numbers-turned : (k : ℕ) (xs ys : List AnswerRow) → member k (freshNumbers (reverseAux xs ys)) ≡ member k (freshNumbers xs) || member k (freshNumbers ys)
 numbers-turned k [] ys = unfold freshNumbers member in refl
 numbers-turned k (x ∷ xs) ys =
@@ -70,22 +57,7 @@ numbers-turned k (x ∷ xs) ys =
     ∙ ap (λ (b : Bool). b || member k (freshNumbers ys)) (sym (has-more k x xs))
 
 pub numbers-reverse : (k : ℕ) (xs : List AnswerRow) → member k (freshNumbers (reverse xs)) ≡ member k (freshNumbers xs)
-numbers-reverse k xs = numbers-turned k xs [] ∙ unfold freshNumbers member in go (member k (freshNumbers xs))
-  where
-    go : (b : Bool) → b || false ≡ b
-    go true = refl
-    go false = refl
-
--- a row has a number that is among those of the rows
-pub number-here : (k : ℕ) (r : AnswerRow) (xs : List AnswerRow) → member k (freshNumbers (r ∷ xs)) ≡ true
-    → ((isFresh r ≡ true) × (k ≡ r .fresh)) ⊎ (member k (freshNumbers xs) ≡ true)
-unfolding has
-number-here k r xs h = go (isFresh r) (eqb k (r .fresh)) refl refl (sym (has-more k r xs) ∙ h)
-  where
-    go : (a b : Bool) → isFresh r ≡ a → eqb k (r .fresh) ≡ b → (a && b) || member k (freshNumbers xs) ≡ true → ((isFresh r ≡ true) × (k ≡ r .fresh)) ⊎ (member k (freshNumbers xs) ≡ true)
-    go true true e d q = inl (e, eqb-true k (r .fresh) d)
-    go true false e d q = inr q
-    go false b e d q = inr q
+numbers-reverse k xs = numbers-turned k xs [] ∙ unfold freshNumbers member in or-false (member k (freshNumbers xs))
 
 -- the row before
 pub variable-after : (xs : List AnswerRow) (s r : AnswerRow)
@@ -95,7 +67,7 @@ variable-after [] s r = refl
 variable-after (x ∷ []) s r = refl
 variable-after (x ∷ y ∷ xs) s r = variable-after (y ∷ xs) s r
 
-neighbours-after : (xs : List AnswerRow) (s r : AnswerRow)
+pub neighbours-after : (xs : List AnswerRow) (s r : AnswerRow)
     → neighboursFine (xs ++ (s ∷ [])) r ≡ isFresh r || isFresh s || not (eqb (s .variable) (r .variable)) || not (eqb (s .kind) (r .kind))
 unfolding neighboursFine
 neighbours-after [] s r = refl
@@ -133,38 +105,6 @@ neighbours-fine (s ∷ before) r d =
     go false false false e p q u v = refl
     go false false true false p q u v = refl
     go false false true true p q u v = absurd (d p q (eqb-true (s .variable) (r .variable) u) (eqb-true (s .kind) (r .kind) v))
-
-numbers-most : (xs : List AnswerRow) → length (freshNumbers xs) ≤ length xs
-unfolding freshNumbers
-numbers-most [] = omega arith
-numbers-most (x ∷ xs) = go (isFresh x) (numbers-most xs)
-  where
-    go : (b : Bool) → length (freshNumbers xs) ≤ length xs → length (cond b (x .fresh ∷ freshNumbers xs) (freshNumbers xs)) ≤ suc (length xs)
-    go true l = omega arith
-    go false l = omega arith
-
--- The fresh numbers of some rows are those below a bound.
-pub record Below (m : ℕ) (rows : List AnswerRow) : Type 0 where
-  pub there : (k : ℕ) → k < m → member k (freshNumbers rows) ≡ true
-  pub only : (k : ℕ) → member k (freshNumbers rows) ≡ true → k < m
-
-pub lowest-is : (m : ℕ) (rows : List AnswerRow) → Below m rows → lowestUnseen rows ≡ m
-unfolding lowestUnseen
-lowest-is m rows b =
-    least-at (λ k. not (member k (freshNumbers rows))) 0 (length rows) m
-    (omega (
-      arith,
-      numbers-most rows,
-      distinct-most (freshNumbers rows),
-      distinct-is m (freshNumbers rows) (b .only) (b .there),
-    ))
-    (λ l. let z : 0 + m ≡ m = omega arith in ap (λ (k : ℕ). not (member k (freshNumbers rows))) z ∙ ap not (out (member m (freshNumbers rows)) refl))
-    (λ k a l. ap not (b .there k (omega arith)))
-    ∙ omega arith
-  where
-    out : (t : Bool) → member m (freshNumbers rows) ≡ t → member m (freshNumbers rows) ≡ false
-    out false e = e
-    out true e = absurd (omega (arith, b .only m e))
 
 lowest-unseen : (m : ℕ) (before : List AnswerRow) → Below m before → lowestUnseen (reverse before) ≡ m
 lowest-unseen m before b =

@@ -7,16 +7,35 @@ use Prim.Native.Nat.{ℕ, zero, suc, _+_, _≤_, _<_}
 use native.Mathlib.Omega.{arith}
 use lib.Dec.{eqb, ltb}
 use lib.ListN.{length, take, drop, take-append-drop, length-take, length-drop}
-use lib.Seq.{getD-take, getD-drop, drop-cons}
+use lib.Seq.{getD-take, getD-drop, take-suc, drop-cons}
 use borrow.Author.Tests.{eq-eqb, ne-eqb, lt-ltb, le-ltb}
 use Rattle.laws.proofs.Bools.{cond-most}
 use Rattle.laws.proofs.Numbers.{lt-or-le, dec-eq}
 use Rattle.answers.specs.declared.AnswerRow.{AnswerRow}
 use Rattle.answers.specs.Answer.{noAnswerRow, answerRowAt, widthInRows}
+use Rattle.answers.specs.inner.Orderly.{Ordered}
 use Rattle.assignments.specs.Form.{patternBits}
 use Rattle.assignments.specs.Homes.{variableStart}
 
 -- sums over two parts of the rows
+pub bits-append : (xs ys : List AnswerRow) → patternBits (xs ++ ys) ≡ patternBits xs + patternBits ys
+unfolding patternBits
+bits-append [] ys = omega arith
+bits-append (x ∷ xs) ys = omega (arith, bits-append xs ys)
+
+pub bits-parts : (j : ℕ) (rows : List AnswerRow) → patternBits rows ≡ patternBits (take j rows) + patternBits (drop j rows)
+bits-parts j rows = ap patternBits (sym (take-append-drop j rows)) ∙ bits-append (take j rows) (drop j rows)
+
+pub bits-next : (rows : List AnswerRow) (j : ℕ) → j < length rows → patternBits (take (suc j) rows) ≡ patternBits (take j rows) + answerRowAt rows j .width
+unfolding patternBits
+bits-next rows j l = ap patternBits (take-suc rows j noAnswerRow l) ∙ bits-append (take j rows) (answerRowAt rows j ∷ []) ∙ omega arith
+
+-- a variable has no more bits than all
+pub in-variable : (rows : List AnswerRow) (v : ℕ) → widthInRows rows v ≤ patternBits rows
+unfolding widthInRows patternBits
+in-variable [] v = omega arith
+in-variable (r ∷ rows) v = omega (arith, in-variable rows v, cond-most (eqb (r .variable) v) (r .width))
+
 pub width-append : (xs ys : List AnswerRow) (v : ℕ) → widthInRows (xs ++ ys) v ≡ widthInRows xs v + widthInRows ys v
 unfolding widthInRows
 width-append [] ys v = omega arith
@@ -66,10 +85,6 @@ pub start-most : (m : ℕ) (xs : List AnswerRow) → variableStart xs m ≤ patt
 unfolding patternBits
 start-most m [] = omega (arith, start-empty m)
 start-most m (x ∷ xs) = omega (arith, start-cons x xs m, cond-most (ltb (x .variable) m) (x .width), start-most m xs)
-
--- Rows whose variables do not fall.
-abbrev pub Ordered : List AnswerRow → Type 0
-Ordered rows = (i j : ℕ) → i ≤ j → j < length rows → answerRowAt rows i .variable ≤ answerRowAt rows j .variable
 
 module _ (rows : List AnswerRow) (ordered : Ordered rows) (h : ℕ) (l : h < length rows) where
   abbrev v : ℕ

@@ -1,21 +1,22 @@
 -- The first row of each fresh piece, row by row, and the home row of each row from these.
 use mathlib.Core.Path.{_≡_, refl, sym, _∙_, ap}
 use mathlib.Core.Logic.{_⊎_, inl, inr, _≢_}
-use mathlib.Core.Bool.{Bool, true, false, not, _&&_, cond}
+use mathlib.Core.Bool.{Bool, true, false, _&&_, cond}
 use mathlib.Core.List.{List}
-use Prim.Native.Nat.{ℕ, zero, suc, _+_, _%_, _≤_, _<_}
+use Prim.Native.Nat.{ℕ, suc, _≤_, _<_}
 use native.Mathlib.Omega.{arith}
 use lib.Dec.{eqb, ltb}
 use lib.ListN.{length, getD, set}
 use lib.Seq.{getD-set-same, getD-set-other}
-use borrow.Author.Tests.{eq-eqb, ne-eqb, eqb-true, lt-ltb, le-ltb}
-use Rattle.laws.specs.Lists.{least}
-use Rattle.laws.proofs.Bools.{clash, and-first, and-second, and-both}
-use Rattle.laws.proofs.Least.{least-is, least-within, least-passed}
-use Rattle.laws.proofs.Numbers.{dec-eq, lt-or-le, below-or-at}
+use borrow.Author.Tests.{eq-eqb, ne-eqb, lt-ltb, le-ltb}
+use Rattle.laws.proofs.Bools.{clash, and-both}
+use Rattle.laws.proofs.Numbers.{lt-or-le, below-or-at}
 use Rattle.answers.specs.declared.AnswerRow.{AnswerRow}
 use Rattle.answers.specs.Answer.{answerRowAt, isFresh, homeRow}
-use Rattle.homes.specs.inner.Homes.{Orderly, homeIn, ofPiece, First, Seen}
+use Rattle.answers.specs.Homes.{FirstPlaces}
+use Rattle.answers.specs.inner.Orderly.{Orderly}
+use Rattle.answers.proofs.Homes.{home-fill, home-is, first-places}
+use Rattle.homes.specs.inner.Homes.{homeIn, ofPiece, First, Seen}
 
 pub none-seen : (rows : List AnswerRow) (firsts : List ℕ) → Seen rows firsts 0 0
 none-seen rows firsts = record { most = omega arith; marked = λ n l. absurd (omega arith); passed = λ i l f. absurd (omega arith) }
@@ -26,20 +27,14 @@ module _ (rows : List AnswerRow) where
 
   -- the first row of row j's piece is its home
   home-first : (j i : ℕ) → isFresh (answerRowAt rows j) ≡ true → First rows (answerRowAt rows j .fresh) i → homeRow rows j ≡ i
-  unfolding homeRow
-  home-first j i f k = rw f (least-is (ofPiece rows (at j .fresh)) j 0 i (omega arith) (low (lt-or-le j i)) (k .is-row) (λ m l. k .none-before m l))
+  home-first j i f k = home-is rows j i f (low (lt-or-le j i)) (k .is-row) (k .none-before)
     where
       here : ofPiece rows (at j .fresh) j ≡ true
       here = and-both (isFresh (at j)) (eqb (at j .fresh) (at j .fresh)) f (eq-eqb (at j .fresh) (at j .fresh) refl)
 
-      low : (j < i) ⊎ (i ≤ j) → i ≤ 0 + j
-      low (inr l) = omega arith
+      low : (j < i) ⊎ (i ≤ j) → i ≤ j
+      low (inr l) = l
       low (inl l) = clash (ofPiece rows (at j .fresh) j) here (k .none-before j l)
-
-  -- a fill is its own home
-  pub home-fill : (j : ℕ) → isFresh (answerRowAt rows j) ≡ false → homeRow rows j ≡ j
-  unfolding homeRow
-  home-fill j f = rw f
 
   pub kind-fresh : (r : AnswerRow) → 2 ≤ r .kind → isFresh r ≡ true
   kind-fresh r l = rw (le-ltb (r .kind) 2 l)
@@ -54,7 +49,7 @@ module _ (rows : List AnswerRow) where
   home-read firsts j h = go (lt-or-le (at j .kind) 2)
     where
       go : (at j .kind < 2) ⊎ (2 ≤ at j .kind) → cond (ltb (at j .kind) 2) j (getD firsts (at j .fresh) 0) ≡ homeRow rows j
-      go (inl l) = rw (lt-ltb (at j .kind) 2 l) (sym (home-fill j (kind-fill (at j) l)))
+      go (inl l) = rw (lt-ltb (at j .kind) 2 l) (sym (home-fill rows j (kind-fill (at j) l)))
       go (inr l) = rw (le-ltb (at j .kind) 2 l) (sym (home-first j (getD firsts (at j .fresh) 0) (kind-fresh (at j) l) (h (kind-fresh (at j) l))))
 
   -- all rows were passed
@@ -126,37 +121,13 @@ module _ (rows : List AnswerRow) where
         go i g (inl q) = omega (arith, k .passed i q g)
         go i g (inr q) = let d : at i .fresh ≡ at j .fresh = ap (λ (x : ℕ). at x .fresh) q in omega arith
 
--- a home row is not behind its row, and is its own home
-least-found : (f : ℕ → Bool) (k d : ℕ) → f (k + d) ≡ true → f (least f k d) ≡ true
-unfolding least
-least-found f k zero h = let e : k + 0 ≡ k = omega arith in rw e at h
-least-found f k (suc d) h = go (f k) refl (let e : k + suc d ≡ suc k + d = omega arith in least-found f (suc k) d (rw e at h))
+-- a home row is its own home
+pub home-home : (rows : List AnswerRow) (j : ℕ) → homeRow rows (homeRow rows j) ≡ homeRow rows j
+home-home rows j = go (isFresh (answerRowAt rows j)) refl
   where
-    go : (b : Bool) → f k ≡ b → f (least f (suc k) d) ≡ true → f (cond b k (least f (suc k) d)) ≡ true
-    go true e r = e
-    go false e r = r
+    P : FirstPlaces rows
+    P = first-places rows
 
-module _ (rows : List AnswerRow) (j : ℕ) where
-  pub home-most : homeRow rows j ≤ j
-  unfolding homeRow
-  home-most = go (isFresh (answerRowAt rows j))
-    where
-      go : (b : Bool) → cond b (least (ofPiece rows (answerRowAt rows j .fresh)) 0 j) j ≤ j
-      go false = omega arith
-      go true = omega (arith, least-within (ofPiece rows (answerRowAt rows j .fresh)) 0 j .1)
-
-  pub home-home : homeRow rows (homeRow rows j) ≡ homeRow rows j
-  home-home = go (isFresh (answerRowAt rows j)) refl
-    where
-      go : (b : Bool) → isFresh (answerRowAt rows j) ≡ b → homeRow rows (homeRow rows j) ≡ homeRow rows j
-      go false f = ap (homeRow rows) (home-fill rows j f)
-      go true f =
-          let n : ℕ = answerRowAt rows j .fresh in
-          let i : ℕ = least (ofPiece rows n) 0 j in
-          let h : homeRow rows j ≡ i = unfold homeRow in rw f in
-          let found : ofPiece rows n i ≡ true =
-          least-found (ofPiece rows n) 0 j
-          (let e : 0 + j ≡ j = omega arith in ap (ofPiece rows n) e ∙ and-both (isFresh (answerRowAt rows j)) (eqb n n) f (eq-eqb n n refl)) in
-          let g : isFresh (answerRowAt rows i) ≡ true = and-first (isFresh (answerRowAt rows i)) (eqb (answerRowAt rows i .fresh) n) found in
-          let e : answerRowAt rows i .fresh ≡ n = eqb-true (answerRowAt rows i .fresh) n (and-second (isFresh (answerRowAt rows i)) (eqb (answerRowAt rows i .fresh) n) found) in
-          rw h (home-first rows i i g (rw e (record { is-row = found; none-before = λ k l. least-passed (ofPiece rows n) 0 j k (omega arith) l })))
+    go : (b : Bool) → isFresh (answerRowAt rows j) ≡ b → homeRow rows (homeRow rows j) ≡ homeRow rows j
+    go false f = ap (homeRow rows) (home-fill rows j f)
+    go true f = P .first-own (homeRow rows j) (P .home-fresh j f) (λ i l g e. P .none-before j i f l g (e ∙ P .home-number j f))

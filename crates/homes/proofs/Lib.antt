@@ -5,5 +5,4 @@ pub mod Widening
 pub mod Setting
 pub mod Testing
 pub mod Tables
-pub mod Forms
 pub mod Whole

@@ -1,9 +1,9 @@
 -- Home and high bit set row by row: rows before row i have those of their home row, the others their own.
-use mathlib.Core.Path.{_≡_, refl, sym, _∙_, ap, subst}
+use mathlib.Core.Path.{_≡_, refl, sym, _∙_, ap}
 use mathlib.Core.Logic.{_⊎_, inl, inr, _≢_}
-use mathlib.Core.Bool.{Bool, true, false}
+use mathlib.Core.Bool.{true, false}
 use mathlib.Core.List.{List}
-use Prim.Native.Nat.{ℕ, zero, suc, _+_, _*_, _/_, _%_, _≤_, _<_}
+use Prim.Native.Nat.{ℕ, suc, _+_, _*_, _%_, _≤_, _<_}
 use native.Mathlib.Omega.{arith}
 use native.Mathlib.Numerals.{add-one}
 use lib.ListN.{length, getD, set}
@@ -13,9 +13,12 @@ use Rattle.laws.proofs.Numbers.{dec-eq, lt-or-le}
 use Rattle.answers.specs.declared.AnswerRow.{AnswerRow}
 use Rattle.answers.specs.Answer.{answerRowAt, answerRowsOf, isFresh, highBit, homeRow}
 use Rattle.answers.proofs.AnswerNumbers.{answer-columns}
-use Rattle.homes.specs.inner.Homes.{columnsAt, Orderly, Standing, homeCopied, Seen, homedTo, Homed, SetsHome, SetsHomes}
+use Rattle.answers.specs.inner.Orderly.{Orderly}
+use Rattle.answers.specs.inner.FourNumbers.{answerColumns}
+use Rattle.homes.specs.inner.Homes.{Standing, homeCopied, homedTo, Homed, SetsHome, SetsHomes}
 use Rattle.homes.proofs.Stores.{kept-columns, copy-length, copy-kept, copy-home, copy-high}
-use Rattle.homes.proofs.Firsts.{none-seen, kind-fresh, kind-fill, home-fill, home-later, home-here, seen-kept, more-seen, home-most, home-home}
+use Rattle.answers.proofs.Homes.{home-fill, home-le}
+use Rattle.homes.proofs.Firsts.{none-seen, kind-fresh, kind-fill, home-later, home-here, seen-kept, more-seen, home-home}
 
 module _ (rows : List AnswerRow) (i j : ℕ) where
   homed-low : j < i → homedTo rows i j ≡ homeRow rows j
@@ -79,7 +82,7 @@ module _ (rows : List AnswerRow) (o : Orderly rows) (old t : List ℕ) (i : ℕ)
   t′ = homeCopied t (homeRow rows i) i
 
   home-there : homeRow rows i < length rows
-  home-there = omega (arith, home-most rows i)
+  home-there = omega (arith, home-le rows i)
 
   standing-more : Standing rows (homedTo rows (suc i)) old (homeCopied t (homeRow rows i) i)
   standing-more =
@@ -111,15 +114,15 @@ module _ (rows : List AnswerRow) (o : Orderly rows) (old t : List ℕ) (i : ℕ)
           go (inl q) = copy-kept t h i x (inl (omega arith))
           go (inr q) = copy-kept t h i x (inr (omega arith))
 
-      columns-kept : (j : ℕ) → (j ≡ i) ⊎ (j ≢ i) → columnsAt t′ (j * 6) ≡ columnsAt t (j * 6)
+      columns-kept : (j : ℕ) → (j ≡ i) ⊎ (j ≢ i) → answerColumns t′ (j * 6) ≡ answerColumns t (j * 6)
       columns-kept j (inl e) = kept-columns t t′ (i * 6 + 4) 2 (j * 6) (copy-kept t h i) (inl (omega arith))
       columns-kept j (inr n) = go (apart j n)
         where
-          go : (j * 6 + 6 ≤ i * 6) ⊎ (i * 6 + 6 ≤ j * 6) → columnsAt t′ (j * 6) ≡ columnsAt t (j * 6)
+          go : (j * 6 + 6 ≤ i * 6) ⊎ (i * 6 + 6 ≤ j * 6) → answerColumns t′ (j * 6) ≡ answerColumns t (j * 6)
           go (inl q) = kept-columns t t′ (i * 6 + 4) 2 (j * 6) (copy-kept t h i) (inl (omega arith))
           go (inr q) = kept-columns t t′ (i * 6 + 4) 2 (j * 6) (copy-kept t h i) (inr (omega arith))
 
-      rows-at : (j : ℕ) → j < length rows → (j ≡ i) ⊎ (j ≢ i) → columnsAt t′ (j * 6) ≡ answerRowAt rows j
+      rows-at : (j : ℕ) → j < length rows → (j ≡ i) ⊎ (j ≢ i) → answerColumns t′ (j * 6) ≡ answerRowAt rows j
       rows-at j q d = columns-kept j d ∙ s .rows-are j q
 
       homes-at : (j : ℕ) → j < length rows → (j ≡ i) ⊎ (j ≢ i) → getD t′ (j * 6 + 4) 0 ≡ answerRowAt rows (homedTo rows (suc i) j) .variable
@@ -171,7 +174,7 @@ module _ (r : AnswerRow) (i seen : ℕ) (t firsts : List ℕ) where
         let same : r .fresh ≡ answerRowAt rows i .fresh = ap (λ (x : AnswerRow). x .fresh) e in
         let other : answerRowAt rows i .fresh ≢ seen = λ d. q (same ∙ d) in
         let home : from ≡ homeRow rows i = eh ∙ ap (λ (x : ℕ). getD firsts x 0) (ew ∙ same) ∙ sym (home-later rows o firsts seen i (g .seen-are) l space fresh other) in
-        let fits : from * 6 + 6 ≤ length t = omega (arith, home, home-most rows i) in
+        let fits : from * 6 + 6 ≤ length t = omega (arith, home, home-le rows i) in
         rw (add-one, et fits (omega arith), home)
         (record {
           seen-are = seen-kept rows o firsts seen i (g .seen-are) l space (λ h. other);

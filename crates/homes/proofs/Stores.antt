@@ -1,5 +1,5 @@
 -- Stores to one row of an answer table: its numbers afterwards, and that all others stay.
-use mathlib.Core.Path.{_≡_, refl, sym, _∙_, ap}
+use mathlib.Core.Path.{_≡_, sym, _∙_, ap}
 use mathlib.Core.Logic.{_⊎_, inl, inr, _≢_}
 use mathlib.Core.Bool.{false}
 use mathlib.Core.List.{List}
@@ -11,9 +11,9 @@ use lib.Seq.{getD-set-same, getD-set-other}
 use borrow.Author.Tests.{eq-eqb, ne-eqb}
 use Rattle.laws.specs.Buffers.{setFour}
 use Rattle.laws.proofs.Buffers.{four-length}
-use Rattle.laws.proofs.Numbers.{lt-or-le}
 use Rattle.answers.specs.declared.AnswerRow.{AnswerRow}
-use Rattle.homes.specs.inner.Homes.{columnsAt, rowPut, homeCopied, homeFine}
+use Rattle.answers.specs.inner.FourNumbers.{answerColumns}
+use Rattle.homes.specs.inner.Homes.{rowPut, homeCopied, homeFine}
 
 -- All numbers stay but the n from a place on.
 abbrev pub Kept : List ℕ → List ℕ → ℕ → ℕ → Type 0
@@ -21,7 +21,7 @@ Kept t t′ at n = (x : ℕ) → (x < at) ⊎ (at + n ≤ x) → getD t′ x 0 �
 
 -- a row by its columns
 pub same-columns : (t : List ℕ) (at : ℕ) (r : AnswerRow) → getD t at 0 ≡ r .variable → getD t (at + 1) 0 ≡ r .kind → getD t (at + 2) 0 ≡ r .width
-    → getD t (at + 3) 0 ≡ r .fresh → columnsAt t at ≡ r
+    → getD t (at + 3) 0 ≡ r .fresh → answerColumns t at ≡ r
 same-columns t at r a b c d = rw (a, b, c, d)
 
 -- one store
@@ -57,7 +57,7 @@ module _ (t : List ℕ) (at a b c d : ℕ) where
       (kept-within t₂ t₃ (at + 2) 1 at 4 (kept-one t₂ (at + 2) c) (omega arith) (omega arith)))
       (kept-within t₃ (set t₃ (at + 3) d) (at + 3) 1 at 4 (kept-one t₃ (at + 3) d) (omega arith) (omega arith))
 
-  columns-four : at + 4 ≤ length t → columnsAt (setFour t at a b c d) at ≡ record { variable = a; kind = b; width = c; fresh = d }
+  columns-four : at + 4 ≤ length t → answerColumns (setFour t at a b c d) at ≡ record { variable = a; kind = b; width = c; fresh = d }
   unfolding setFour
   columns-four l =
       let n₁ : length t₁ ≡ length t = length-set t at a in
@@ -71,11 +71,11 @@ module _ (t : List ℕ) (at a b c d : ℕ) where
       (getD-set-same t₃ (at + 3) d 0 (omega arith))
 
 -- the columns of a place are kept where its four numbers are
-pub kept-columns : (t t′ : List ℕ) (at n x : ℕ) → Kept t t′ at n → (x + 4 ≤ at) ⊎ (at + n ≤ x) → columnsAt t′ x ≡ columnsAt t x
+pub kept-columns : (t t′ : List ℕ) (at n x : ℕ) → Kept t t′ at n → (x + 4 ≤ at) ⊎ (at + n ≤ x) → answerColumns t′ x ≡ answerColumns t x
 kept-columns t t′ at n x k (inl l) =
-    same-columns t′ x (columnsAt t x) (k x (inl (omega arith))) (k (x + 1) (inl (omega arith))) (k (x + 2) (inl (omega arith))) (k (x + 3) (inl (omega arith)))
+    same-columns t′ x (answerColumns t x) (k x (inl (omega arith))) (k (x + 1) (inl (omega arith))) (k (x + 2) (inl (omega arith))) (k (x + 3) (inl (omega arith)))
 kept-columns t t′ at n x k (inr l) =
-    same-columns t′ x (columnsAt t x) (k x (inr (omega arith))) (k (x + 1) (inr (omega arith))) (k (x + 2) (inr (omega arith))) (k (x + 3) (inr (omega arith)))
+    same-columns t′ x (answerColumns t x) (k x (inr (omega arith))) (k (x + 1) (inr (omega arith))) (k (x + 2) (inr (omega arith))) (k (x + 3) (inr (omega arith)))
 
 -- a row with its own place
 module _ (t : List ℕ) (i : ℕ) (r : AnswerRow) (high : ℕ) where
@@ -105,7 +105,7 @@ module _ (t : List ℕ) (i : ℕ) (r : AnswerRow) (high : ℕ) where
     five-long : length five ≡ length t
     five-long = length-set four (i * 6 + 4) (r .variable) ∙ four-long
 
-    pub put-columns : columnsAt (rowPut t i r high) (i * 6) ≡ r
+    pub put-columns : answerColumns (rowPut t i r high) (i * 6) ≡ r
     unfolding rowPut
     put-columns =
         kept-columns five (set five (i * 6 + 5) high) (i * 6 + 5) 1 (i * 6) (kept-one five (i * 6 + 5) high) (inl (omega arith))
@@ -158,7 +158,7 @@ home-stored t w i u j e d = rw (e, d)
 
 -- four numbers read side by side
 pub columns-loaded : (t : List ℕ) (w i v k wd f : ℕ) → w ≡ i → v ≡ getD t (w * 4) 0 → k ≡ getD t (w * 4 + 1) 0 → wd ≡ getD t (w * 4 + 2) 0 → f ≡ getD t (w * 4 + 3) 0
-    → _≡_ {A = AnswerRow} (record { variable = v; kind = k; width = wd; fresh = f }) (columnsAt t (i * 4))
+    → _≡_ {A = AnswerRow} (record { variable = v; kind = k; width = wd; fresh = f }) (answerColumns t (i * 4))
 columns-loaded t w i v k wd f e a b c d = rw (a, b, c, d, e)
 
 -- home and high bit compared, with their own or with those of another row

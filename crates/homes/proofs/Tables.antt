@@ -1,34 +1,26 @@
 -- Rows that stand in a table, as numbers written to its beginning.
-use mathlib.Core.Path.{_≡_, refl, sym, _∙_, ap}
+use mathlib.Core.Path.{_≡_, sym, _∙_, ap}
 use mathlib.Core.Logic.{_⊎_, inl, inr}
-use mathlib.Core.List.{List, [], _∷_}
+use mathlib.Core.List.{List}
 use Prim.Native.Nat.{ℕ, zero, suc, _+_, _*_, _/_, _%_, _≤_, _<_}
 use native.Mathlib.Omega.{arith}
 use lib.ListN.{length, getD}
 use lib.Seq.{ext-getD}
 use Rattle.laws.specs.Buffers.{overwrite}
-use Rattle.laws.proofs.Buffers.{overwrite-length, overwrite-read}
+use Rattle.laws.proofs.Buffers.{overwrite-length, overwrite-read, overwrite-past}
 use Rattle.laws.proofs.Numbers.{lt-or-le}
 use Rattle.answers.specs.declared.AnswerRow.{AnswerRow}
-use Rattle.answers.specs.Answer.{answerRowAt, highBit, homeRow, answerRowNumbers, answerNumbers}
-use Rattle.answers.specs.inner.FourNumbers.{fourNumbers}
+use Rattle.answers.specs.Answer.{answerRowAt, homeRow, answerRowNumbers, answerNumbers}
+use Rattle.answers.specs.inner.FourNumbers.{fourNumbers, answerColumns}
 use Rattle.answers.proofs.AnswerNumbers.{four-length, four-columns, numbers-length, number-at}
-use Rattle.homes.specs.inner.Homes.{columnsAt, Orderly, Standing, Widens, SetsHomes, PutsHomes}
+use Rattle.homes.specs.inner.Homes.{Standing, Widens, SetsHomes, PutsHomes}
 use Rattle.homes.proofs.Stores.{same-columns}
-
--- behind what was written
-overwrite-past : (new old : List ℕ) (i : ℕ) → length new ≤ i → getD (overwrite new old) i 0 ≡ getD old i 0
-unfolding overwrite
-overwrite-past [] old i l = refl
-overwrite-past (x ∷ new) [] i l = refl
-overwrite-past (x ∷ new) (y ∷ old) zero l = absurd (omega arith)
-overwrite-past (x ∷ new) (y ∷ old) (suc i) l = overwrite-past new old i (omega arith)
 
 -- the rows' own four numbers
 four-stand : (rows : List AnswerRow) (old : List ℕ) (j : ℕ) → j < length rows → length rows * 6 ≤ length old
-    → columnsAt (overwrite (fourNumbers rows) old) (j * 4) ≡ answerRowAt rows j
+    → answerColumns (overwrite (fourNumbers rows) old) (j * 4) ≡ answerRowAt rows j
 four-stand rows old j l room =
-    same-columns (overwrite (fourNumbers rows) old) (j * 4) (columnsAt (fourNumbers rows) (j * 4)) (read (j * 4) (omega arith)) (read (j * 4 + 1) (omega arith)) (read (j * 4 + 2) (omega arith))
+    same-columns (overwrite (fourNumbers rows) old) (j * 4) (answerColumns (fourNumbers rows) (j * 4)) (read (j * 4) (omega arith)) (read (j * 4 + 1) (omega arith)) (read (j * 4 + 2) (omega arith))
     (read (j * 4 + 3) (omega arith))
     ∙ four-columns rows j l
   where
@@ -71,7 +63,7 @@ puts-homes n m room t t₁ t₂ em w k rows old e o fits space et =
     let d : m ≡ n = omega (arith, o .few) in
     let c : m ≡ length rows = d ∙ e in
     let lt : length t ≡ length old = ap length et ∙ overwrite-length (fourNumbers rows) old in
-    let s₁ : Standing rows (λ j. j) t t₁ = w rows c o (omega arith) (λ j l. ap (λ (x : List ℕ). columnsAt x (j * 4)) et ∙ four-stand rows old j (omega arith) (omega arith)) in
+    let s₁ : Standing rows (λ j. j) t t₁ = w rows c o (omega arith) (λ j l. ap (λ (x : List ℕ). answerColumns x (j * 4)) et ∙ four-stand rows old j (omega arith) (omega arith)) in
     let s₂ : Standing rows (homeRow rows) t t₂ = k rows t c o (omega (arith, s₁ .len)) (omega arith) s₁ in
     standing-written rows old t₂
     (record {

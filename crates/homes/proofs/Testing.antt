@@ -3,7 +3,7 @@ use mathlib.Core.Path.{_≡_, refl, sym, _∙_, ap, subst}
 use mathlib.Core.Logic.{_⊎_, inl, inr, _≢_}
 use mathlib.Core.Bool.{Bool, true, false, _&&_, cond}
 use mathlib.Core.List.{List}
-use Prim.Native.Nat.{ℕ, zero, suc, _+_, _-_, _*_, _/_, _%_, _≤_, _<_}
+use Prim.Native.Nat.{ℕ, suc, _+_, _-_, _*_, _/_, _%_, _≤_, _<_}
 use native.Mathlib.Omega.{arith}
 use native.Mathlib.Numerals.{add-one}
 use lib.Dec.{eqb}
@@ -14,9 +14,11 @@ use Rattle.laws.proofs.Numbers.{dec-eq, at-or-after}
 use Rattle.answers.specs.declared.AnswerRow.{AnswerRow}
 use Rattle.answers.specs.Answer.{answerRowAt, answerRowsOf, isFresh, widthInRows, highBit, homeRow}
 use Rattle.answers.proofs.AnswerNumbers.{answer-length}
-use Rattle.homes.specs.inner.Homes.{Orderly, widthOn, homeIn, Seen, homeFine, MarksFirst, MarksFirsts, Right, TellsRight, TestsRows, TestsHomes}
+use Rattle.answers.specs.inner.Orderly.{Orderly}
+use Rattle.homes.specs.inner.Homes.{widthOn, homeIn, Seen, homeFine, MarksFirst, MarksFirsts, Right, TestsRows, TestsHomes}
 use Rattle.homes.proofs.Widths.{width-next, high-next, none-passed}
-use Rattle.homes.proofs.Firsts.{none-seen, kind-fresh, kind-fill, seen-kept, more-seen, home-known, home-most, home-home}
+use Rattle.answers.proofs.Homes.{home-le}
+use Rattle.homes.proofs.Firsts.{none-seen, kind-fresh, kind-fill, seen-kept, more-seen, home-known, home-home}
 
 -- the first rows marked, row by row
 pub record Marking (n : ℕ) (t firsts₀ firsts : List ℕ) (seen i : ℕ) : Type 0 where
@@ -94,7 +96,7 @@ module _ (rows : List AnswerRow) (t : List ℕ) where
       go (inl e) = let q = test-own j e (f j l) in (q .0 ∙ ap (λ (x : ℕ). at x .variable) (sym e), q .1 ∙ ap (highBit rows) (sym e))
       go (inr e) =
           let q = test-other j e (f j l) in
-          let p = test-own (homeRow rows j) (home-home rows j) (f (homeRow rows j) (omega (arith, home-most rows j))) in
+          let p = test-own (homeRow rows j) (home-home rows j) (f (homeRow rows j) (omega (arith, home-le rows j))) in
           (q .0 ∙ p .0, q .1 ∙ p .1)
 
   pub all-tested : ((j : ℕ) → j < length rows → homeFine t (answerRowAt rows j .variable) (highBit rows j) (homeRow rows j) j ≡ true) → Right rows t
@@ -118,7 +120,7 @@ module _ (rows : List AnswerRow) (t : List ℕ) where
           (eq-eqb (getD t (j * 6 + 4) 0) (at j .variable) (R .homes-are j l ∙ ap (λ (x : ℕ). at x .variable) e))
           (eq-eqb (getD t (j * 6 + 5) 0) (highBit rows j) (R .highs-are j l ∙ ap (highBit rows) e)))
       go (inr e) =
-          let q : homeRow rows j < length rows = omega (arith, home-most rows j) in
+          let q : homeRow rows j < length rows = omega (arith, home-le rows j) in
           let a : getD t (j * 6 + 4) 0 ≡ getD t (homeRow rows j * 6 + 4) 0 =
           R .homes-are j l ∙ ap (λ (x : ℕ). at x .variable) (sym (home-home rows j)) ∙ sym (R .homes-are (homeRow rows j) q) in
           let b : getD t (j * 6 + 5) 0 ≡ getD t (homeRow rows j * 6 + 5) 0 =

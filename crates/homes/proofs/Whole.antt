@@ -1,21 +1,20 @@
 -- The test of homes is the form's: home and high bit of every row are right exactly if the numbers are those with which the rows are written.
-use mathlib.Core.Path.{_≡_, refl, sym, _∙_, ap, subst}
+use mathlib.Core.Path.{_≡_, refl, sym, _∙_, ap}
 use mathlib.Core.Bool.{Bool, true, _&&_}
 use mathlib.Core.List.{List, []}
-use Prim.Native.Nat.{ℕ, _+_, _*_, _/_, _%_, _≤_, _<_}
+use Prim.Native.Nat.{ℕ, _+_, _*_, _%_, _≤_}
 use native.Mathlib.Omega.{arith}
 use lib.Dec.{eqb}
 use lib.ListN.{length, getD}
 use borrow.Author.Tests.{eqb-true}
-use Rattle.laws.specs.Buffers.{overwrite}
-use Rattle.laws.proofs.Bools.{and-first, and-second, same-test}
+use Rattle.laws.proofs.Bools.{and-parts, same-test}
 use Rattle.laws.proofs.Buffers.{overwrite-whole}
 use Rattle.terms.proofs.Satisfies.{same-word, word-same}
-use Rattle.answers.specs.Answer.{answerRowAt, answerRowsOf, answerNumbers, answerRowNumbers, homeRow, highBit}
+use Rattle.answers.specs.Answer.{answerRowsOf, answerNumbers, answerRowNumbers, homeRow}
 use Rattle.answers.proofs.AnswerNumbers.{answer-length, answer-columns, numbers-length, number-at}
 use Rattle.assignments.specs.Form.{rowsFine, homesFine}
+use Rattle.assignments.proofs.FormFacts.{formed-rows, orderly}
 use Rattle.homes.specs.inner.Homes.{Standing, Right, TellsRight, TestsHomes}
-use Rattle.homes.proofs.Forms.{orderly}
 use Rattle.homes.proofs.Tables.{standing-written}
 
 module _ (t : List ℕ) (whole : length t % 6 ≡ 0) where
@@ -47,7 +46,8 @@ pub homes-tested : (t : List ℕ) (room : ℕ) (b : Bool) → eqb (length t % 6)
     → homesFine t ≡ b
 unfolding homesFine
 homes-tested t room b f k l =
-    let whole : length t % 6 ≡ 0 = eqb-true (length t % 6) 0 (and-first (eqb (length t % 6) 0) (rowsFine [] (answerRowsOf t)) f) in
-    let R : TellsRight (answerRowsOf t) t b = k (orderly (answerRowsOf t) (and-second (eqb (length t % 6) 0) (rowsFine [] (answerRowsOf t)) f)) l in
+    let p = and-parts (eqb (length t % 6) 0) (rowsFine [] (answerRowsOf t)) f in
+    let whole : length t % 6 ≡ 0 = eqb-true (length t % 6) 0 (p .0) in
+    let R : TellsRight (answerRowsOf t) t b = k (orderly (answerRowsOf t) (formed-rows (answerRowsOf t) (p .1))) l in
     same-test _ b (λ h. R .all-right (written-right t whole (same-word (answerNumbers (answerRowsOf t)) t h)))
     (λ h. rw (right-written t whole (R .only-right h)) (word-same t))

@@ -1,18 +1,19 @@
 -- The width of a variable from a row on, row by row from the last one back.
 use mathlib.Core.Path.{_≡_, refl, sym, _∙_, ap}
 use mathlib.Core.Logic.{_⊎_, inl, inr, _≢_}
-use mathlib.Core.Bool.{Bool, true, false, cond}
+use mathlib.Core.Bool.{cond}
 use mathlib.Core.List.{List, [], _∷_}
-use Prim.Native.Nat.{ℕ, zero, suc, _+_, _-_, _%_, _≤_, _<_}
+use Prim.Native.Nat.{ℕ, suc, _+_, _-_, _%_, _≤_, _<_}
 use native.Mathlib.Omega.{arith}
 use lib.Dec.{eqb}
-use lib.ListN.{length, getD, drop, length-drop, drop-of-length-le}
+use lib.ListN.{length, drop, length-drop, drop-of-length-le}
 use lib.Seq.{drop-cons, getD-drop}
 use borrow.Author.Tests.{eq-eqb, ne-eqb}
 use Rattle.laws.proofs.Numbers.{dec-eq, lt-or-le}
 use Rattle.answers.specs.declared.AnswerRow.{AnswerRow}
 use Rattle.answers.specs.Answer.{answerRowAt, noAnswerRow, widthInRows, highBit}
-use Rattle.homes.specs.inner.Homes.{Orderly, widthOn}
+use Rattle.answers.specs.inner.Orderly.{Orderly}
+use Rattle.homes.specs.inner.Homes.{widthOn}
 
 -- a variable that no row has
 none-wide : (rows : List AnswerRow) (v : ℕ) → ((k : ℕ) → k < length rows → answerRowAt rows k .variable ≢ v) → widthInRows rows v ≡ 0

@@ -4,7 +4,8 @@
 ghost use mathlib.Core.Path.{_≡_};
 ghost use Prim.Native.Nat.{_+_, _*_, _≤_};
 ghost use lib.ListN.{length};
-ghost use Rattle.homes.specs.inner.Homes.{columnsAt, widthOn, rowPut, Widens, homeIn, homeCopied, SetsHome, SetsHomes, PutsHomes, MarksFirst, MarksFirsts, homeFine, TestsRows, TestsHomes};
+ghost use Rattle.answers.specs.inner.FourNumbers.{answerColumns};
+ghost use Rattle.homes.specs.inner.Homes.{widthOn, rowPut, Widens, homeIn, homeCopied, SetsHome, SetsHomes, PutsHomes, MarksFirst, MarksFirsts, homeFine, TestsRows, TestsHomes};
 use answers::AnswerRow;
 
 // The kind of a row with a fresh piece; a lower kind is a fill of that bit.
@@ -12,7 +13,7 @@ const FRESH: u16 = 2;
 
 // Row i of a table whose rows have four numbers, if it is there.
 fn four_at(answer: &[u16], i: u16) -> AnswerRow
-    ensures { λ r. ⌜ (i * 4 + 4 ≤ length (now (answer .entry)) → r ≡ columnsAt (now (answer .entry)) (i * 4)) ⌝ }
+    ensures { λ r. ⌜ (i * 4 + 4 ≤ length (now (answer .entry)) → r ≡ answerColumns (now (answer .entry)) (i * 4)) ⌝ }
 {
     let at = numbers::wide(i) * answers::FOUR;
     if answer.len() < at + 4 {

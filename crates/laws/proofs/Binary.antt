@@ -11,6 +11,7 @@ use lib.Pow.{high}
 use borrow.Author.Tests.{le-leb}
 use Rattle.laws.specs.Lists.{allBits}
 use Rattle.laws.specs.Binary.{binary, bitsNumber, Written, Read}
+use Rattle.laws.proofs.Lists.{copies-snoc}
 use Rattle.laws.proofs.AllBits.{first-bit, bits-append}
 use Rattle.laws.proofs.Lists.{snoc-length}
 use Rattle.laws.proofs.Numbers.{power-pos}
@@ -120,10 +121,6 @@ pub read : (bits : List ℕ) → allBits bits ≡ true → Read bits
 read bits h = record { fits = number-fits bits h; again = again bits h }
 
 -- ---- all alike
-
-copies-snoc : (n b : ℕ) → replicate n b ++ (b ∷ []) ≡ replicate (suc n) b
-copies-snoc zero b = refl
-copies-snoc (suc n) b = ap (λ (l : List ℕ). b ∷ l) (copies-snoc n b)
 
 pub binary-zeros : (w : ℕ) → binary w 0 ≡ replicate w 0
 unfolding binary

@@ -36,6 +36,14 @@ overwrite-read (x ∷ new) [] i h l = absurd (omega arith)
 overwrite-read (x ∷ new) (y ∷ old) zero h l = refl
 overwrite-read (x ∷ new) (y ∷ old) (suc i) h l = overwrite-read new old i (omega arith) (omega arith)
 
+-- behind the beginning stands what was there
+pub overwrite-past : (new old : List ℕ) (i : ℕ) → length new ≤ i → getD (overwrite new old) i 0 ≡ getD old i 0
+unfolding overwrite
+overwrite-past [] old i l = refl
+overwrite-past (x ∷ new) [] i l = refl
+overwrite-past (x ∷ new) (y ∷ old) zero l = absurd (omega arith)
+overwrite-past (x ∷ new) (y ∷ old) (suc i) l = overwrite-past new old i (omega arith)
+
 -- one element more is a store behind the beginning
 pub overwrite-more : (new old : List ℕ) (x : ℕ) (n : ℕ) → length new ≡ n → set (overwrite new old) n x ≡ overwrite (new ++ (x ∷ [])) old
 unfolding overwrite

@@ -50,3 +50,13 @@ least-passed f k (suc d) m a b = go (f k) refl (dec-eq k m) b (λ (l : suc k ≤
     go true e w l r = absurd (omega arith)
     go false e (inl w) l r = ap f (sym w) ∙ e
     go false e (inr w) l r = r (omega arith) l
+
+-- what is found passes, where the last number does
+pub least-found : (f : ℕ → Bool) (k d : ℕ) → f (k + d) ≡ true → f (least f k d) ≡ true
+unfolding least
+least-found f k zero t = let e : k + 0 ≡ k = omega arith in rw e at t
+least-found f k (suc d) t = go (f k) refl (least-found f (suc k) d (let e : k + suc d ≡ suc k + d = omega arith in rw e at t))
+  where
+    go : (b : Bool) → f k ≡ b → f (least f (suc k) d) ≡ true → f (cond b k (least f (suc k) d)) ≡ true
+    go true e h = e
+    go false e h = h

@@ -1,4 +1,4 @@
--- `map` over the parts of a list, and over the places of one.
+-- Lists: `map` over their parts and places, copies of one element, first and later parts, an element stored, and lists by a function of the place.
 use mathlib.Core.Path.{_≡_, refl, sym, _∙_, ap, ap₂}
 use mathlib.Core.List.{List, [], _∷_, _++_, map, append-assoc}
 use mathlib.Core.Logic.{_⊎_, inl, inr, _≢_}
@@ -27,6 +27,10 @@ module _ {A B : Type 0} (f : A → B) where
   pub map-replicate : (n : ℕ) (a : A) → map f (replicate n a) ≡ replicate n (f a)
   map-replicate zero a = refl
   map-replicate (suc n) a = ap (λ (l : List B). f a ∷ l) (map-replicate n a)
+
+pub copies-snoc : {A : Type 0} (n : ℕ) (a : A) → replicate n a ++ (a ∷ []) ≡ replicate (suc n) a
+copies-snoc zero a = refl
+copies-snoc {A} (suc n) a = ap (λ (l : List A). a ∷ l) (copies-snoc n a)
 
 module _ {A : Type 0} (x y d : A) where
   read-from : (before p : List A) → map (λ s. getD (x ∷ y ∷ (before ++ p)) s d) (countUp (suc (suc (length before))) (length p)) ≡ p

@@ -11,15 +11,15 @@ use lib.Seq.{take-suc, take-all, getD-drop}
 use borrow.Author.Tests.{lt-ltb, le-ltb}
 use Rattle.laws.specs.Buffers.{overwrite, Written, Behind}
 use Rattle.laws.proofs.Buffers.{overwrite-length, written-more}
-use Rattle.answers.specs.declared.AnswerRow.{AnswerRow}
-use Rattle.answers.specs.Answer.{isFresh, freshStart, rowBits, bitsOfRows, instantiate}
+use Rattle.laws.proofs.Lists.{copies-snoc}
 use Rattle.laws.proofs.Numbers.{lt-or-le}
-use Rattle.answers.specs.Answer.{answerRowsOf}
-use Rattle.assignments.specs.Form.{patternBits}
-use Rattle.maker.specs.inner.Making.{Shaped, byteIn, bytesIn, WritesRows}
-use Rattle.answers.specs.Answer.{answerRowAt, noAnswerRow}
-use Rattle.maker.proofs.OneMore.{bits-part}
+use Rattle.answers.specs.declared.AnswerRow.{AnswerRow}
+use Rattle.answers.specs.Answer.{answerRowAt, noAnswerRow, answerRowsOf, isFresh, freshStart, rowBits, bitsOfRows, instantiate}
 use Rattle.answers.proofs.AnswerNumbers.{answer-length}
+use Rattle.assignments.specs.Form.{patternBits}
+use Rattle.assignments.proofs.VariableBits.{bits-parts}
+use Rattle.shapes.specs.inner.Shapes.{Shaped}
+use Rattle.maker.specs.inner.Filling.{byteIn, bytesIn, WritesRows}
 
 bytes-count : (fresh : List ℕ) (kind start n : ℕ) → length (bytesIn fresh kind start n) ≡ n
 unfolding bytesIn
@@ -71,11 +71,7 @@ module _ (fresh : List ℕ) (start kind width : ℕ) (out₀ : List ℕ) (from :
 fill-bytes : (fresh : List ℕ) (kind start n : ℕ) → kind < 2 → bytesIn fresh kind start n ≡ replicate n kind
 unfolding bytesIn byteIn
 fill-bytes fresh kind start zero l = refl
-fill-bytes fresh kind start (suc n) l = rw (fill-bytes fresh kind start n l, lt-ltb kind 2 l) (one-more n)
-  where
-    one-more : (m : ℕ) → replicate m kind ++ (kind ∷ []) ≡ kind ∷ replicate m kind
-    one-more zero = refl
-    one-more (suc m) = ap (λ (t : List ℕ). kind ∷ t) (one-more m)
+fill-bytes fresh kind start (suc n) l = rw (fill-bytes fresh kind start n l, lt-ltb kind 2 l) (copies-snoc n kind)
 
 fresh-bytes : (fresh : List ℕ) (kind start n : ℕ) → 2 ≤ kind → start + n ≤ length fresh → bytesIn fresh kind start n ≡ take n (drop start fresh)
 unfolding bytesIn byteIn
@@ -169,7 +165,7 @@ module _ (answer fresh starts out₀ out : List ℕ) (at i : ℕ) (k : Filling a
             ap length (all-bytes bits free s n),
             length-append (bitsOfRows rows fresh (take i rows)) (bytesIn fresh (r .kind) start (r .width)),
             bits-most rows fresh (take (suc i) rows),
-            bits-part (suc i) rows,
+            bits-parts (suc i) rows,
             s .bits-are,
           )
 

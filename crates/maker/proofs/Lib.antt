@@ -1,5 +1,2 @@
 pub mod Filling
-pub mod OneMore
-pub mod Passed
-pub mod Passing
-pub mod Reading
+pub mod Ending

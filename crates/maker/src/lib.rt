@@ -1,231 +1,12 @@
-// The pattern maker (document 01, "The solver's answer"). One pass tests the form of the answer table row by row and finds where the
-// bits of each fresh piece begin among the fresh bits; then home and high bit of every row are tested (crate homes), and the last pass
-// writes each row's bits to the pattern.
+// The pattern maker (document 01, "The solver's answer"): the form of the answer table is read (crate shapes), and then each row's bits are
+// written to the pattern.
 ghost use mathlib.Core.Path.{_≡_};
-ghost use mathlib.Core.Bool.{cond};
 ghost use lib.ListN.{length};
 ghost use Rattle.laws.specs.Buffers.{Behind};
 ghost use Rattle.assignments.specs.Call.{patternRecord, patternAfter};
-ghost use Rattle.maker.specs.inner.Making.{widthBefore, isNew, variableIn, widthsIn, fillIn, freshIn, fineIn, advanced, ReadsForm, byteIn, bytesIn, WritesRows};
-use answers::AnswerRow;
+ghost use Rattle.maker.specs.inner.Filling.{byteIn, bytesIn, WritesRows, Fills};
+use shapes::Found;
 use terms::Record;
-
-// The kind of a row with a fresh piece; a lower kind is a fill of that bit.
-const FRESH: u16 = 2;
-
-// What the rows passed leave for the next one: the last row's variable and the one above it, or 0 at first; the last row's kind; the
-// width of its variable so far; the bits so far; how many fresh pieces were seen and how many bits they have.
-struct Progress {
-    variable: u16,
-    next: u16,
-    kind: u16,
-    width: u16,
-    bits: u16,
-    pieces: u16,
-    free: u16,
-}
-
-// Whether the rows of an answer table have the form, home and high bit aside; their bits and their fresh bits.
-struct Found {
-    fine: bool,
-    bits: u16,
-    free: u16,
-}
-
-// The width of variable v in the rows passed.
-fn width_before(p: Progress, v: u16) -> u16
-    ensures { λ w. ⌜ w ≡ widthBefore p v ⌝ }
-{
-    if v == p.variable {
-        return p.width;
-    }
-    0
-}
-
-// Whether a row has the first place of a fresh piece.
-fn is_new(p: Progress, r: AnswerRow) -> bool
-    ensures { λ b. ⌜ b ≡ isNew p r ⌝ }
-{
-    let kind = r.kind;
-    let number = r.fresh;
-    let unseen = p.pieces;
-    if kind < FRESH {
-        return false;
-    }
-    if number == unseen {
-        return true;
-    }
-    false
-}
-
-// Whether a row's variable is the last row's or the next one.
-fn variable_fine(p: Progress, r: AnswerRow) -> bool
-    ensures { λ b. ⌜ b ≡ variableIn p r ⌝ }
-{
-    let v = r.variable;
-    let last = p.variable;
-    let next = p.next;
-    if terms::MAX_VARIABLES <= numbers::wide(v) {
-        return false;
-    }
-    if v == last {
-        return true;
-    }
-    if v == next {
-        return true;
-    }
-    false
-}
-
-// Whether a row's width is at least 1 and has room in its variable and in the pattern.
-fn widths_fine(p: Progress, r: AnswerRow) -> bool
-    ensures { λ b. ⌜ b ≡ widthsIn p r ⌝ }
-{
-    let width = numbers::wide(r.width);
-    if width == 0 {
-        return false;
-    }
-    if terms::MAX_WIDTH < numbers::wide(width_before(p, r.variable)) + width {
-        return false;
-    }
-    if terms::MAX_BITS < numbers::wide(p.bits) + width {
-        return false;
-    }
-    true
-}
-
-// Whether a fill has fresh number 0 and does not go on with the fill before it.
-fn fill_fine(p: Progress, r: AnswerRow) -> bool
-    ensures { λ b. ⌜ b ≡ fillIn p r ⌝ }
-{
-    let number = r.fresh;
-    let variable = r.variable;
-    let kind = r.kind;
-    let last = p.variable;
-    let before = p.kind;
-    if number != 0 {
-        return false;
-    }
-    if variable != last {
-        return true;
-    }
-    if kind != before {
-        return true;
-    }
-    false
-}
-
-// Whether a fresh piece was seen with the same width or has the lowest unseen number; `seen` is the width it was seen with.
-fn fresh_fine(p: Progress, r: AnswerRow, seen: u16) -> bool
-    ensures { λ b. ⌜ b ≡ freshIn p r seen ⌝ }
-{
-    let kind = r.kind;
-    let width = r.width;
-    let number = r.fresh;
-    let pieces = p.pieces;
-    if FRESH < kind {
-        return false;
-    }
-    if number < pieces {
-        if seen == width {
-            return true;
-        }
-        return false;
-    }
-    if number == pieces {
-        return true;
-    }
-    false
-}
-
-// Whether a row is fine behind those passed.
-fn row_fine(p: Progress, r: AnswerRow, seen: u16) -> bool
-    ensures { λ b. ⌜ b ≡ fineIn p r seen ⌝ }
-{
-    let kind = r.kind;
-    if !variable_fine(p, r) {
-        return false;
-    }
-    if !widths_fine(p, r) {
-        return false;
-    }
-    if kind < FRESH {
-        return fill_fine(p, r);
-    }
-    fresh_fine(p, r, seen)
-}
-
-// The fresh pieces that a row adds.
-fn new_pieces(p: Progress, r: AnswerRow) -> u16
-    ensures { λ n. ⌜ n ≡ cond (isNew p r) 1 0 ⌝ }
-{
-    if is_new(p, r) {
-        return 1;
-    }
-    0
-}
-
-// The fresh bits that a row adds.
-fn new_bits(p: Progress, r: AnswerRow) -> u16
-    ensures { λ n. ⌜ n ≡ cond (isNew p r) (r .width) 0 ⌝ }
-{
-    if is_new(p, r) {
-        return r.width;
-    }
-    0
-}
-
-// The state with one row more.
-fn advance(p: Progress, r: AnswerRow) -> Progress
-    ensures { λ q. ⌜ q ≡ advanced p r ⌝ }
-{
-    Progress {
-        variable: r.variable,
-        next: numbers::plus(r.variable, 1),
-        kind: r.kind,
-        width: numbers::plus(width_before(p, r.variable), r.width),
-        bits: numbers::plus(p.bits, r.width),
-        pieces: numbers::plus(p.pieces, new_pieces(p, r)),
-        free: numbers::plus(p.free, new_bits(p, r)),
-    }
-}
-
-// Tests the form of an answer table, home and high bit aside. `widths` has afterwards the width of each fresh piece, and `starts` where its bits begin among the
-// fresh bits. A row without a new fresh piece stores at the place of the next one, which stores again.
-fn read_form(answer: &[u16], widths: &mut [u16], starts: &mut [u16]) -> Found
-    ensures { λ f. ⌜ ReadsForm (now (answer .entry)) (now (widths .entry)) (now (starts .entry)) (now (starts .exit)) f ⌝ }
-{
-    let mut p = Progress {
-        variable: 0,
-        next: 0,
-        kind: FRESH,
-        width: 0,
-        bits: 0,
-        pieces: 0,
-        free: 0,
-    };
-    let mut i = 0;
-    while i < answer.len() / answers::ROW {
-        let r = answer_table::row_at(answer, i);
-        if !row_fine(p, r, numbers::load(widths, numbers::wide(r.fresh))) {
-            return Found {
-                fine: false,
-                bits: 0,
-                free: 0,
-            };
-        }
-        let place = numbers::wide(p.pieces);
-        numbers::store(widths, place, r.width);
-        numbers::store(starts, place, p.free);
-        p = advance(p, r);
-        i += 1;
-    }
-    Found {
-        fine: answer.len() % answers::ROW == 0,
-        bits: p.bits,
-        free: p.free,
-    }
-}
 
 // A byte of a row: a fill's bit, or byte i of the fresh bits.
 fn byte_of(fresh: &[u8], kind: u16, i: usize) -> u8
@@ -274,21 +55,17 @@ fn put_rows(answer: &[u16], fresh: &[u8], starts: &[u16], out: &mut [u8])
     }
 }
 
-// The pattern that an answer table gives at fresh bits, as bytes 0 and 1, high bit first.
-pub fn make_pattern(answer: &[u16], fresh: &[u8], pattern: &mut [u8]) -> Record
-    ensures record { λ r. ⌜ r ≡ patternRecord (now (answer .entry)) (now (fresh .entry)) (length (now (pattern .entry))) ⌝ }
-    ensures pattern { λ _. ⌜ now (pattern .exit) ≡ patternAfter (now (answer .entry)) (now (fresh .entry)) (now (pattern .entry)) ⌝ }
+// Fills an answer table that has the form with fresh bits: the record, and the pattern. `found` and `starts` are what was read of the form.
+pub fn fill(
+    answer: &[u16],
+    found: Found,
+    fresh: &[u8],
+    starts: &[u16],
+    pattern: &mut [u8],
+) -> Record
+    ensures { λ r. ⌜ Fills (now (answer .entry)) found (now (fresh .entry)) (now (starts .entry)) (now (pattern .entry)) (now (pattern .exit)) r ⌝ }
 {
-    let mut widths = [0u16; 4096];
-    let mut starts = [0u16; 4096];
-    let found = read_form(answer, &mut widths[..], &mut starts[..]);
     let bits = numbers::wide(found.bits);
-    if !found.fine {
-        return records::refuse(33, 0);
-    }
-    if !homes::homes_fine(answer, &mut widths[..]) {
-        return records::refuse(33, 0);
-    }
     if fresh.len() != numbers::wide(found.free) {
         return records::refuse(34, 0);
     }
@@ -298,6 +75,19 @@ pub fn make_pattern(answer: &[u16], fresh: &[u8], pattern: &mut [u8]) -> Record
     if pattern.len() < bits {
         return records::refuse(32, 0);
     }
-    put_rows(answer, fresh, &starts[..], pattern);
+    put_rows(answer, fresh, starts, pattern);
     records::complete(0, bits as u32)
+}
+
+// The pattern that an answer table gives at fresh bits, as bytes 0 and 1, high bit first.
+pub fn make_pattern(answer: &[u16], fresh: &[u8], pattern: &mut [u8]) -> Record
+    ensures record { λ r. ⌜ r ≡ patternRecord (now (answer .entry)) (now (fresh .entry)) (length (now (pattern .entry))) ⌝ }
+    ensures pattern { λ _. ⌜ now (pattern .exit) ≡ patternAfter (now (answer .entry)) (now (fresh .entry)) (now (pattern .entry)) ⌝ }
+{
+    let mut starts = [0u16; 4096];
+    let found = shapes::form_of(answer, &mut starts[..]);
+    if !found.fine {
+        return records::refuse(33, 0);
+    }
+    fill(answer, found, fresh, &starts[..], pattern)
 }

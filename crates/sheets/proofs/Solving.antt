@@ -7,7 +7,6 @@ use Prim.Native.Nat.{ℕ, _*_, _≤_}
 use native.Mathlib.Omega.{arith}
 use lib.Dec.{eqb, ltb}
 use lib.ListN.{length, take, replicate, length-replicate}
-use lib.Seq.{take-length}
 use borrow.Author.Tests.{eq-eqb, ne-eqb, eqb-true}
 use Rattle.terms.specs.declared.Record.{Record}
 use Rattle.terms.specs.declared.Row.{Row}
@@ -15,8 +14,7 @@ use Rattle.terms.specs.declared.Fault.the-variants.{Accepted}
 use Rattle.terms.specs.Table.{rowsOf, bitsOf, satisfies}
 use Rattle.terms.specs.Faults.{firstFault}
 use Rattle.terms.specs.Calls.{refusal, completed}
-use Rattle.terms.proofs.AcceptedTable.{accepted-table}
-use Rattle.terms.proofs.Faults.{totals-small}
+use Rattle.terms.proofs.AcceptedTable.{table-bits}
 use Rattle.sheets.specs.declared.Sheet.{Sheet}
 use Rattle.sheets.specs.declared.Sheet.the-variants.{TooLong, WrongNames, TooMany, WrongLine, Rows}
 use Rattle.terms.specs.Table.{rowNumbers}
@@ -123,7 +121,7 @@ module _ (text old : List ℕ) (room : length old ≡ 24576) (two : programRecor
   unfolding solvedRows
   pieces-fit =
       let t = rowsOf numbers in
-      let small : bitsOf t ≤ 4096 = rw (take-length t) at (totals-small t (length t) (accepted-table numbers accepted-2 .sound) .1) in
+      let small : bitsOf t ≤ 4096 = table-bits numbers accepted-2 in
       omega (
         arith,
         ap (λ (r : Record). r .pieces) is-record,

@@ -22,6 +22,7 @@ use Rattle.answers.specs.inner.Classes.{inClass, Represents}
 use Rattle.answers.specs.declared.AnswerRow.{AnswerRow}
 use Rattle.answers.specs.Answer.{appears, variableWidths, answerRows, answerNumbers, freshPieces, freeBits}
 use Rattle.answers.specs.inner.FourNumbers.{fourNumbers}
+use Rattle.answers.specs.inner.Orderly.{Orderly}
 use Rattle.answers.specs.Solve.{unsatisfiable, solvedRows, tiesTo, alwaysRecord, neverRecord, solvedRecord, answerRecord}
 use Rattle.answers.proofs.Tables.{tableClasses, classes-run, represent, conflict-most, apart-one, solved-rows, is-left, never-record, always-record, solved-record, all-ties, rows-few}
 use Rattle.answers.proofs.Theorems.{links-before}
@@ -29,8 +30,8 @@ use Rattle.answers.proofs.Demands.{demand-3, solved-sum, solved-appear}
 use Rattle.answers.proofs.GeneralSystems.{widthSum}
 use Rattle.answers.proofs.Variables.{widths-sum}
 use Rattle.assignments.proofs.Theorems.{solved-form}
-use Rattle.homes.specs.inner.Homes.{Orderly, PutsHomes}
-use Rattle.homes.proofs.Forms.{orderly-written}
+use Rattle.assignments.proofs.FormFacts.{orderly-written}
+use Rattle.homes.specs.inner.Homes.{PutsHomes}
 use Rattle.borders.specs.inner.Rows.{RowsPut, PutsRows}
 use Rattle.terms.proofs.AcceptedTable.{table-bits}
 use Rattle.linking.specs.inner.Classes.{ClassesTaken}

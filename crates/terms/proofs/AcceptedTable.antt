@@ -1,4 +1,4 @@
--- What an accepted table is: at most 512 whole rows, none of which breaks a rule.
+-- What an accepted table is: at most 512 whole rows, none of which breaks a rule; and what it has at the most.
 use mathlib.Core.Path.{_≡_, refl, ap}
 use mathlib.Core.Bool.{true, false}
 use mathlib.Core.List.{List}
@@ -45,12 +45,13 @@ accepted-table numbers e =
       sound = λ r h. ap isAccepted (told-none (rowsOf numbers) r (says .1 r h));
     }
 
--- it has at most 64 variables, of at most 4,096 bits together
-pub few-variables : (numbers : List ℕ) → firstFault numbers ≡ Accepted → countKind 0 (rowsOf numbers) ≤ 64
-few-variables numbers e = rw (take-length (rowsOf numbers)) at (totals-small (rowsOf numbers) (length (rowsOf numbers)) (accepted-table numbers e .sound) .0)
+-- how many variables, variable bits and equations it has at the most
+pub table-totals : (numbers : List ℕ) → firstFault numbers ≡ Accepted
+    → (countKind 0 (rowsOf numbers) ≤ 64) × (bitsOf (rowsOf numbers) ≤ 4096) × (countKind 4 (rowsOf numbers) ≤ 64)
+table-totals numbers e = rw (take-length (rowsOf numbers)) at (totals-small (rowsOf numbers) (length (rowsOf numbers)) (accepted-table numbers e .sound))
 
 pub table-bits : (numbers : List ℕ) → firstFault numbers ≡ Accepted → bitsOf (rowsOf numbers) ≤ 4096
-table-bits numbers e = rw (take-length (rowsOf numbers)) at (totals-small (rowsOf numbers) (length (rowsOf numbers)) (accepted-table numbers e .sound) .1)
+table-bits numbers e = table-totals numbers e .1
 
 -- a table no row of which breaks a rule has no lowest fault
 none-lowest : (t : List Row) (r n : ℕ) → ((i : ℕ) → r ≤ i → i < r + n → isAccepted (faultAt t i) ≡ true) → lowestFault t r n ≡ Accepted

@@ -4,23 +4,22 @@ use mathlib.Core.Path.{_≡_, refl, sym, _∙_, ap, ap₂}
 use mathlib.Core.Bool.{Bool, true, false, _&&_, _||_, cond, and-false, or-false}
 use mathlib.Core.List.{List, [], _∷_, _++_}
 use mathlib.Core.Logic.{_⊎_, inl, inr, ⊎-elim}
-use Prim.Native.Nat.{ℕ, zero, suc, _+_, _-_, _*_, _%_, _<_, _≤_}
+use Prim.Native.Nat.{ℕ, zero, suc, _+_, _-_, _<_, _≤_}
 use native.Mathlib.Omega.{arith}
 use lib.Dec.{eqb, ltb}
-use lib.ListN.{length, take, drop, length-drop, List·getD-eq-default}
-use lib.Seq.{getD-drop, ext-getD, take-length}
+use lib.ListN.{length, drop, length-drop, List·getD-eq-default}
+use lib.Seq.{getD-drop, ext-getD}
 use borrow.Author.Tests.{eqb-true, eq-eqb, ltb-true, lt-ltb}
 use Rattle.laws.proofs.Bools.{not-both, and-parts, and-both, or-left, or-right}
 use Rattle.laws.proofs.Numbers.{lt-or-le}
 use Rattle.terms.specs.declared.Row.{Row}
 use Rattle.terms.specs.declared.Fault.the-variants.{Accepted}
-use Rattle.terms.specs.Table.{rowsOf, rowNumbers, rowAt, noRow, countKind, silentRow, leavingOff, ofLine, someRow, revised, counting}
+use Rattle.terms.specs.Table.{rowsOf, rowNumbers, rowAt, noRow, silentRow, leavingOff, ofLine, someRow, revised, counting}
 use Rattle.terms.specs.Faults.{firstFault}
 use Rattle.terms.specs.Sound.{Sound}
-use Rattle.terms.specs.Counting.{IsLine, Revised, CountingRows, OneOfLine, DistinctLines, NoLines, Unmoved, withoutLine, FewEquations}
+use Rattle.terms.specs.Counting.{IsLine, Revised, CountingRows, OneOfLine, DistinctLines, Unmoved, withoutLine, FewEquations}
 use Rattle.terms.proofs.RowNumbers.{row-numbers-length, rows-written}
-use Rattle.terms.proofs.AcceptedTable.{accepted-table, sound-accepted}
-use Rattle.terms.proofs.Faults.{totals-small}
+use Rattle.terms.proofs.AcceptedTable.{accepted-table, sound-accepted, table-totals}
 use Rattle.terms.proofs.Alike.{AlikeRow, Alike}
 use Rattle.terms.proofs.LeavingOff.{off-count, off-row, off-alike, off-sound}
 
@@ -311,9 +310,7 @@ counting-accepted table accepted =
 
 -- (g) an accepted table has at most 64 equations, counting or not
 pub few-equations : (table : List ℕ) → firstFault table ≡ Accepted → FewEquations table
-few-equations table accepted =
-    let t = rowsOf table in
-    rw (take-length t) at (totals-small t (length t) (accepted-table table accepted .sound) .2)
+few-equations table accepted = table-totals table accepted .2
 
 -- ---- an equation behind a table
 

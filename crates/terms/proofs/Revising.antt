@@ -1,10 +1,9 @@
 -- What revised equations say of the assignments that satisfy a table (document 02, (vii)): leaving off the revised ones changes nothing, and an
 -- equation behind a table takes the place of the one of its line. Assumes nothing.
 use mathlib.Core.Path.{_≡_, refl, sym, _∙_, ap, ap₂}
-use mathlib.Core.Bool.{Bool, true, false, _&&_, and-true}
+use mathlib.Core.Bool.{Bool, _&&_, and-true, and-assoc}
 use mathlib.Core.List.{List, [], _∷_, _++_}
 use Prim.Native.Nat.{ℕ, zero, suc, _<_}
-use native.Mathlib.Omega.{arith}
 use lib.ListN.{getD}
 use Rattle.laws.proofs.Bools.{and-parts, and-both}
 use Rattle.terms.specs.declared.Row.{Row}
@@ -42,11 +41,7 @@ all-same f g h (r ∷ t) = ap₂ _&&_ (h r) (all-same f g h t)
 all-behind : (f : Row → Bool) (t : List Row) (e : Row) → allRows f (t ++ (e ∷ [])) ≡ allRows f t && f e
 unfolding allRows
 all-behind f [] e = and-true (f e)
-all-behind f (r ∷ t) e = ap (λ (b : Bool). f r && b) (all-behind f t e) ∙ turn (f r) (allRows f t) (f e)
-  where
-    turn : (a b c : Bool) → a && (b && c) ≡ (a && b) && c
-    turn true b c = refl
-    turn false b c = refl
+all-behind f (r ∷ t) e = ap (λ (b : Bool). f r && b) (all-behind f t e) ∙ sym (and-assoc (f r) (allRows f t) (f e))
 
 -- an empty value behind the others is what is read there anyway
 read-blank : (vs : List (List ℕ)) (i : ℕ) → getD (vs ++ ([] ∷ [])) i [] ≡ getD vs i []

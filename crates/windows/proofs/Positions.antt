@@ -25,7 +25,7 @@ use Rattle.laws.proofs.Bools.{and-parts, and-both, or-right}
 use Rattle.laws.proofs.Numbers.{lt-or-le}
 use Rattle.answers.specs.Answer.{variableWidths}
 use Rattle.answers.specs.Solve.{valid, unsatisfiable}
-use Rattle.answers.proofs.Variables.{variables-count}
+use Rattle.answers.proofs.Variables.{widths-count}
 use Rattle.windows.specs.Words.{wordsBits, sixteens}
 use Rattle.windows.proofs.Sixteens.{sixteens-of, sixteens-at, window-bits}
 use Rattle.windows.specs.Call.{meetsFront, startsFrom, positionsOf, breaks41, breaks42, positionsRecord, positionsAfter}
@@ -153,7 +153,7 @@ unfolding positionsOf
 positions-same t u h w s words = ap (λ (f : List ℕ → Bool). startsFrom f 0 words) (fun-ext (λ rest. alike rest (lt-or-le (length rest) (countKind 0 t))))
   where
     k : countKind 0 t ≡ countKind 0 u
-    k = sym (variables-count t) ∙ ap length w ∙ variables-count u
+    k = sym (widths-count t) ∙ ap length w ∙ widths-count u
 
     alike : (rest : List ℕ) → (length rest < countKind 0 t) ⊎ (countKind 0 t ≤ length rest) → meetsFront t rest ≡ meetsFront u rest
     alike rest (inl l) = meets-short t rest l ∙ sym (meets-short u rest (omega (arith, k)))

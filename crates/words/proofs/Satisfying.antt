@@ -13,7 +13,7 @@ use Rattle.terms.specs.declared.Fault.the-variants.{Accepted}
 use Rattle.terms.specs.Assignments.{Assignment}
 use Rattle.terms.specs.Faults.{firstFault}
 use Rattle.terms.specs.Table.{rowsOf, bitsOf, bitOf, countKind, satisfies}
-use Rattle.terms.proofs.AcceptedTable.{few-variables}
+use Rattle.terms.proofs.AcceptedTable.{table-totals}
 use Rattle.terms.proofs.Assignments.{every-at}
 use Rattle.terms.proofs.Rows.{rows-length}
 use Rattle.linking.specs.inner.Classes.{ClassesTaken}
@@ -126,7 +126,7 @@ module _ (table links : List ℕ) (row ties k : ℕ) (plan plan′ : List ℕ) (
       let left : conflictAt (countUp 0 (suc (suc (bitsOf (rowsOf table))))) (equationPairs (rowsOf table)) ≡ length (rowsOf table) = sym (taken .row-is) ∙ whole in
       let bits : Assignment (bitsOf (rowsOf table)) (wordsBits window) = window-bits (rowsOf table) sixteen window w in
       let n : 16 * k ≡ bitsOf (rowsOf table) = omega (arith, sixteen-bits (rowsOf table) sixteen) in
-      put (omega (arith, few-variables table accepted)) room (links-low table accepted window bits left links (taken .settled whole)) window
+      put (omega (arith, table-totals table accepted .0)) room (links-low table accepted window bits left links (taken .settled whole)) window
       ∙ ap (λ (m : ℕ). below m (agreesAt links window)) n
       ∙ satisfied table accepted window bits left links (taken .settled whole)
 

@@ -4,23 +4,12 @@ use mathlib.Core.Bool.{Bool, true, false, _&&_, cond}
 use mathlib.Core.List.{List}
 use Prim.Native.Nat.{ℕ, _+_, _*_, _/_, _%_, _≤_, _<_}
 use lib.Dec.{eqb, ltb}
-use lib.ListN.{length, getD, set, drop}
+use lib.ListN.{length, getD, set}
 use Rattle.laws.specs.Buffers.{overwrite, setFour}
 use Rattle.answers.specs.declared.AnswerRow.{AnswerRow}
-use Rattle.answers.specs.Answer.{answerRowAt, isFresh, widthInRows, highBit, homeRow, answerNumbers, answerRowsOf}
-use Rattle.answers.specs.inner.FourNumbers.{fourNumbers}
-
--- The row whose own four numbers stand from a place on.
-abbrev pub columnsAt : List ℕ → ℕ → AnswerRow
-columnsAt t at = record { variable = getD t at 0; kind = getD t (at + 1) 0; width = getD t (at + 2) 0; fresh = getD t (at + 3) 0 }
-
--- What is asked of rows: variables stay or rise, widths are few, and a fresh number is not above all those before it and the next one.
-pub record Orderly (rows : List AnswerRow) : Type 0 where
-  pub few : length rows ≤ 4096
-  pub rising : (i j : ℕ) → i ≤ j → j < length rows → answerRowAt rows i .variable ≤ answerRowAt rows j .variable
-  pub short : (j v : ℕ) → widthInRows (drop j rows) v ≤ 4096
-  pub numbered : (j seen : ℕ) → j < length rows → isFresh (answerRowAt rows j) ≡ true
-      → ((i : ℕ) → i < j → isFresh (answerRowAt rows i) ≡ true → answerRowAt rows i .fresh < seen) → answerRowAt rows j .fresh ≤ seen
+use Rattle.answers.specs.Answer.{answerRowAt, isFresh, highBit, homeRow, answerNumbers, answerRowsOf}
+use Rattle.answers.specs.inner.FourNumbers.{fourNumbers, answerColumns}
+use Rattle.answers.specs.inner.Orderly.{Orderly}
 
 -- The width of a row's variable from the row on, from that of the last row's variable behind it.
 unfoldable pub widthOn : ℕ → ℕ → AnswerRow → ℕ
@@ -33,7 +22,7 @@ rowPut t i r high = set (set (setFour t (i * 6) (r .variable) (r .kind) (r .widt
 -- Rows stand in an answer table, each with variable and highest bit of the row that g gives; behind them is the old content.
 pub record Standing (rows : List AnswerRow) (g : ℕ → ℕ) (old t : List ℕ) : Type 0 where
   pub len : length t ≡ length old
-  pub rows-are : (j : ℕ) → j < length rows → columnsAt t (j * 6) ≡ answerRowAt rows j
+  pub rows-are : (j : ℕ) → j < length rows → answerColumns t (j * 6) ≡ answerRowAt rows j
   pub homes-are : (j : ℕ) → j < length rows → getD t (j * 6 + 4) 0 ≡ answerRowAt rows (g j) .variable
   pub highs-are : (j : ℕ) → j < length rows → getD t (j * 6 + 5) 0 ≡ highBit rows (g j)
   pub behind : (x : ℕ) → length rows * 6 ≤ x → getD t x 0 ≡ getD old x 0
@@ -41,7 +30,7 @@ pub record Standing (rows : List AnswerRow) (g : ℕ → ℕ) (old t : List ℕ)
 -- What the widening of n rows promises: each has its own place.
 abbrev pub Widens : ℕ → List ℕ → List ℕ → Type 0
 Widens n t t′ =
-    (rows : List AnswerRow) → n ≡ length rows → Orderly rows → n * 6 ≤ length t → ((j : ℕ) → j < n → columnsAt t (j * 4) ≡ answerRowAt rows j)
+    (rows : List AnswerRow) → n ≡ length rows → Orderly rows → n * 6 ≤ length t → ((j : ℕ) → j < n → answerColumns t (j * 4) ≡ answerRowAt rows j)
     → Standing rows (λ j. j) t t′
 
 -- The row where the piece of row i first appears, from the first rows of the fresh pieces.

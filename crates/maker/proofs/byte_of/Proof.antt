@@ -4,7 +4,7 @@ use mathlib.Core.Path.{sym}
 use denote.Ref.{now}
 use lib.ListN.{List·getD-eq-default}
 use borrow.Author.Tests.{lt-ltb, le-ltb}
-use Rattle.maker.specs.inner.Making.{byteIn}
+use Rattle.maker.specs.inner.Filling.{byteIn}
 use borrow.Author.Needs.{needs}
 use Rattle.maker.proofs.byte_of.Statement.{statement}
 use Rattle.maker.proofs.byte_of.Tie as tie

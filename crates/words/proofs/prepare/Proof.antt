@@ -6,7 +6,7 @@ use lib.ListN.{replicate, length-replicate}
 use lib.Seq.{length-take-le}
 use denote.Ref.{now}
 use Rattle.terms.specs.Table.{rowsOf, bitsOf, countKind}
-use Rattle.terms.proofs.AcceptedTable.{few-variables}
+use Rattle.terms.proofs.AcceptedTable.{table-totals}
 use Rattle.windows.proofs.Sixteens.{sixteen-bits}
 use borrow.Author.Needs.{needs}
 use Rattle.words.proofs.prepare.Statement.{statement}
@@ -43,7 +43,7 @@ returns c =
     let l = k .before in
     let t = now (c .before .before .before .before .before .before .before .before .before .before .before .before .args .table) in
     let sixteen-each : bitsOf (rowsOf t) ≡ 16 * countKind 0 (rowsOf t) = sixteen-bits (rowsOf t) sixteen in
-    let few : countKind 0 (rowsOf t) ≤ 64 = few-variables t (placed .numbered .accepted) in
+    let few : countKind 0 (rowsOf t) ≤ 64 = table-totals t (placed .numbered .accepted) .0 in
     p .plan-table .ensures placed
     (length-take-le (l .lesser .result + 2) (replicate 1026 0) (omega (arith, l .lesser .ensures .1, length-replicate {A = ℕ} 1026 0)) ∙ omega (arith, l .lesser .ensures .0))
     (omega (arith, k .lesser2 .ensures .0)) sixteen room
