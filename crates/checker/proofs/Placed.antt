@@ -9,7 +9,7 @@ use Rattle.terms.specs.declared.Fault.the-variants.{Accepted}
 use Rattle.terms.specs.Table.{rowsOf, bitsOf, widthsOf}
 use Rattle.terms.specs.Faults.{firstFault}
 use Rattle.terms.specs.inner.Placed.{Numbered, Placed}
-use Rattle.terms.proofs.AcceptedTable.{accepted-table, few-variables, table-bits}
+use Rattle.terms.proofs.AcceptedTable.{accepted-table, table-totals}
 use Rattle.laws.specs.Buffers.{overwrite}
 use Rattle.checker.specs.inner.Check.{faultIn, rowsPassed, NumbersVariables, FindsSources}
 use Rattle.checker.proofs.Checking.{fault-found, room-found, widths-left}
@@ -38,10 +38,10 @@ module _ (table widths widths′ places′ places″ : List ℕ) (room bits x : 
   pub table-placed : 578 ≤ room → Placed table widths′ places″
   table-placed h =
       let all : bits ≡ bitsOf (rowsOf table) = eb ∙ ap bitsOf (take-all 512 (rowsOf table) few) in
-      let small : x ≡ bitsOf (rowsOf table) = omega (arith, all, table-bits table accepted) in
+      let small : x ≡ bitsOf (rowsOf table) = omega (arith, all, table-totals table accepted .1) in
       record {
         numbered = table-numbered (omega arith);
-        sources-are = λ v l. rw ep (getD-set-other places′ 577 (512 + v) x 0 (λ e. omega (arith, few-variables table accepted))) ∙ fs accepted (omega arith) v l;
+        sources-are = λ v l. rw ep (getD-set-other places′ 577 (512 + v) x 0 (λ e. omega (arith, table-totals table accepted .0))) ∙ fs accepted (omega arith) v l;
         bits-are = rw ep (getD-set-same places′ 577 x 0 (omega arith) ∙ small);
         widths-room = omega (arith, few, many);
         places-room = omega (arith, ap length ep, length-set places′ 577 x);

@@ -4,11 +4,10 @@ use mathlib.Core.List.{List}
 use Prim.Native.Nat.{ℕ, suc, _+_, _-_, _<_, _≤_, min}
 use native.Mathlib.Omega.{arith}
 use lib.ListN.{length, getD, take, drop}
-use lib.Seq.{take-length, getD-take, getD-drop}
+use lib.Seq.{getD-take, getD-drop}
 use Rattle.terms.specs.Table.{rowsOf}
 use Rattle.terms.specs.inner.Placed.{Placed}
-use Rattle.terms.proofs.AcceptedTable.{accepted-table}
-use Rattle.terms.proofs.Faults.{totals-small}
+use Rattle.terms.proofs.AcceptedTable.{table-totals}
 use Rattle.sides.specs.inner.Sides.{Prepared}
 
 -- behind 513 numbers stand the low sources
@@ -21,8 +20,7 @@ lows-part places l v e room h =
 pub prepared-of : (table widths places : List ℕ) (l : ℕ) → Placed table widths places → l ≡ min 513 (length places)
     → Prepared table widths places (take (length places - l) (drop l places))
 prepared-of table widths places l P e =
-    let totals = rw (take-length (rowsOf table)) at (totals-small (rowsOf table) (length (rowsOf table)) (accepted-table table (P .numbered .accepted) .sound)) in
     record {
       numbered = P .numbered;
-      lows-are = λ v h. lows-part places l v e (P .places-room) (omega (arith, totals .0)) ∙ P .sources-are (suc v) h;
+      lows-are = λ v h. lows-part places l v e (P .places-room) (omega (arith, table-totals table (P .numbered .accepted) .0)) ∙ P .sources-are (suc v) h;
     }

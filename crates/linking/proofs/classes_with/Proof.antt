@@ -5,11 +5,10 @@ use mathlib.Core.List.{List}
 use Prim.Native.Nat.{ℕ, suc, _≤_}
 use native.Mathlib.Omega.{arith}
 use lib.ListN.{length, take}
-use lib.Seq.{take-length, length-take-le}
+use lib.Seq.{length-take-le}
 use denote.Ref.{now}
 use Rattle.terms.specs.Table.{rowsOf}
-use Rattle.terms.proofs.AcceptedTable.{accepted-table}
-use Rattle.terms.proofs.Faults.{totals-small}
+use Rattle.terms.proofs.AcceptedTable.{table-totals}
 use Rattle.terms.proofs.Rows.{rows-length}
 use Rattle.laws.specs.Lists.{countUp}
 use Rattle.copies.proofs.Copying.{copy-count, copy-placed}
@@ -72,10 +71,9 @@ returns c =
     λ room placed form len.
     let table = now (c .before .before .before .before .before .before .before .before .before .before .before .before .before .before .before .before .before .before .before .before .before .before .before .before .before .before .before .before .before .before .args .table) in
     let accepted = placed .numbered .accepted in
-    let totals = rw (take-length (rowsOf table)) at (totals-small (rowsOf table) (length (rowsOf table)) (accepted-table table accepted .sound)) in
     let made = c .before .before .before .before .before .before .before .before .before .before .before .before .before .before .before .before .before .before .before .before .before .before .copy .ensures .1 accepted room in
     let short : List ℕ = take (c .before .before .before .before .before .before .before .before .before .before .before .before .before .before .before .before .before .before .before .before .before .before .copy .result) (c .before .before .before .before .before .before .before .before .before .before .before .before .before .before .before .before .before .before .before .before .before .before .copy .last .1 .0) in
-    let alone : c .before .before .before .before .before .before .before .before .before .before .before .before .before .before .before .before .before .unlink .last .0 ≡ unlinked (rowsOf table) = c .before .before .before .before .before .before .before .before .before .before .before .before .before .before .before .before .before .unlink .ensures (omega (arith, len, totals .1)) ∙ ap (countUp 0) len in
+    let alone : c .before .before .before .before .before .before .before .before .before .before .before .before .before .before .before .before .before .unlink .last .0 ≡ unlinked (rowsOf table) = c .before .before .before .before .before .before .before .before .before .before .before .before .before .before .before .before .before .unlink .ensures (omega (arith, len, table-totals table accepted .1)) ∙ ap (countUp 0) len in
     let all = sym (rows-length table) in
     let taken = c .before .before .before .before .before .before .before .before .before .take-equations .ensures .0 (prepared-of short _ _ _ (copy-placed table short accepted made _ _ placed) (c .before .before .before .before .before .before .before .before .before .before .before .before .before .before .before .before .before .before .before .lesser .ensures .0)) form (omega arith) (omega arith) (omega (arith, all, copy-count table short accepted made)) (copy-held table short accepted made _ alone) in
     c .before .before .settle-ties .ensures accepted (copy-taken table short accepted made _ alone _ all _ _ _ taken)

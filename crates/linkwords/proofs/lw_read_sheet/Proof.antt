@@ -1,4 +1,4 @@
--- `lw_read_sheet` says what the call of `sheets::read_sheet` says. Assumes nothing.
+-- `lw_read_sheet` says what the call of `reader::read_sheet` says. Assumes nothing.
 use Rattle.linkwords.proofs.lw_read_sheet.Statement.{statement}
 use Rattle.linkwords.proofs.lw_read_sheet.Tie as tie
 

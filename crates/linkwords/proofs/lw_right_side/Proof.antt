@@ -1,4 +1,4 @@
--- `lw_right_side` says what the call of `solver::right_part` says. Assumes nothing.
+-- `lw_right_side` says what the call of `answer_table::right_part` says. Assumes nothing.
 use Rattle.linkwords.proofs.lw_right_side.Statement.{statement}
 use Rattle.linkwords.proofs.lw_right_side.Tie as tie
 
