@@ -1,9 +1,11 @@
--- The pass of `place`: with r rows passed, the buffer has the variables before each of them, and behind 512 numbers the source before
--- each variable up to the next one.
+-- The places of a table's variables: with r rows passed, the buffer has the variables before each of them, and behind 512 numbers the
+-- source before each variable up to the next one.
 use mathlib.Core.Path.{_≡_, refl, sym, _∙_, ap}
 use mathlib.Core.List.{List}
 use mathlib.Core.Logic.{_⊎_, ⊎-elim}
-use Prim.Native.Nat.{ℕ, suc, _+_, _*_, _%_, _<_, _≤_}
+use mathlib.Core.Bool.{cond}
+use Prim.Native.Nat.{ℕ, suc, _+_, _-_, _*_, _%_, _<_, _≤_}
+use lib.Dec.{eqb}
 use native.Mathlib.Omega.{arith}
 use native.Mathlib.Numerals.{add-one}
 use lib.ListN.{length, getD, take, set, length-set}
@@ -11,16 +13,27 @@ use lib.Seq.{take-all, getD-set-same, getD-set-other}
 use borrow.Author.Tests.{eq-eqb, ne-eqb}
 use Rattle.terms.specs.declared.Row.{Row}
 use Rattle.terms.specs.declared.Fault.the-variants.{Accepted}
-use Rattle.terms.specs.Table.{rowsOf, rowAt, bitsOf, countKind}
+use Rattle.terms.specs.Table.{rowsOf, rowAt, bitsIn, bitsOf, countKind}
 use Rattle.terms.specs.Faults.{firstFault}
 use Rattle.terms.specs.inner.Places.{sourceBefore}
-use Rattle.checker.specs.inner.Check.{NumbersVariables, FindsSources}
-use Rattle.laws.proofs.Numbers.{lt-or-le}
+use Rattle.terms.specs.inner.Placed.{VariablesAre, SourcesAre}
+use Rattle.checker.specs.inner.Check.{rowPlaced}
+use Rattle.laws.proofs.Numbers.{dec-eq, lt-or-le}
 use Rattle.terms.proofs.AcceptedTable.{accepted-table}
 use Rattle.terms.proofs.Faults.{totals-small}
 use Rattle.terms.proofs.Places.{place-first, place-row}
 use Rattle.terms.proofs.RowKinds.{bits-variable, bits-other}
 use Rattle.terms.proofs.Widths.{bits-more, count-more}
+
+-- a row that is placed, by its kind
+module _ (ps : List ℕ) (r : ℕ) (row : Row) (v b : ℕ) where
+  pub placed-variable : row .kind ≡ 0 → set (set ps r ((v - 1) % 65536)) (512 + v) ((b + 1) % 65536) ≡ rowPlaced ps r row v b
+  unfolding rowPlaced
+  placed-variable z = rw (eq-eqb (row .kind) 0 z) refl
+
+  pub placed-other : (row .kind ≡ 0 → ⊥) → set ps r (v % 65536) ≡ rowPlaced ps r row v b
+  unfolding rowPlaced
+  placed-other z = rw (ne-eqb (row .kind) 0 z) refl
 
 pub record Placing (table : List ℕ) (room : ℕ) (ps : List ℕ) (bits v r : ℕ) : Type 0 where
   pub within : r ≤ length (rowsOf table)
@@ -120,17 +133,36 @@ module _ (table : List ℕ) (room : ℕ) (ps : List ℕ) (bits v r : ℕ) (k : P
             (getD-set-same ps′ (512 + (v + 1)) y 0 (omega (arith, same-length, count, totals .0)) ∙ y-is ∙ ap (sourceBefore rows) (sym count)))
             (lt-or-le j (v + 1))
 
-  -- at 512 rows, or at the last, these are the first 512
-  ends : r ≤ 512 → (512 ≤ r) ⊎ (length rows ≤ r) → take r rows ≡ take 512 rows
-  ends h = ⊎-elim (λ l. let e : r ≡ 512 = omega arith in ap (λ (n : ℕ). take n rows) e) (λ l. take-all r rows l ∙ sym (take-all 512 rows (omega arith)))
+  -- one row more, whatever its kind
+  pub placing-row : r < length rows → (row : Row) → row ≡ rowAt rows r → (v′ b′ n : ℕ) → v′ ≡ v + cond (eqb (row .kind) 0) 1 0 → b′ ≡ bits + n
+      → (n ≡ bitsIn row) × (n ≤ 65535) → (ps′ : List ℕ) → ps′ ≡ rowPlaced ps r row v′ b′ → Placing table room ps′ b′ v′ (r + 1)
+  unfolding rowPlaced
+  placing-row l row er v′ b′ n ev eb en ps′ e =
+      ⊎-elim
+      (λ z.
+      let kind : rowAt rows r .kind ≡ 0 = ap (λ (x : Row). x .kind) (sym er) ∙ z in
+      let test = eq-eqb (row .kind) 0 z in
+      let more : v′ ≡ v + 1 = rw test at ev in
+      let wide : n ≡ rowAt rows r .a = en .0 ∙ ap bitsIn er ∙ bits-variable (rowAt rows r) kind in
+      let x : ℕ = (v′ - 1) % 65536 in
+      let there : ps′ ≡ set (set ps r x) (512 + (v + 1)) ((b′ + 1) % 65536) = rw test at e ∙ ap (λ (i : ℕ). set (set ps r x) (512 + i) ((b′ + 1) % 65536)) more in
+      rw (more, eb)
+      (placing-variable l x (ap (λ (i : ℕ). i % 65536) (omega arith)) (set ps r x) refl kind n _ ps′ wide (en .1) (ap (λ (i : ℕ). (i + 1) % 65536) eb) there))
+      (λ z.
+      let kind : rowAt rows r .kind ≡ 0 → ⊥ = λ k. z (ap (λ (x : Row). x .kind) er ∙ k) in
+      let test = ne-eqb (row .kind) 0 z in
+      let same : v′ ≡ v = omega (arith, rw test at ev) in
+      let none : b′ ≡ bits = omega (arith, eb, en .0 ∙ ap bitsIn er ∙ bits-other (rowAt rows r) kind) in
+      rw (same, none)
+      (placing-other l (v′ % 65536) (ap (λ (i : ℕ). i % 65536) same) ps′ (rw test at e) kind))
+      (dec-eq (row .kind) 0)
 
-  pub placing-done : r ≤ 512 → (512 ≤ r) ⊎ (length rows ≤ r)
-      → (n : ℕ) → room ≡ n → (bits ≡ bitsOf (take 512 rows)) × (NumbersVariables table n ps × FindsSources table n ps)
-  placing-done h c n e =
-      let all : firstFault table ≡ Accepted → length rows ≤ r = λ f. ⊎-elim (λ l. omega (arith, accepted-table table f .few)) (λ l. l) c in (
-        rw (ends h c) at (k .n-bits),
-        (
-          λ f m j i. k .variables-are f (omega arith) j (omega (arith, all f)),
-          λ f m j i. k .sources-are f (omega arith) j (omega (arith, k .counted, ap (countKind 0) (take-all r rows (all f)))),
-        ),
-      )
+  -- all rows are passed: what is left of an accepted table
+  pub placing-done : length rows ≤ r → bits ≡ bitsOf rows
+  placing-done h = k .n-bits ∙ ap bitsOf (take-all r rows h)
+
+  pub placing-variables : length rows ≤ r → firstFault table ≡ Accepted → 512 ≤ room → VariablesAre rows ps
+  placing-variables h f m j i = k .variables-are f m j (omega arith)
+
+  pub placing-sources : length rows ≤ r → firstFault table ≡ Accepted → 577 ≤ room → SourcesAre rows ps
+  placing-sources h f m j i = k .sources-are f m j (omega (arith, k .counted, ap (countKind 0) (take-all r rows h)))

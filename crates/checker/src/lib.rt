@@ -2,10 +2,10 @@
 // pass: a row's rules ask only for the kinds and widths of earlier rows and for three running totals.
 ghost use mathlib.Core.Path.{_≡_};
 ghost use Prim.Native.Nat.{_+_, _-_, _%_, _≤_};
-ghost use lib.ListN.{getD, length, take};
-ghost use Rattle.terms.specs.Table.{rowsOf, widthIn, widthsOf, bitsIn, bitsOf};
+ghost use lib.ListN.{getD, length};
+ghost use Rattle.terms.specs.Table.{rowsOf, widthIn, widthsOf, bitsIn};
 ghost use Rattle.terms.specs.Faults.{unusedColumn, notTerm, misnamed, wrongWidth, wrongValue, wrongBounds, tooMany, firstRule};
-ghost use Rattle.checker.specs.inner.Check.{rulesIn, faultIn, rowsPassed, NumbersVariables, FindsSources, NumbersTable, PlacesTable};
+ghost use Rattle.checker.specs.inner.Check.{rulesIn, faultIn, rowsPassed, rowPlaced, NumbersTable, PlacesTable};
 ghost use Rattle.laws.specs.Buffers.{overwrite};
 use terms::Fault;
 use terms::Row;
@@ -237,9 +237,36 @@ pub fn row_bits(row: Row) -> u32
     0
 }
 
-// The check of a table. `widths` has room for 512 numbers, and afterwards the width of each row that was passed.
-fn check(table: &[u16], widths: &mut [u16]) -> Fault
+// Where the number of variable bits stands among the places.
+pub const BITS: usize = 577;
+
+// Places row r: how many variables stand before it; and for a variable, from number 512 on, the source before the next one. The totals
+// count the row.
+fn place_row(places: &mut [u16], r: usize, row: Row, variables: usize, bits: usize)
+    requires { ⌜ variables ≤ 65535 ⌝ }
+    requires { ⌜ bits ≤ 1000000 ⌝ }
+    ensures { λ _. ⌜ now (places .exit) ≡ rowPlaced (now (places .entry)) r row variables bits ⌝ }
+{
+    let kind = row.kind;
+    if kind == terms::VARIABLE {
+        numbers::store(places, r, numbers::narrow(numbers::minus(variables, 1)));
+        numbers::store(
+            places,
+            terms::MAX_ROWS + variables,
+            numbers::narrow(bits + 1),
+        );
+        return;
+    }
+    numbers::store(places, r, numbers::narrow(variables));
+}
+
+// Checks a table, and places its variables: how each call on a table begins. `widths` has room for 512 numbers, and afterwards the width of
+// each row that was passed. `places` has, for each row of an accepted table, how many variables stand before it; from number 512 on, for each
+// variable, the source before it; and at number 577 how many variable bits there are, each as far as there is room.
+pub fn check_and_place(table: &[u16], widths: &mut [u16], places: &mut [u16]) -> Fault
     ensures fault { λ f. ⌜ f ≡ faultIn (length (now (widths .entry))) (now (table .entry)) ⌝ }
+    ensures numbered { λ f. ⌜ NumbersTable (now (table .entry)) (length (now (places .entry))) (now (widths .exit)) (now (places .exit)) f ⌝ }
+    ensures placed { λ f. ⌜ PlacesTable (now (table .entry)) (length (now (places .entry))) (now (widths .exit)) (now (places .exit)) f ⌝ }
     ensures widths { λ f. ⌜ now (widths .exit) ≡ overwrite (widthsOf (rowsPassed (length (now (widths .entry))) (now (table .entry)))) (now (widths .entry)) ⌝ }
 {
     if widths.len() < terms::MAX_ROWS {
@@ -251,6 +278,7 @@ fn check(table: &[u16], widths: &mut [u16]) -> Fault
     if table.len() % 4 != 0 {
         return Fault::Shape;
     }
+    numbers::store(places, terms::MAX_ROWS, 1);
     let mut variables = 0;
     let mut bits = 0;
     let mut equations = 0;
@@ -265,53 +293,9 @@ fn check(table: &[u16], widths: &mut [u16]) -> Fault
             return f;
         }
         widths[r] = numbers::narrow(row_width(widths, row));
+        place_row(places, r, row, variables, bits);
         r += 1;
     }
+    numbers::store(places, BITS, numbers::narrow(bits));
     Fault::Accepted
-}
-
-// How many variable bits the first 512 rows have. `places` has afterwards, for each row of an accepted table, how many variables stand
-// before it, and from number 512 on, for each variable, the source before it, as far as there is room.
-fn place(table: &[u16], places: &mut [u16]) -> usize
-    ensures bits { λ n. ⌜ n ≡ bitsOf (take 512 (rowsOf (now (table .entry)))) ⌝ }
-    ensures variables { λ _. ⌜ NumbersVariables (now (table .entry)) (length (now (places .entry))) (now (places .exit)) ⌝ }
-    ensures sources { λ _. ⌜ FindsSources (now (table .entry)) (length (now (places .entry))) (now (places .exit)) ⌝ }
-{
-    let mut bits = 0;
-    let mut v = 0;
-    let mut r = 0;
-    numbers::store(places, terms::MAX_ROWS, 1);
-    while r < terms::MAX_ROWS {
-        if table.len() / 4 <= r {
-            break;
-        }
-        numbers::store(places, r, numbers::narrow(v));
-        let row = rows::row_at(table, r);
-        let kind = row.kind;
-        if kind == terms::VARIABLE {
-            bits = bits + numbers::wide(row.a);
-            v += 1;
-            numbers::store(places, terms::MAX_ROWS + v, numbers::narrow(bits + 1));
-        }
-        r += 1;
-    }
-    bits
-}
-
-// Where the number of variable bits stands among the places.
-pub const BITS: usize = 577;
-
-// Checks a table, and places the variables of an accepted one: how each call on a table begins. `widths` has room for 512 numbers; `places`
-// has what `place` leaves there, and at number 577, if there is room, how many variable bits the table has.
-pub fn check_and_place(table: &[u16], widths: &mut [u16], places: &mut [u16]) -> Fault
-    ensures fault { λ f. ⌜ f ≡ faultIn (length (now (widths .entry))) (now (table .entry)) ⌝ }
-    ensures numbered { λ f. ⌜ NumbersTable (now (table .entry)) (length (now (places .entry))) (now (widths .exit)) (now (places .exit)) f ⌝ }
-    ensures placed { λ f. ⌜ PlacesTable (now (table .entry)) (length (now (places .entry))) (now (widths .exit)) (now (places .exit)) f ⌝ }
-{
-    let fault = check(table, widths);
-    if records::accepted(fault) {
-        let bits = place(table, places);
-        numbers::store(places, BITS, numbers::narrow(bits));
-    }
-    fault
 }

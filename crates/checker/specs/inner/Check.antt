@@ -3,15 +3,15 @@
 use mathlib.Core.Path.{_≡_}
 use mathlib.Core.Bool.{Bool, cond}
 use mathlib.Core.List.{List, [], _∷_}
-use Prim.Native.Nat.{ℕ, _%_, _≤_}
-use lib.Dec.{ltb}
-use lib.ListN.{length, getD, take}
+use Prim.Native.Nat.{ℕ, _+_, _-_, _%_, _≤_}
+use lib.Dec.{eqb, ltb}
+use lib.ListN.{length, getD, take, set}
 use Rattle.terms.specs.declared.Row.{Row}
 use Rattle.terms.specs.declared.Fault.{Fault}
 use Rattle.terms.specs.declared.Fault.the-variants.{Accepted, Shape, Kind, Unused, Named, Width, Value, Bounds, Count}
 use Rattle.terms.specs.Table.{rowsOf, widthIn}
 use Rattle.terms.specs.Faults.{unusedColumn, misnamed, wrongWidth, wrongValue, wrongBounds, tooMany, firstFault}
-use Rattle.terms.specs.inner.Placed.{VariablesAre, SourcesAre, Numbered, Placed}
+use Rattle.terms.specs.inner.Placed.{Numbered, Placed}
 
 -- The rules of row r as they are asked of it: ws has the widths of the rows before it, and the totals count it too.
 unfoldable pub rulesIn : List Row → List ℕ → ℕ → Row → ℕ → ℕ → ℕ → List (Bool × Fault)
@@ -45,13 +45,13 @@ rowsBefore (Count r) n = r
 unfoldable pub rowsPassed : ℕ → List ℕ → List Row
 rowsPassed room numbers = take (rowsBefore (faultIn room numbers) (length (rowsOf numbers))) (rowsOf numbers)
 
--- What placing the variables of an accepted table promises: with room for 512 numbers, how many variables stand before each row; with room
--- for 65 more, behind those the source before each variable.
-abbrev pub NumbersVariables : List ℕ → ℕ → List ℕ → Type 0
-NumbersVariables table room places = firstFault table ≡ Accepted → 512 ≤ room → VariablesAre (rowsOf table) places
-
-abbrev pub FindsSources : List ℕ → ℕ → List ℕ → Type 0
-FindsSources table room places = firstFault table ≡ Accepted → 577 ≤ room → SourcesAre (rowsOf table) places
+-- Places with row r put there: how many variables stand before it; and for a variable the source before the next one. The totals count
+-- the row.
+unfoldable pub rowPlaced : List ℕ → ℕ → Row → ℕ → ℕ → List ℕ
+rowPlaced places r row variables bits =
+    cond (eqb (row .kind) 0)
+    (set (set places r ((variables - 1) % 65536)) (512 + variables) ((bits + 1) % 65536))
+    (set places r (variables % 65536))
 
 -- What the check that places promises, with the answer f: of an accepted table the widths and the variables before each row, with room for
 -- 512 numbers of places; with room for 578 all that is placed.

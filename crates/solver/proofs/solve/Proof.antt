@@ -26,7 +26,7 @@ no-fault d = fault-none _ (ap isAccepted (sym (found (d .before .before .before 
 
 -- the table was placed
 is-placed : (d : tie.Else3) → Placed (now (d .before .before .before .before .before .before .before .before .before .before .before .before .args .table)) (d .before .before .before .before .check-and-place .last .1 .0) (d .before .before .before .before .check-and-place .last .1 .1 .0)
-is-placed d = d .before .before .before .before .check-and-place .ensures .1 .1 (found (d .before .before .before .before) ∙ no-fault d) (omega arith)
+is-placed d = d .before .before .before .before .check-and-place .ensures .1 .1 .0 (found (d .before .before .before .before) ∙ no-fault d) (omega arith)
 
 refuse-requires : tie.Need-refuse-requires
 refuse-requires c κs = search needs
