@@ -38,7 +38,7 @@ fn mark_begins(table: &[u16], marks: &mut [u16]) -> u16
         }
         numbers::store(marks, bits, 1);
         let row = rows::row_at(table, r);
-        bits = bits + (checker::row_bits(row) as usize);
+        bits = bits + (rules::row_bits(row) as usize);
         r += 1;
     }
     numbers::store(marks, bits, 1);

@@ -16,7 +16,8 @@ use Rattle.terms.specs.declared.Fault.{Fault}
 use Rattle.terms.specs.declared.Fault.the-variants.{Accepted, Shape}
 use Rattle.terms.specs.Table.{rowsOf, rowAt, widthIn, widthsOf, widthOf, bitsIn, bitsOf, countKind}
 use Rattle.terms.specs.Faults.{breaks11, breaks12, breaks13, breaks14, breaks15, breaks40, breaks16, breaks17, misnamed, wrongWidth, wrongBounds, tooMany, firstRule, rulesAt, faultAt, isAccepted, lowestFault, firstFault}
-use Rattle.checker.specs.inner.Check.{faultIn, rowsBefore, rowsPassed, rulesIn}
+use Rattle.checker.specs.inner.Check.{faultIn, rowsBefore, rowsPassed}
+use Rattle.rules.specs.inner.Rules.{rulesIn}
 use Rattle.laws.specs.Buffers.{overwrite}
 use Rattle.terms.proofs.RowKinds.{kind-same}
 use Rattle.laws.proofs.Bools.{not-both}

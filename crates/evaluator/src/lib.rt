@@ -127,7 +127,7 @@ fn value_in(
     ensures record { λ r. ⌜ r ≡ valueRecord (now (table .entry)) row (now (pattern .entry)) (length (now (output .entry))) ⌝ }
     ensures output { λ r. ⌜ now (output .exit) ≡ valueAfter (now (table .entry)) row (now (pattern .entry)) (now (output .entry)) ⌝ }
 {
-    if checker::not_term(table, table.len() / 4, row) {
+    if rules::not_term(table, table.len() / 4, row) {
         return records::refuse(30, 0);
     }
     if bits != pattern.len() {

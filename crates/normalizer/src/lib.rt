@@ -16,7 +16,7 @@ pub fn normal_form(table: &[u16], row: usize, out: &mut [u16]) -> Record
     if !records::accepted(fault) {
         return records::fault_record(fault);
     }
-    if checker::not_term(table, table.len() / 4, row) {
+    if rules::not_term(table, table.len() / 4, row) {
         return records::refuse(30, 0);
     }
     if out.len() < 4096 {

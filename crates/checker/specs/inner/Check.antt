@@ -1,29 +1,16 @@
--- What the check of a table promises: the rules as it asks them of a row, what it finds, the rows that it passes, and where its variables
--- stand.
+-- What the check of a table promises: what it finds, the rows that it passes, and where its variables stand.
 use mathlib.Core.Path.{_≡_}
-use mathlib.Core.Bool.{Bool, cond}
-use mathlib.Core.List.{List, [], _∷_}
+use mathlib.Core.Bool.{cond}
+use mathlib.Core.List.{List}
 use Prim.Native.Nat.{ℕ, _+_, _-_, _%_, _≤_}
 use lib.Dec.{eqb, ltb}
-use lib.ListN.{length, getD, take, set}
+use lib.ListN.{length, take, set}
 use Rattle.terms.specs.declared.Row.{Row}
 use Rattle.terms.specs.declared.Fault.{Fault}
 use Rattle.terms.specs.declared.Fault.the-variants.{Accepted, Shape, Kind, Unused, Named, Width, Value, Bounds, Count}
-use Rattle.terms.specs.Table.{rowsOf, widthIn}
-use Rattle.terms.specs.Faults.{unusedColumn, misnamed, wrongWidth, wrongValue, wrongBounds, tooMany, firstFault}
+use Rattle.terms.specs.Table.{rowsOf}
+use Rattle.terms.specs.Faults.{firstFault}
 use Rattle.terms.specs.inner.Placed.{Numbered, Placed}
-
--- The rules of row r as they are asked of it: ws has the widths of the rows before it, and the totals count it too.
-unfoldable pub rulesIn : List Row → List ℕ → ℕ → Row → ℕ → ℕ → ℕ → List (Bool × Fault)
-rulesIn t ws r row variables bits equations =
-    (ltb 5 (row .kind), Kind (r % 65536))
-    ∷ (unusedColumn row, Unused (r % 65536))
-    ∷ (misnamed t r row, Named (r % 65536))
-    ∷ (wrongWidth row (widthIn ws row), Width (r % 65536))
-    ∷ (wrongValue row, Value (r % 65536))
-    ∷ (wrongBounds row (getD ws (row .a) 0), Bounds (r % 65536))
-    ∷ (tooMany variables bits equations, Count (r % 65536))
-    ∷ []
 
 -- What the check finds with room for so many widths: below 512 it takes no table.
 unfoldable pub faultIn : ℕ → List ℕ → Fault

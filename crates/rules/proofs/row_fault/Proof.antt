@@ -8,10 +8,10 @@ use borrow.Author.Tests.{lt-ltb, le-ltb}
 use Rattle.terms.specs.declared.Fault.the-variants.{Kind, Unused, Named, Width, Value, Bounds, Count}
 use Rattle.terms.specs.Table.{rowsOf, widthIn}
 use Rattle.terms.specs.Faults.{unusedColumn, misnamed, wrongWidth, wrongValue, wrongBounds, tooMany, firstRule}
-use Rattle.checker.specs.inner.Check.{rulesIn}
+use Rattle.rules.specs.inner.Rules.{rulesIn}
 use borrow.Author.Needs.{needs}
-use Rattle.checker.proofs.row_fault.Statement.{statement}
-use Rattle.checker.proofs.row_fault.Tie as tie
+use Rattle.rules.proofs.row_fault.Statement.{statement}
+use Rattle.rules.proofs.row_fault.Tie as tie
 
 -- what the answer of each rule says of the row
 kept-12 : (d : tie.Else1) → ltb 5 (d .before .before .before .before .args .row .kind) ≡ false

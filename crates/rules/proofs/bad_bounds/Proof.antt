@@ -5,8 +5,8 @@ use mathlib.Core.Path.{refl}
 use native.Mathlib.Omega.{arith}
 use borrow.Author.Tests.{lt-ltb, le-ltb}
 use borrow.Author.Needs.{needs}
-use Rattle.checker.proofs.bad_bounds.Statement.{statement}
-use Rattle.checker.proofs.bad_bounds.Tie as tie
+use Rattle.rules.proofs.bad_bounds.Statement.{statement}
+use Rattle.rules.proofs.bad_bounds.Tie as tie
 
 wide-requires : tie.Need-wide-requires
 wide-requires c κs = search needs

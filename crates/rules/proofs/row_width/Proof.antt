@@ -6,8 +6,8 @@ use Rattle.terms.proofs.RowKinds.{each-kind}
 use mathlib.Core.Path.{refl}
 use native.Mathlib.Omega.{arith}
 use borrow.Author.Needs.{needs}
-use Rattle.checker.proofs.row_width.Statement.{statement}
-use Rattle.checker.proofs.row_width.Tie as tie
+use Rattle.rules.proofs.row_width.Statement.{statement}
+use Rattle.rules.proofs.row_width.Tie as tie
 
 wide-requires : tie.Need-wide-requires
 wide-requires c κs = search needs

@@ -9,8 +9,8 @@ use lib.Pow.{shl-exact}
 use borrow.Author.Needs.{needs}
 use borrow.Author.Tests.{lt-ltb, le-ltb, eq-eqb, ne-eqb}
 use Rattle.terms.specs.Faults.{wrongValue}
-use Rattle.checker.proofs.bad_value.Statement.{statement}
-use Rattle.checker.proofs.bad_value.Tie as tie
+use Rattle.rules.proofs.bad_value.Statement.{statement}
+use Rattle.rules.proofs.bad_value.Tie as tie
 
 power : (w b : ℕ) → w ≡ b → w ≤ 16 → (1 * 2 ^ w) % 2 ^ 64 ≡ 2 ^ b
 power w b e h = shl-exact {a = 1} 1 w 64 (lit< tt) (omega arith) ∙ one-mul (2 ^ w) ∙ ap (λ (k : ℕ). 2 ^ k) e

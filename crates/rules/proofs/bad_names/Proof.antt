@@ -6,8 +6,8 @@ use denote.Ref.{now}
 use native.Mathlib.Omega.{arith}
 use mathlib.Core.Path.{_≡_, refl, sym, _∙_, ap}
 use borrow.Author.Needs.{needs}
-use Rattle.checker.proofs.bad_names.Statement.{statement}
-use Rattle.checker.proofs.bad_names.Tie as tie
+use Rattle.rules.proofs.bad_names.Statement.{statement}
+use Rattle.rules.proofs.bad_names.Tie as tie
 
 -- what the first name says
 said : (d : tie.After-not-term) → notTerm (rowsOf (now (d .before .before .before .before .before .args .table))) (d .before .before .before .before .before .args .r) (d .before .before .before .before .before .args .row .a) ≡ d .not-term .result

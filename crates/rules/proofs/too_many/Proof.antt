@@ -1,8 +1,8 @@
 -- `too_many` meets its contract: rule 17. Assumes nothing.
 use Rattle.terms.specs.Faults.{tooMany}
 use borrow.Author.Tests.{lt-ltb, le-ltb}
-use Rattle.checker.proofs.too_many.Statement.{statement}
-use Rattle.checker.proofs.too_many.Tie as tie
+use Rattle.rules.proofs.too_many.Statement.{statement}
+use Rattle.rules.proofs.too_many.Tie as tie
 
 returns : tie.Need-returns
 unfolding tooMany

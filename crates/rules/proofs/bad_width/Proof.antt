@@ -5,8 +5,8 @@ use Rattle.terms.proofs.RowKinds.{each-kind}
 use mathlib.Core.Path.{refl}
 use native.Mathlib.Omega.{arith}
 use borrow.Author.Tests.{lt-ltb, le-ltb, eq-eqb, ne-eqb}
-use Rattle.checker.proofs.bad_width.Statement.{statement}
-use Rattle.checker.proofs.bad_width.Tie as tie
+use Rattle.rules.proofs.bad_width.Statement.{statement}
+use Rattle.rules.proofs.bad_width.Tie as tie
 
 returns : tie.Need-returns
 unfolding wrongWidth

@@ -4,8 +4,8 @@ use Rattle.terms.specs.Table.{bitsIn}
 use native.Mathlib.Omega.{arith}
 use mathlib.Core.Path.{refl}
 use borrow.Author.Needs.{needs}
-use Rattle.checker.proofs.row_bits.Statement.{statement}
-use Rattle.checker.proofs.row_bits.Tie as tie
+use Rattle.rules.proofs.row_bits.Statement.{statement}
+use Rattle.rules.proofs.row_bits.Tie as tie
 
 wide-requires : tie.Need-wide-requires
 wide-requires c κs = search needs

@@ -5,8 +5,8 @@ use Prim.Native.Nat.{ℕ}
 use native.Mathlib.Omega.{arith}
 use mathlib.Core.Path.{sym, _∙_, ap}
 use borrow.Author.Needs.{needs}
-use Rattle.checker.proofs.width_at.Statement.{statement}
-use Rattle.checker.proofs.width_at.Tie as tie
+use Rattle.rules.proofs.width_at.Statement.{statement}
+use Rattle.rules.proofs.width_at.Tie as tie
 
 wide-requires : tie.Need-wide-requires
 wide-requires c κs = search needs

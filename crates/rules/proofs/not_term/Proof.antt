@@ -5,8 +5,8 @@ use denote.Ref.{now}
 use borrow.Author.Tests.{lt-ltb, le-ltb, ne-eqb}
 use mathlib.Core.Path.{_≡_, sym, _∙_, ap}
 use borrow.Author.Needs.{needs}
-use Rattle.checker.proofs.not_term.Statement.{statement}
-use Rattle.checker.proofs.not_term.Tie as tie
+use Rattle.rules.proofs.not_term.Statement.{statement}
+use Rattle.rules.proofs.not_term.Tie as tie
 
 returns : tie.Need-returns
 unfolding notTerm

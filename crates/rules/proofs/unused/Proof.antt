@@ -5,8 +5,8 @@ use native.Mathlib.Omega.{arith}
 use borrow.Author.Tests.{ne-eqb}
 use Rattle.terms.specs.Faults.{unusedColumn}
 use Rattle.terms.proofs.RowKinds.{each-kind}
-use Rattle.checker.proofs.unused.Statement.{statement}
-use Rattle.checker.proofs.unused.Tie as tie
+use Rattle.rules.proofs.unused.Statement.{statement}
+use Rattle.rules.proofs.unused.Tie as tie
 
 returns : tie.Need-returns
 unfolding unusedColumn
