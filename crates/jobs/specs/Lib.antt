@@ -1,0 +1,3 @@
+pub mod Prefix
+pub mod State
+pub mod Call
