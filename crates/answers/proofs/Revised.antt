@@ -22,7 +22,7 @@ use Rattle.answers.specs.Solve.{valid, unsatisfiable, satisfiesTo, unsat
 use Rattle.answers.specs.Revised.{SameCounting}
 
 -- tables that differ at most in what their equations say have the same variables
-alike-variables : (ss rs : List Row) → Alike 4 ss rs → variableWidths ss ≡ variableWidths rs
+pub alike-variables : (ss rs : List Row) → Alike 4 ss rs → variableWidths ss ≡ variableWidths rs
 unfolding variableWidths
 alike-variables [] [] a = refl
 alike-variables [] (r ∷ rs) a = absurd (omega (arith, a .count))
