@@ -18,7 +18,7 @@ use Rattle.answers.proofs.Slots.{loose, glued, heads}
 use Rattle.answers.proofs.Gluing.{Glue, glued-e, reach, glue-in, reach-step}
 use Rattle.answers.proofs.OurPieces.{mark, wide, class-home}
 
-roots-tally : (k : ℕ) (v : List ℕ) (f : ℕ → Bool) → ((i : ℕ) → f i ≡ eqb (getD v i 0) (k + i)) → roots k v ≡ tally (length v) f
+pub roots-tally : (k : ℕ) (v : List ℕ) (f : ℕ → Bool) → ((i : ℕ) → f i ≡ eqb (getD v i 0) (k + i)) → roots k v ≡ tally (length v) f
 unfolding roots tally
 roots-tally k [] f h = refl
 roots-tally k (x ∷ v) f h =
