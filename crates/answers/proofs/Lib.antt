@@ -30,3 +30,4 @@ pub mod Homes
 pub mod RightSide
 pub mod Runs
 pub mod Revised
+pub mod Never

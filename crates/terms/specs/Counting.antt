@@ -49,6 +49,10 @@ pub record OneOfLine (t : List Row) (n : ℕ) : Type 0 where
 abbrev pub SidesEqual : List Row → List ℕ → ℕ → Type 0
 SidesEqual t p r = evened (valueOf t p (rowAt t r .a)) (valueOf t p (rowAt t r .b)) ≡ evened (valueOf t p (rowAt t r .b)) (valueOf t p (rowAt t r .a))
 
+-- An assignment meets the equations that count in the rows before row n: their filled sides are equal.
+abbrev pub MeetsBefore : List Row → ℕ → List ℕ → Type 0
+MeetsBefore t n p = (r : ℕ) → r < n → Counts t r → SidesEqual t p r
+
 -- (c) An assignment satisfies a table exactly if both filled sides are equal in each equation that counts.
 abbrev pub MeetsCounting : List Row → List ℕ → Type 0
 MeetsCounting t p = Exactly (satisfies t p ≡ true) ((r : ℕ) → Counts t r → SidesEqual t p r)
