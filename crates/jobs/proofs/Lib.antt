@@ -1,3 +1,4 @@
 pub mod Prefix
 pub mod Silent
 pub mod PrefixPairs
+pub mod Meeting
