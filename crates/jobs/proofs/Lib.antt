@@ -2,3 +2,4 @@ pub mod Prefix
 pub mod Silent
 pub mod PrefixPairs
 pub mod Meeting
+pub mod EquationRows
