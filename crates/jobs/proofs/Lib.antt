@@ -3,3 +3,4 @@ pub mod Silent
 pub mod PrefixPairs
 pub mod Meeting
 pub mod EquationRows
+pub mod States
