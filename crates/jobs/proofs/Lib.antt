@@ -4,3 +4,4 @@ pub mod PrefixPairs
 pub mod Meeting
 pub mod EquationRows
 pub mod States
+pub mod Reaching
