@@ -5,3 +5,5 @@ pub mod Meeting
 pub mod EquationRows
 pub mod States
 pub mod Reaching
+pub mod LineNumbers
+pub mod Holders

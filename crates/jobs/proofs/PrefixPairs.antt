@@ -219,3 +219,28 @@ module _ (table : List ℕ) (accepted : firstFault table ≡ Accepted) (none : N
       ∙ links-before (bitsOf (upTo r t)) (equationPairs (upTo r t))
       ∙ sym (rw read at (all-ties numbers ok (rw read h)))
       ∙ up-ties r t none (length (upTo r t)) (omega (arith, up-count r t))
+
+-- ---- the rows from one row on, from the classes of those before it
+module _ (t : List Row) (r s : ℕ) (first : r ≤ s) (l : s ≤ length t) where
+  abbrev so-far : List (List Pair)
+  so-far = take r (equationPairs t)
+
+  abbrev more : List (List Pair)
+  more = drop r (take s (equationPairs t))
+
+  parts : take s (equationPairs t) ≡ so-far ++ more
+  parts = sym (take-append-drop r (take s (equationPairs t))) ∙ ap (λ (es : List (List Pair)). es ++ more) (take-take r s (equationPairs t) first)
+
+  pub further-run : runAll (alone t) (take s (equationPairs t)) ≡ runAll (runAll (alone t) (take r (equationPairs t))) (drop r (take s (equationPairs t)))
+  further-run = ap (runAll (alone t)) parts ∙ run-parts (alone t) so-far more
+
+  module _ (left : conflictAt (alone t) (take r (equationPairs t)) ≡ r) where
+    to-here : conflictAt (alone t) so-far ≡ length so-far
+    to-here = omega (arith, left, length-take r (equationPairs t), pairs-length t)
+
+    pub further-conflict : conflictAt (alone t) (take s (equationPairs t)) ≡ r + conflictAt (runAll (alone t) (take r (equationPairs t))) (drop r (take s (equationPairs t)))
+    further-conflict = ap (conflictAt (alone t)) parts ∙ conflict-parts (alone t) so-far more to-here ∙ omega (arith, length-take r (equationPairs t), pairs-length t)
+
+    pub further-links : linksBefore (alone t) (take s (equationPairs t))
+        ≡ linksBefore (alone t) (take r (equationPairs t)) + linksBefore (runAll (alone t) (take r (equationPairs t))) (drop r (take s (equationPairs t)))
+    further-links = ap (linksBefore (alone t)) parts ∙ links-parts (alone t) so-far more to-here
