@@ -46,7 +46,7 @@ module _ (table : List ℕ) (accepted : firstFault table ≡ Accepted) (some : u
   inv : Represents (bitsOf t) c (reverse (pairsTogether (equationPairs t)))
   inv = represent table accepted
 
-  holder-is : (s : ℕ) → holder t s ≡ rep c s
+  pub holder-is : (s : ℕ) → holder (rowsOf table) s ≡ rep (tableClasses table accepted) s
   unfolding holder inClass
   holder-is s =
       ap (λ (same : ℕ → ℕ → Bool). least (same s) 0 s) (same-relation table accepted some)

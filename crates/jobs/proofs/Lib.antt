@@ -7,3 +7,4 @@ pub mod States
 pub mod Reaching
 pub mod LineNumbers
 pub mod Holders
+pub mod Held
