@@ -8,3 +8,4 @@ pub mod Reaching
 pub mod LineNumbers
 pub mod Holders
 pub mod Held
+pub mod Course

@@ -2,3 +2,4 @@ pub mod Prefix
 pub mod State
 pub mod Call
 pub mod Claims
+pub mod Course
