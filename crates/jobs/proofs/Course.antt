@@ -41,7 +41,7 @@ use Rattle.jobs.proofs.Meeting.{left-some, some-before, lost-at, never-
 use Rattle.jobs.proofs.EquationRows.{row-equation, row-step, row-within, row-last, row-past}
 use Rattle.jobs.proofs.LineNumbers.{lines-none}
 use Rattle.jobs.proofs.Holders.{holders-length}
-use Rattle.jobs.proofs.States.{step-end, state-left, state-never}
+use Rattle.jobs.proofs.States.{step-never, step-end, step-on, step-lost, state-left, state-never}
 use Rattle.jobs.proofs.Reaching.{Kept, reach-to, reach-of}
 
 -- ---- with no equation taken every pattern is left
@@ -180,4 +180,152 @@ module _ (table : List ℕ) (accepted : firstFault table ≡ Accepted) (none : N
                   to = λ h k e. answer-not-44 k answerRoom l e h;
                   of = λ never. rw (same, le-ltb (length (first .work)) 16384 room, le-ltb answerRoom 24576 l, accepted, plain, unreached never);
                 };
+          }
+
+    -- ---- the tables of the answers so far
+    never-or-row : (k : ℕ) → (unsatisfiable (upTo (equationRow t k) t) ≡ true) ⊎ (unsatisfiable (upTo (equationRow t k) t) ≡ false)
+    never-or-row k = go (unsatisfiable (upTo (equationRow t k) t)) refl
+      where
+        go : (b : Bool) → unsatisfiable (upTo (equationRow t k) t) ≡ b → (unsatisfiable (upTo (equationRow t k) t) ≡ true) ⊎ (unsatisfiable (upTo (equationRow t k) t) ≡ false)
+        go true e = inl e
+        go false e = inr e
+
+    next-never : (k : ℕ) → unsatisfiable (upTo (equationRow t k) t) ≡ true → stateAfter t k .next ≡ neverRow
+    next-never k e = ap (λ (x : State). x .next) (state-never table accepted none k e)
+
+    next-row : (k : ℕ) → unsatisfiable (upTo (equationRow t k) t) ≡ false → stateAfter t k .next ≡ equationRow t k
+    unfolding stateAt
+    next-row k e = ap (λ (x : State). x .next) (state-left table accepted none k e)
+
+    -- the record with the next equation taken too is that of the next state
+    ahead : (k : ℕ) → stateAfter t k .next ≢ length t → answerRecord (upTo (suc (stateAfter t k .next)) t) ≡ answerRecord (upTo (stateAfter t (suc k) .next) t)
+    unfolding stateAfter stateAt
+    ahead k n = ⊎-elim never row (never-or-row k)
+      where
+        never : unsatisfiable (upTo (equationRow t k) t) ≡ true → answerRecord (upTo (suc (stateAfter t k .next)) t) ≡ answerRecord (upTo (stateAfter t (suc k) .next) t)
+        never e =
+            let same : stepped t (stateAfter t k) ≡ stateAfter t k = step-never t (stateAfter t k) (next-never k e) in
+            let at : stateAfter t k .next ≡ neverRow = next-never k e in
+            rw (same, up-past (suc (stateAfter t k .next)) t (omega (arith, few)), up-past (stateAfter t k .next) t (omega (arith, few)))
+
+        row : unsatisfiable (upTo (equationRow t k) t) ≡ false → answerRecord (upTo (suc (stateAfter t k .next)) t) ≡ answerRecord (upTo (stateAfter t (suc k) .next) t)
+        row e = go (unsatisfiable (upTo (suc (equationRow t k)) t)) refl
+          where
+            at : stateAfter t k .next ≡ equationRow t k
+            at = next-row k e
+
+            inside : equationRow t k < length t
+            inside = omega (arith, row-within t k, n, at)
+
+            go : (b : Bool) → unsatisfiable (upTo (suc (equationRow t k)) t) ≡ b → answerRecord (upTo (suc (stateAfter t k .next)) t) ≡ answerRecord (upTo (stepped t (stateAfter t k) .next) t)
+            go true h =
+                rw (state-left table accepted none k e, step-lost t (stateAt t (equationRow t k)) few inside h, up-past neverRow t (omega (arith, few)))
+                (lost-record t none (equationRow t k) (lost-at t none (equationRow t k) inside (row-equation t k inside) e h))
+            go false h =
+                rw (state-left table accepted none k e, step-on t (stateAt t (equationRow t k)) few inside h)
+                (ap answerRecord (sym (up-next t (suc (equationRow t k)) (omega (arith, inside)))))
+
+    -- behind the last equation, and after a never, it is the whole table
+    whole-end : (k : ℕ) → countKind 4 t ≤ k → upTo (stateAfter t k .next) t ≡ t
+    whole-end k l =
+        up-past (stateAfter t k .next) t
+        (⊎-elim (λ e. omega (arith, next-never k e, few)) (λ e. omega (arith, next-row k e, row-past t k l)) (never-or-row k))
+
+    not-end : (k : ℕ) → suc k ≤ countKind 4 t → stateAfter t k .next ≢ length t
+    not-end k l h =
+        ⊎-elim (λ e. absurd (omega (arith, next-never k e, few, h))) (λ e. absurd (omega (arith, row-last t k (sym (next-row k e) ∙ h)))) (never-or-row k)
+
+    step-goes : (k : ℕ) → stateAfter t k .next ≢ length t → stepTold table (lentAt k) ≡ answerRecord (upTo (suc (stateAfter t k .next)) t)
+    unfolding breaks45
+    step-goes k n = step-told k ∙ rw (ne-eqb (stateAfter t k .next) (length t) n)
+
+    open-told : openRecord table (length (first .work)) ≡ answerRecord (upTo 0 t)
+    unfolding openRecord openStops stopAt
+    open-told = rw (le-ltb (length (first .work)) 16384 room, accepted, plain)
+
+    pub opens-always : OpensAlways table (length (first .work))
+    opens-always = open-told ∙ open-always t none
+
+    first-next : upTo (stateAfter t 0 .next) t ≡ upTo 0 t
+    unfolding stateAfter opened stateAt
+    first-next = up-next t 0 (omega arith)
+
+    -- ---- a solve of the same
+    module _ (answerRoom : ℕ) (enough : 24576 ≤ answerRoom) where
+      abbrev workRoom : ℕ
+      workRoom = length (first .work)
+
+      solve-is : (numbers : List ℕ) → firstFault numbers ≡ Accepted → solveRecord numbers answerRoom workRoom ≡ answerRecord (rowsOf numbers)
+      unfolding solveRecord stopAt
+      solve-is numbers ok = rw (le-ltb answerRoom 24576 enough, le-ltb (length (first .work)) 16384 room, ok)
+
+      solve-up : (r : ℕ) → solveRecord (rowNumbers (upTo r t)) answerRoom workRoom ≡ answerRecord (upTo r t)
+      solve-up r = solve-is (rowNumbers (upTo r t)) (up-accepted r table accepted) ∙ ap answerRecord (rows-written (upTo r t))
+
+      -- an answer's table, from its record
+      table-told : (k : ℕ) (old : List ℕ) → length old ≡ answerRoom → (numbers : List ℕ) → firstFault numbers ≡ Accepted → rowsOf numbers ≡ upTo (stateAfter t k .next) t
+          → answerLeft table (lentAt k) old ≡ answerAfter numbers old workRoom
+      unfolding answerLeft jobAnswerAfter answerAfter answerTold
+      table-told k old n numbers ok same = rw (n, answer-told k answerRoom enough, solve-is numbers ok, same)
+
+      -- (c)
+      pub all-steps : AllSteps table first answerRoom
+      all-steps =
+          record {
+            no-equation = λ e.
+                open-told
+                ∙ ap answerRecord (sym first-next ∙ whole-end 0 (omega (arith, e)))
+                ∙ sym (solve-is table accepted);
+            last-step = λ k e.
+                ap (stepTold table) (after-is k)
+                ∙ step-goes k (not-end k (omega (arith, e)))
+                ∙ ahead k (not-end k (omega (arith, e)))
+                ∙ ap answerRecord (whole-end (suc k) (omega (arith, e)))
+                ∙ sym (solve-is table accepted);
+            answer-record =
+                ap (λ (x : Lent). answerTold table x answerRoom) (after-is (countKind 4 t))
+                ∙ answer-told (countKind 4 t) answerRoom enough
+                ∙ ap answerRecord (whole-end (countKind 4 t) (omega arith))
+                ∙ sym (solve-is table accepted);
+            answer-table = λ old n.
+                ap (λ (x : Lent). answerLeft table x old) (after-is (countKind 4 t))
+                ∙ table-told (countKind 4 t) old n table accepted (sym (whole-end (countKind 4 t) (omega arith)));
+            never-again = λ u k l. ap (stepTold table) (after-is k) ∙ again u k l ∙ sym (solve-is table accepted);
+          }
+        where
+          again : unsatisfiable t ≡ true → (k : ℕ) → unsatRow t ≤ equationRow t k → stepTold table (lentAt k) ≡ answerRecord t
+          again u k l = ⊎-elim never row (never-or-row k)
+            where
+              never : unsatisfiable (upTo (equationRow t k) t) ≡ true → stepTold table (lentAt k) ≡ answerRecord t
+              never e =
+                  let at : stateAfter t k .next ≡ neverRow = next-never k e in
+                  step-goes k (λ h. absurd (omega (arith, few))) ∙ ap answerRecord (up-past (suc (stateAfter t k .next)) t (omega (arith, few)))
+
+              row : unsatisfiable (upTo (equationRow t k) t) ≡ false → stepTold table (lentAt k) ≡ answerRecord t
+              row e =
+                  let lost = never-at t none u in
+                  let at : stateAfter t k .next ≡ equationRow t k = next-row k e in
+                  let here : equationRow t k ≡ unsatRow t =
+                  ⊎-elim (λ m. absurd (lost .none-with (some-before t none (suc (unsatRow t)) (equationRow t k) (omega arith) (left-some t none (equationRow t k) e)))) (λ m. omega arith) (lt-or-le (unsatRow t) (equationRow t k)) in
+                  let there : stateAfter t k .next ≡ unsatRow t = at ∙ here in
+                  step-goes k (λ h. absurd (omega (arith, lost .counts .in-table, there)))
+                  ∙ ap (λ (r : ℕ). answerRecord (upTo (suc r) t)) there
+                  ∙ lost-record t none (unsatRow t) lost
+
+      -- (d)
+      pub answer-so-far : (k : ℕ) → AnswerSoFar table first k answerRoom
+      unfolding soFar
+      answer-so-far k =
+          let e = after-is k in
+          let read = rows-written (upTo (stateAfter t k .next) t) in
+          let ok = up-accepted (stateAfter t k .next) table accepted in
+          record {
+            whole = rw e (λ h. up-past (stateAfter t k .next) t (omega (arith, few)));
+            accepted = rw e ok;
+            record-is = rw e (answer-told k answerRoom enough ∙ sym (solve-up (stateAfter t k .next)));
+            table-is = λ old n. rw e (table-told k old n (rowNumbers (upTo (stateAfter t k .next) t)) ok read);
+            opening-is = rw (after-is 0) (open-told ∙ ap answerRecord (sym first-next) ∙ sym (solve-up (stateAfter t 0 .next)));
+            step-is = rw (e, after-is (suc k)) (λ n. step-goes k n ∙ ahead k n ∙ sym (solve-up (stateAfter t (suc k) .next)));
+            demand-2 = rw e (rw read at (demand-2 (rowNumbers (upTo (stateAfter t k .next) t)) ok));
+            demand-3 = rw e (rw read at (demand-3 (rowNumbers (upTo (stateAfter t k .next) t)) ok));
           }
