@@ -1,3 +1,11 @@
 pub mod Prefix
 pub mod Silent
 pub mod PrefixPairs
+pub mod Meeting
+pub mod EquationRows
+pub mod States
+pub mod Reaching
+pub mod LineNumbers
+pub mod Holders
+pub mod Held
+pub mod Course

@@ -29,7 +29,7 @@ use Rattle.answers.proofs.Revised.{same-pairs, alike-variables}
 use Rattle.answers.proofs.Tables.{pairs-length, is-never, is-left, all-ties}
 use Rattle.answers.proofs.Theorems.{links-before}
 use Rattle.jobs.specs.Prefix.{upTo, equationFrom}
-use Rattle.jobs.proofs.Prefix.{up-count, up-alike, up-before, up-behind, up-next, up-accepted, up-counting, no-counting}
+use Rattle.jobs.proofs.Prefix.{up-count, up-alike, up-before, up-behind, up-past, up-next, up-accepted, up-counting, no-counting}
 use Rattle.jobs.proofs.Silent.{Silent, nothing, AllSilent, ended, further, silent-paired, silent-take, silent-together, ties-silent, together-append, all-silent-run, all-silent-conflict, all-silent-links, run-parts, conflict-within, conflict-parts, links-parts, conflict-first, links-first, apart-still}
 
 -- ---- lists of pairs, row by row
@@ -115,6 +115,15 @@ module _ (r : ℕ) (t : List Row) (none : NoLines t) where
       ap (λ (m : ℕ). ties m [] (pairsTogether (take k (equationPairs (upTo r t))))) (up-bits r t)
       ∙ ap (λ (l : List (List Pair)). ties (bitsOf t) [] (pairsTogether l))
       (sym (take-take k r (equationPairs (upTo r t)) l) ∙ ap (take k) up-front ∙ take-take k r (equationPairs t) l)
+
+-- all ties of it
+pub up-ties-all : (r : ℕ) (t : List Row) → NoLines t → tiesTo (upTo r t) (length t) ≡ tiesTo t r
+up-ties-all r t none =
+    ⊎-elim (λ l. up-ties r t none (length t) (omega arith))
+    (λ l.
+    up-ties-before r t none (length t) l
+    ∙ sym (ap (λ (s : List Row). tiesTo s r) (sym (up-past (length t) t (omega arith))) ∙ up-ties (length t) t none r l))
+    (lt-or-le r (length t))
 
 -- the ties up to the next equation are those up to here
 pub ties-next : (t : List Row) → NoLines t → (r : ℕ) → r ≤ length t → tiesTo t (equationFrom t r) ≡ tiesTo t r
@@ -218,4 +227,30 @@ module _ (table : List ℕ) (accepted : firstFault table ≡ Accepted) (none : N
       sym (up-links r t none l (left-up h))
       ∙ links-before (bitsOf (upTo r t)) (equationPairs (upTo r t))
       ∙ sym (rw read at (all-ties numbers ok (rw read h)))
-      ∙ up-ties r t none (length (upTo r t)) (omega (arith, up-count r t))
+      ∙ ap (tiesTo (upTo r t)) (up-count r t)
+      ∙ up-ties-all r t none
+
+-- ---- the rows from one row on, from the classes of those before it
+module _ (t : List Row) (r s : ℕ) (first : r ≤ s) (l : s ≤ length t) where
+  abbrev so-far : List (List Pair)
+  so-far = take r (equationPairs t)
+
+  abbrev more : List (List Pair)
+  more = drop r (take s (equationPairs t))
+
+  parts : take s (equationPairs t) ≡ so-far ++ more
+  parts = sym (take-append-drop r (take s (equationPairs t))) ∙ ap (λ (es : List (List Pair)). es ++ more) (take-take r s (equationPairs t) first)
+
+  pub further-run : runAll (alone t) (take s (equationPairs t)) ≡ runAll (runAll (alone t) (take r (equationPairs t))) (drop r (take s (equationPairs t)))
+  further-run = ap (runAll (alone t)) parts ∙ run-parts (alone t) so-far more
+
+  module _ (left : conflictAt (alone t) (take r (equationPairs t)) ≡ r) where
+    to-here : conflictAt (alone t) so-far ≡ length so-far
+    to-here = omega (arith, left, length-take r (equationPairs t), pairs-length t)
+
+    pub further-conflict : conflictAt (alone t) (take s (equationPairs t)) ≡ r + conflictAt (runAll (alone t) (take r (equationPairs t))) (drop r (take s (equationPairs t)))
+    further-conflict = ap (conflictAt (alone t)) parts ∙ conflict-parts (alone t) so-far more to-here ∙ omega (arith, length-take r (equationPairs t), pairs-length t)
+
+    pub further-links : linksBefore (alone t) (take s (equationPairs t))
+        ≡ linksBefore (alone t) (take r (equationPairs t)) + linksBefore (runAll (alone t) (take r (equationPairs t))) (drop r (take s (equationPairs t)))
+    further-links = ap (linksBefore (alone t)) parts ∙ links-parts (alone t) so-far more to-here

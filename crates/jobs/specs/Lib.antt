@@ -1,3 +1,5 @@
 pub mod Prefix
 pub mod State
 pub mod Call
+pub mod Claims
+pub mod Course
