@@ -6,7 +6,7 @@ ghost use Rattle.linking.specs.inner.Classes.{Unlinks, SettlesTies, Tabl
 use taking::Taken;
 
 // Links each source to itself.
-fn unlink(links: &mut [u16])
+pub fn unlink(links: &mut [u16])
     ensures { λ _. ⌜ Unlinks (now (links .entry)) (now (links .exit)) ⌝ }
 {
     let mut i = 0;

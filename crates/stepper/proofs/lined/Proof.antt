@@ -1,42 +1,50 @@
+-- `lined` meets its contract: what is left to look through says what all rows say. Assumes nothing.
+use mathlib.Core.Path.{_≡_, refl, sym, _∙_, ap}
+use Prim.Native.Nat.{_-_}
+use native.Mathlib.Omega.{arith}
+use lib.ListN.{drop}
+use Rattle.terms.specs.Table.{rowsOf, someRow}
+use Rattle.jobs.specs.Call.{hasLine, breaks43}
+use Rattle.stepper.proofs.LineNumbers.{line-here, line-passed, line-end}
 use Rattle.stepper.proofs.lined.Statement.{statement}
 use Rattle.stepper.proofs.lined.Tie as tie
-use Rattle.stepper.proofs.lined.Reads as reads
-use Rattle.stepper.proofs.lined.Lts as lts
-use Rattle.rows.proofs.row_at.Reads as row-at-reads
 
 abbrev Inv-loop : tie.InvT-loop
-Inv-loop table rows r₀ r = ?
+Inv-loop table rows r₀ r = someRow hasLine (drop r (rowsOf table)) ≡ breaks43 (rowsOf table)
 
 abbrev μ-loop : tie.MeasureT-loop
-μ-loop table rows r₀ r = ?
+μ-loop table rows r₀ r = rows - r
 
--- src/lib.rt:24:5
 loop-holds : tie.Need-loop-holds Inv-loop μ-loop
-loop-holds c = ?
+unfolding breaks43
+loop-holds c = refl
 
--- src/lib.rt:25:13
 row-at-requires : tie.Need-row-at-requires Inv-loop μ-loop
-row-at-requires c κs = ?
+row-at-requires c κs = tt
 
--- src/lib.rt:30:17
+has-line-requires : tie.Need-has-line-requires Inv-loop μ-loop
+has-line-requires c κs = tt
+
 returns : tie.Need-returns Inv-loop μ-loop
-returns c = ?
+returns c =
+    line-here _ _ (c .before .before .before .loop-test .taken)
+    (sym (c .if1 .taken) ∙ c .before .has-line .ensures ∙ ap hasLine (c .before .before .row-at .ensures))
+    ∙ c .before .before .before .before .loop .inv
 
--- src/lib.rt:33:9
 add-r : tie.Need-add-r Inv-loop μ-loop
-add-r c = ?
+add-r c = omega (arith, c .before .before .before .loop-test .taken)
 
--- src/lib.rt:24:5
 loop-less : tie.Need-loop-less Inv-loop μ-loop
-loop-less c = ?
+loop-less c = omega (arith, c .before .before .before .loop-test .taken)
 
--- src/lib.rt:24:5
 loop-again : tie.Need-loop-again Inv-loop μ-loop
-loop-again c = ?
+loop-again c =
+    line-passed _ _ (c .before .before .before .loop-test .taken)
+    (sym (c .if1 .left) ∙ c .before .has-line .ensures ∙ ap hasLine (c .before .before .row-at .ensures))
+    ∙ c .before .before .before .before .loop .inv
 
--- src/lib.rt:19:1
 returns-2 : tie.Need-returns-2 Inv-loop μ-loop
-returns-2 c = ?
+returns-2 c = line-end _ _ (c .loop-test .left) ∙ c .before .loop .inv
 
 pub lined-spec : {M : Type 1} → statement M
 lined-spec =
@@ -46,6 +54,7 @@ lined-spec =
     μ-loop
     loop-holds
     row-at-requires
+    has-line-requires
     returns
     add-r
     loop-less
