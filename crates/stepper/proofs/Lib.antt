@@ -1,3 +1,5 @@
 pub mod LineNumbers
 pub mod Prefixes
 pub mod Reading
+pub mod Stepping
+pub mod Trying

@@ -75,10 +75,10 @@ module _ (table : List ℕ) (accepted : firstFault table ≡ Accepted) where
 -- ---- states
 
 -- What is told of a job's ties and area at the row that it claims.
-record AtPlace (t : List Row) (r ties : ℕ) (work : List ℕ) : Type 0 where
-  left : unsatisfiable (upTo r t) ≡ false
-  ties-are : ties ≡ tiesTo t r
-  area-is : work ≡ areaOf (length work) (holders (upTo r t))
+pub record AtPlace (t : List Row) (r ties : ℕ) (work : List ℕ) : Type 0 where
+  pub left : unsatisfiable (upTo r t) ≡ false
+  pub ties-are : ties ≡ tiesTo t r
+  pub area-is : work ≡ areaOf (length work) (holders (upTo r t))
 
 module _ (table : List ℕ) (accepted : firstFault table ≡ Accepted) (plain : breaks43 (rowsOf table) ≡ false) (next ties : ℕ) (work : List ℕ) where
   abbrev u : List Row
@@ -102,14 +102,14 @@ module _ (table : List ℕ) (accepted : firstFault table ≡ Accepted) (plain : 
     same-never : reachable u next ties work ≡ reachable u neverRow ties work
     same-never = ap (λ (n : ℕ). reachable u n ties work) at
 
-    pub no-never : unsatisfiable u ≡ false → reachable u next ties work ≡ false
+    pub no-never : unsatisfiable (rowsOf table) ≡ false → reachable (rowsOf table) next ties work ≡ false
     no-never h = unreached (λ e. not-both (reach-never table accepted none ties work .to (sym same-never ∙ e) .never) h)
 
-    claimed-never : unsatisfiable u ≡ true → claimed u next ≡ unsatRow u
+    pub claimed-never : unsatisfiable (rowsOf table) ≡ true → claimed (rowsOf table) next ≡ unsatRow (rowsOf table)
     unfolding claimed
     claimed-never h = rw (eq-eqb next 1000 at, h) refl
 
-    claimed-left : unsatisfiable u ≡ false → claimed u next ≡ 1000
+    pub claimed-left : unsatisfiable (rowsOf table) ≡ false → claimed (rowsOf table) next ≡ 1000
     unfolding claimed
     claimed-left h = rw (eq-eqb next 1000 at, h) refl
 
@@ -133,7 +133,7 @@ module _ (table : List ℕ) (accepted : firstFault table ≡ Accepted) (plain : 
 
   -- a row is claimed
   module _ (r : ℕ) (e : r ≡ claimed (rowsOf table) next) (l : r ≤ length (rowsOf table)) where
-    place-to : reachable u next ties work ≡ true → AtPlace u r ties work
+    pub place-to : reachable (rowsOf table) next ties work ≡ true → AtPlace (rowsOf table) r ties work
     place-to h = ⊎-elim never other (dec-eq next 1000)
       where
         never : next ≡ 1000 → AtPlace u r ties work
