@@ -9,3 +9,4 @@ pub mod LineNumbers
 pub mod Holders
 pub mod Held
 pub mod Course
+pub mod CaseFive

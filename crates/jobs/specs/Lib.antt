@@ -3,3 +3,4 @@ pub mod State
 pub mod Call
 pub mod Claims
 pub mod Course
+pub mod CaseFive
