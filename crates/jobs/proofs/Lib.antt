@@ -7,6 +7,6 @@ pub mod States
 pub mod Reaching
 pub mod LineNumbers
 pub mod Holders
-pub mod Held
+pub mod HolderClasses
 pub mod Course
 pub mod CaseFive

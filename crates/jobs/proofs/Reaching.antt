@@ -100,12 +100,6 @@ module _ (table : List ℕ) (accepted : firstFault table ≡ Accepted) (none : N
       ap (stateAfter t) e ∙ still (length t + d) (omega (arith, few-equations t)) ∙ stopped-at d
 
   -- ---- any number of steps
-  pub reach-to : (next ties : ℕ) (work : List ℕ) → reachable (rowsOf table) next ties work ≡ true → (k : ℕ) × Kept (stateAfter (rowsOf table) k) next ties work
-  unfolding reachable
-  reach-to next ties work h =
-      let it = below-false (suc (length t)) (λ k. not (isState (stateAfter t k) next ties work)) (not-true (below (suc (length t)) (λ k. not (isState (stateAfter t k) next ties work))) h) in
-      (it .0, state-to (stateAfter t (it .0)) next ties work (not-false (isState (stateAfter t (it .0)) next ties work) (it .2)))
-
   small : (k next ties : ℕ) (work : List ℕ) → k ≤ length t → Kept (stateAfter t k) next ties work → reachable t next ties work ≡ true
   unfolding reachable
   small k next ties work l s =
@@ -119,6 +113,12 @@ module _ (table : List ℕ) (accepted : firstFault table ≡ Accepted) (none : N
       let q : stateAfter t k ≡ stateAfter t (length t) = ap (stateAfter t) (sym e) ∙ stopped-at (k - length t) in
       small (length t) next ties work (omega arith) (rw q at s))
       (lt-or-le k (length t))
+
+  pub reach-to : (next ties : ℕ) (work : List ℕ) → reachable (rowsOf table) next ties work ≡ true → (k : ℕ) × Kept (stateAfter (rowsOf table) k) next ties work
+  unfolding reachable
+  reach-to next ties work h =
+      let it = below-false (suc (length t)) (λ k. not (isState (stateAfter t k) next ties work)) (not-true (below (suc (length t)) (λ k. not (isState (stateAfter t k) next ties work))) h) in
+      (it .0, state-to (stateAfter t (it .0)) next ties work (not-false (isState (stateAfter t (it .0)) next ties work) (it .2)))
 
   -- ---- at a row
   at-row : (k next ties : ℕ) (work : List ℕ) → next ≤ length t → Kept (stateAfter t k) next ties work → AtRow t next ties work
