@@ -10,3 +10,4 @@ pub mod Holders
 pub mod HolderClasses
 pub mod Course
 pub mod CaseFive
+pub mod Refusals

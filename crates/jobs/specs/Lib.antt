@@ -4,3 +4,4 @@ pub mod Call
 pub mod Claims
 pub mod Course
 pub mod CaseFive
+pub mod Refusals

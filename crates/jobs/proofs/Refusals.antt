@@ -1,0 +1,119 @@
+-- The refusals of a job's calls: in their order, and nothing lent is changed. Assumes nothing.
+use mathlib.Core.Path.{_≡_, refl, sym, _∙_, ap}
+use mathlib.Core.Logic.{_≢_}
+use mathlib.Core.Bool.{Bool, true, false, not, _||_, cond, or-true}
+use mathlib.Core.List.{List}
+use Prim.Native.Nat.{ℕ, suc, _<_, _≤_}
+use native.Mathlib.Omega.{arith}
+use lib.Dec.{eqb, ltb}
+use lib.ListN.{length}
+use borrow.Author.Tests.{eqb-true, eq-eqb, ne-eqb, lt-ltb, le-ltb}
+use Rattle.terms.specs.declared.Record.{Record}
+use Rattle.terms.specs.declared.Row.{Row}
+use Rattle.terms.specs.declared.Fault.the-variants.{Accepted}
+use Rattle.terms.specs.Calls.{refusal, stopAt, stopped}
+use Rattle.terms.specs.Counting.{IsLine, NoLines}
+use Rattle.terms.specs.Faults.{isAccepted, firstFault}
+use Rattle.terms.specs.Table.{rowsOf}
+use Rattle.terms.proofs.AcceptedTable.{fault-none}
+use Rattle.terms.proofs.Stopping.{goes-on}
+use Rattle.answers.specs.Solve.{valid, unsatisfiable, answerRecord}
+use Rattle.jobs.specs.Prefix.{upTo}
+use Rattle.jobs.specs.State.{stateAfter}
+use Rattle.jobs.specs.Call.{breaks43, breaks45, openStops, openRecord, openJob, openWork, stepStops, stepRecord, stepJob, stepWork, jobAnswerStops, jobAnswerRecord, jobAnswerAfter}
+use Rattle.jobs.specs.Course.{Lent, afterOpen, afterStep, stepTold, answerTold, answerLeft, afterSteps}
+use Rattle.jobs.specs.Refusals.{Order, Refuses, Untouched, NoneLeft}
+use Rattle.jobs.proofs.LineNumbers.{no-lines}
+use Rattle.jobs.proofs.Course.{after-is, step-told}
+
+-- an answer's outcome is 0, 1 or 2
+answer-outcome : (t : List Row) → answerRecord t .outcome ≤ 2
+unfolding answerRecord
+answer-outcome t = go (valid t) refl (unsatisfiable t) refl
+  where
+    go : (a : Bool) → valid t ≡ a → (b : Bool) → unsatisfiable t ≡ b → answerRecord t .outcome ≤ 2
+    go true e b f = rw e (omega arith)
+    go false e true f = rw (e, f) (omega arith)
+    go false e false f = rw (e, f) (omega arith)
+
+-- a table that is not accepted, and an equation with a line number, are found
+refused : (table : List ℕ) → firstFault table ≢ Accepted → isAccepted (firstFault table) ≡ false
+refused table n = go (isAccepted (firstFault table)) refl
+  where
+    go : (b : Bool) → isAccepted (firstFault table) ≡ b → b ≡ false
+    go true e = absurd (n (fault-none (firstFault table) e))
+    go false e = refl
+
+numbered : (t : List Row) (n r : ℕ) → 0 < n → IsLine t r n → breaks43 t ≡ true
+numbered t n r l it = go (breaks43 t) refl
+  where
+    go : (b : Bool) → breaks43 t ≡ b → b ≡ true
+    go true e = refl
+    go false e = absurd (omega (arith, no-lines t e n r it))
+
+module _ (table : List ℕ) (lent : Lent) where
+  abbrev workRoom : ℕ
+  workRoom = length (lent .work)
+
+  pub refuses : (answerRoom : ℕ) → Refuses table lent answerRoom
+  unfolding openRecord openStops stepTold stepRecord stepStops answerTold jobAnswerRecord jobAnswerStops stopAt
+  refuses answerRoom =
+      record {
+        open-10 = λ l. rw (lt-ltb workRoom 16384 l);
+        step-10 = λ l. rw (lt-ltb workRoom 16384 l);
+        answer-10 = λ l. rw (lt-ltb workRoom 16384 l);
+        no-answer-room = λ l. rw (lt-ltb answerRoom 24576 l, or-true (ltb workRoom 16384));
+        opening = λ l.
+            record {
+              of-table = λ n. rw (le-ltb workRoom 16384 l, refused table n);
+              line-number = λ ok n r m it. rw (le-ltb workRoom 16384 l, ok, numbered (rowsOf table) n r m it);
+            };
+        step = λ l.
+            record {
+              of-table = λ n. rw (le-ltb workRoom 16384 l, refused table n);
+              line-number = λ ok n r m it. rw (le-ltb workRoom 16384 l, ok, numbered (rowsOf table) n r m it);
+            };
+        answer = λ l k.
+            record {
+              of-table = λ n. rw (le-ltb workRoom 16384 l, le-ltb answerRoom 24576 k, refused table n);
+              line-number = λ ok n r m it. rw (le-ltb workRoom 16384 l, le-ltb answerRoom 24576 k, ok, numbered (rowsOf table) n r m it);
+            };
+      }
+
+  pub untouched : (old : List ℕ) → Untouched table lent old
+  unfolding afterOpen afterStep stepTold answerTold answerLeft openJob openWork stepJob stepWork jobAnswerAfter
+  untouched old =
+      record {
+        opening = λ h. opening (stopped (openStops table workRoom)) refl h;
+        step = λ h. step (stopped (stepStops table (lent .job .next) (lent .job .ties) (lent .work))) refl h;
+        answer = λ h. rw (ne-eqb (jobAnswerRecord table (lent .job .next) (lent .job .ties) (lent .work) (length old) .outcome) 2 (omega arith));
+      }
+    where
+      opening : (b : Bool) → stopped (openStops table workRoom) ≡ b → 2 < openRecord table workRoom .outcome → afterOpen table lent ≡ lent
+      opening true e h = rw e
+      opening false e h =
+          let told : openRecord table workRoom ≡ answerRecord (upTo 0 (rowsOf table)) = unfold openRecord in (goes-on (openStops table workRoom) (answerRecord (upTo 0 (rowsOf table))) e) in
+          absurd (omega (arith, answer-outcome (upTo 0 (rowsOf table)), ap (λ (r : Record). r .outcome) told))
+
+      step : (b : Bool) → stopped (stepStops table (lent .job .next) (lent .job .ties) (lent .work)) ≡ b → 2 < stepRecord table (lent .job .next) (lent .job .ties) (lent .work) .outcome
+          → afterStep table lent ≡ lent
+      step true e h = rw e
+      step false e h =
+          let accepted = answerRecord (upTo (suc (lent .job .next)) (rowsOf table)) in
+          let told : stepRecord table (lent .job .next) (lent .job .ties) (lent .work) ≡ accepted =
+          unfold stepRecord in (goes-on (stepStops table (lent .job .next) (lent .job .ties) (lent .work)) accepted e) in
+          absurd (omega (arith, answer-outcome (upTo (suc (lent .job .next)) (rowsOf table)), ap (λ (r : Record). r .outcome) told))
+
+-- 45
+pub none-left : (table : List ℕ) → firstFault table ≡ Accepted → NoLines (rowsOf table) → (first : Lent) → 16384 ≤ length (first .work) → (k : ℕ) → NoneLeft table first k
+unfolding breaks45
+none-left table accepted none first room k =
+    rw (after-is table accepted none first room k)
+    (record { to = λ h. to (breaks45 (rowsOf table) next) refl (sym (step-told table accepted none first room k) ∙ h); of = λ e. step-told table accepted none first room k ∙ rw (eq-eqb next (length (rowsOf table)) e) })
+  where
+    next : ℕ
+    next = stateAfter (rowsOf table) k .next
+
+    to : (b : Bool) → breaks45 (rowsOf table) next ≡ b → cond (breaks45 (rowsOf table) next) (refusal 45 0) (answerRecord (upTo (suc next) (rowsOf table))) ≡ refusal 45 0 → next ≡ length (rowsOf table)
+    to true e q = eqb-true next (length (rowsOf table)) e
+    to false e q = let r = rw e at q in absurd (omega (arith, answer-outcome (upTo (suc next) (rowsOf table)), ap (λ (x : Record). x .outcome) r))
