@@ -40,7 +40,7 @@ use Rattle.jobs.proofs.PrefixPairs.{up-bits}
 use Rattle.jobs.proofs.Meeting.{left-some, some-before, lost-at, never-at, lost-record}
 use Rattle.jobs.proofs.EquationRows.{row-equation, row-step, row-within, row-last, row-past}
 use Rattle.jobs.proofs.LineNumbers.{lines-none}
-use Rattle.jobs.proofs.Holders.{holders-length}
+use Rattle.jobs.proofs.Held.{holders-length}
 use Rattle.jobs.proofs.States.{step-never, step-end, step-on, step-lost, state-left, state-never}
 use Rattle.jobs.proofs.Reaching.{Kept, reach-to, reach-of}
 
