@@ -1,16 +1,14 @@
 -- (g) Document 01's case 5 as a job: its states and its records are computed, and what the calls leave follows from the theorems. Assumes nothing.
-use mathlib.Core.Path.{_≡_, refl, sym, _∙_, ap}
-use mathlib.Core.Bool.{true, false}
-use mathlib.Core.List.{List, [], _∷_}
+use mathlib.Core.Path.{_≡_, refl, _∙_, ap}
+use mathlib.Core.Bool.{false}
+use mathlib.Core.List.{[], _∷_}
 use Prim.Native.Nat.{ℕ, zero, suc, _+_, _≤_}
 use native.Mathlib.Omega.{arith}
 use lib.ListN.{length}
 use Rattle.laws.specs.Lists.{countUp, least, below, tally, member, distinct}
 use Rattle.terms.specs.declared.Record.{Record}
-use Rattle.terms.specs.declared.Row.{Row}
 use Rattle.terms.specs.declared.Fault.the-variants.{Accepted}
 use Rattle.terms.specs.Assignments.{every}
-use Rattle.terms.specs.Calls.{refusal}
 use Rattle.terms.specs.Faults.{firstFault}
 use Rattle.terms.specs.Counting.{NoLines}
 use Rattle.terms.specs.Table.{rowsOf, someRow, nextEquation, sameWord, evened, extract, sourcesOf, bitOf}

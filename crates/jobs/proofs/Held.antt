@@ -26,7 +26,7 @@ use Rattle.answers.specs.Pairs.{equalUnder}
 use Rattle.answers.specs.Never.{SomeLeft}
 use Rattle.answers.proofs.Agreement.{place-bit, fixed-bit}
 use Rattle.jobs.specs.Prefix.{upTo, holder, hostNumber, holders}
-use Rattle.jobs.specs.Claims.{FixedBefore, EqualBefore, HeldFixed, HeldLowest, LowestEqual}
+use Rattle.jobs.specs.Claims.{FixedBefore, HeldFixed, HeldLowest, LowestEqual}
 use Rattle.jobs.proofs.PrefixPairs.{up-bits}
 use Rattle.jobs.proofs.Meeting.{up-meets}
 

@@ -3,8 +3,8 @@
 use mathlib.Core.Path.{_≡_, refl, sym, _∙_, ap, ap₂, subst}
 use mathlib.Core.Bool.{true, false}
 use mathlib.Core.List.{List, [], _∷_, _++_}
-use mathlib.Core.Logic.{_⊎_, inl, inr, _≢_, ⊎-elim}
-use Prim.Native.Nat.{ℕ, zero, suc, _+_, _-_, _<_, _≤_, min}
+use mathlib.Core.Logic.{_≢_, ⊎-elim}
+use Prim.Native.Nat.{ℕ, zero, suc, _+_, _-_, _<_, _≤_}
 use native.Mathlib.Omega.{arith}
 use lib.ListN.{length, take, drop, length-take, length-drop, take-append-drop}
 use lib.Seq.{take-add, take-take}
@@ -24,7 +24,6 @@ use Rattle.answers.specs.Pairs.{Pair, paired, pairsOf, pairsIn, equationPairs, 
 use Rattle.answers.specs.Answer.{variableWidths}
 use Rattle.answers.specs.Solve.{unsatisfiable, pairsTogether, tiesTo}
 use Rattle.answers.specs.inner.Classes.{rep, runAll, conflictAt, linksBefore}
-use Rattle.answers.proofs.Equations.{pairs-same}
 use Rattle.answers.proofs.Revised.{same-pairs, alike-variables}
 use Rattle.answers.proofs.Tables.{pairs-length, is-never, is-left, all-ties}
 use Rattle.answers.proofs.Theorems.{links-before}

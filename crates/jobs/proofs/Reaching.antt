@@ -1,22 +1,22 @@
 -- Which jobs and work areas are states: at a row, the next one is that of an equation or the number of rows, a pattern is left, and ties and area are those of the
 -- equations before it; after a never they are those of the equations before that of the never. Assumes nothing.
 use mathlib.Core.Path.{_≡_, refl, sym, _∙_, ap}
-use mathlib.Core.Bool.{Bool, true, false, not, _&&_, cond}
+use mathlib.Core.Bool.{Bool, true, false, not, _&&_}
 use mathlib.Core.List.{List, [], _∷_}
-use mathlib.Core.Logic.{_⊎_, inl, inr, _≢_, ⊎-elim}
+use mathlib.Core.Logic.{_≢_, ⊎-elim}
 use Prim.Native.Nat.{ℕ, zero, suc, _+_, _-_, _<_, _≤_}
 use native.Mathlib.Omega.{arith}
 use lib.Dec.{eqb}
 use lib.ListN.{length}
 use borrow.Author.Tests.{eqb-true, eq-eqb, not-true, not-false}
 use Rattle.laws.specs.Lists.{below}
-use Rattle.laws.proofs.Bools.{not-both, and-parts, and-both, one-most}
+use Rattle.laws.proofs.Bools.{not-both, and-parts, one-most}
 use Rattle.laws.proofs.Numbers.{lt-or-le}
-use Rattle.laws.proofs.Tallies.{below-at, below-fails}
+use Rattle.laws.proofs.Tallies.{below-fails}
 use Rattle.terms.specs.declared.Row.{Row}
 use Rattle.terms.specs.declared.Fault.the-variants.{Accepted}
 use Rattle.terms.specs.Acceptance.{Exactly}
-use Rattle.terms.specs.Table.{rowsOf, rowAt, countKind, sameWord}
+use Rattle.terms.specs.Table.{rowsOf, countKind, sameWord}
 use Rattle.terms.specs.Faults.{firstFault}
 use Rattle.terms.specs.Counting.{NoLines}
 use Rattle.terms.proofs.AcceptedTable.{accepted-table}

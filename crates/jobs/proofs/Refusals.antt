@@ -1,30 +1,28 @@
 -- The refusals of a job's calls: in their order, and nothing lent is changed. Assumes nothing.
-use mathlib.Core.Path.{_≡_, refl, sym, _∙_, ap}
+use mathlib.Core.Path.{_≡_, refl, ap}
 use mathlib.Core.Logic.{_≢_}
-use mathlib.Core.Bool.{Bool, true, false, not, _||_, cond, or-true}
+use mathlib.Core.Bool.{Bool, true, false, or-true}
 use mathlib.Core.List.{List}
 use Prim.Native.Nat.{ℕ, suc, _<_, _≤_}
 use native.Mathlib.Omega.{arith}
-use lib.Dec.{eqb, ltb}
+use lib.Dec.{ltb}
 use lib.ListN.{length}
-use borrow.Author.Tests.{eqb-true, eq-eqb, ne-eqb, lt-ltb, le-ltb}
+use borrow.Author.Tests.{ne-eqb, lt-ltb, le-ltb}
 use Rattle.terms.specs.declared.Record.{Record}
 use Rattle.terms.specs.declared.Row.{Row}
 use Rattle.terms.specs.declared.Fault.the-variants.{Accepted}
-use Rattle.terms.specs.Calls.{refusal, stopAt, stopped}
-use Rattle.terms.specs.Counting.{IsLine, NoLines}
+use Rattle.terms.specs.Calls.{stopAt, stopped}
+use Rattle.terms.specs.Counting.{IsLine}
 use Rattle.terms.specs.Faults.{isAccepted, firstFault}
 use Rattle.terms.specs.Table.{rowsOf}
 use Rattle.terms.proofs.AcceptedTable.{fault-none}
 use Rattle.terms.proofs.Stopping.{goes-on}
 use Rattle.answers.specs.Solve.{valid, unsatisfiable, answerRecord}
 use Rattle.jobs.specs.Prefix.{upTo}
-use Rattle.jobs.specs.State.{stateAfter}
-use Rattle.jobs.specs.Call.{breaks43, breaks45, openStops, openRecord, openJob, openWork, stepStops, stepRecord, stepJob, stepWork, jobAnswerStops, jobAnswerRecord, jobAnswerAfter}
-use Rattle.jobs.specs.Course.{Lent, afterOpen, afterStep, stepTold, answerTold, answerLeft, afterSteps}
-use Rattle.jobs.specs.Refusals.{Order, Refuses, Untouched, NoneLeft}
+use Rattle.jobs.specs.Call.{breaks43, openStops, openRecord, openJob, openWork, stepStops, stepRecord, stepJob, stepWork, jobAnswerStops, jobAnswerRecord, jobAnswerAfter}
+use Rattle.jobs.specs.Course.{Lent, afterOpen, afterStep, stepTold, answerTold, answerLeft}
+use Rattle.jobs.specs.Refusals.{Refuses, Untouched}
 use Rattle.jobs.proofs.LineNumbers.{no-lines}
-use Rattle.jobs.proofs.Course.{after-is, step-told}
 
 -- an answer's outcome is 0, 1 or 2
 answer-outcome : (t : List Row) → answerRecord t .outcome ≤ 2
@@ -103,17 +101,3 @@ module _ (table : List ℕ) (lent : Lent) where
           let told : stepRecord table (lent .job .next) (lent .job .ties) (lent .work) ≡ accepted =
           unfold stepRecord in (goes-on (stepStops table (lent .job .next) (lent .job .ties) (lent .work)) accepted e) in
           absurd (omega (arith, answer-outcome (upTo (suc (lent .job .next)) (rowsOf table)), ap (λ (r : Record). r .outcome) told))
-
--- 45
-pub none-left : (table : List ℕ) → firstFault table ≡ Accepted → NoLines (rowsOf table) → (first : Lent) → 16384 ≤ length (first .work) → (k : ℕ) → NoneLeft table first k
-unfolding breaks45
-none-left table accepted none first room k =
-    rw (after-is table accepted none first room k)
-    (record { to = λ h. to (breaks45 (rowsOf table) next) refl (sym (step-told table accepted none first room k) ∙ h); of = λ e. step-told table accepted none first room k ∙ rw (eq-eqb next (length (rowsOf table)) e) })
-  where
-    next : ℕ
-    next = stateAfter (rowsOf table) k .next
-
-    to : (b : Bool) → breaks45 (rowsOf table) next ≡ b → cond (breaks45 (rowsOf table) next) (refusal 45 0) (answerRecord (upTo (suc next) (rowsOf table))) ≡ refusal 45 0 → next ≡ length (rowsOf table)
-    to true e q = eqb-true next (length (rowsOf table)) e
-    to false e q = let r = rw e at q in absurd (omega (arith, answer-outcome (upTo (suc next) (rowsOf table)), ap (λ (x : Record). x .outcome) r))

@@ -2,7 +2,7 @@
 use mathlib.Core.Path.{_≡_, refl, sym, _∙_, ap}
 use mathlib.Core.Bool.{Bool, true, false, _||_, or-true}
 use mathlib.Core.List.{List}
-use mathlib.Core.Logic.{_⊎_, inl, inr, _≢_, ⊎-elim}
+use mathlib.Core.Logic.{⊎-elim}
 use Prim.Native.Nat.{ℕ, zero, suc, _<_, _≤_}
 use native.Mathlib.Omega.{arith}
 use lib.Dec.{eqb, leb}
@@ -12,20 +12,18 @@ use Rattle.laws.proofs.Bools.{not-both}
 use Rattle.laws.proofs.Numbers.{lt-or-le}
 use Rattle.terms.specs.declared.Row.{Row}
 use Rattle.terms.specs.declared.Fault.the-variants.{Accepted}
-use Rattle.terms.specs.Table.{rowsOf, rowAt, countKind}
+use Rattle.terms.specs.Table.{rowsOf}
 use Rattle.terms.specs.Faults.{firstFault}
 use Rattle.terms.specs.Counting.{NoLines}
 use Rattle.terms.proofs.AcceptedTable.{accepted-table}
-use Rattle.answers.specs.Pairs.{equationPairs}
 use Rattle.answers.specs.Solve.{unsatisfiable, unsatRow, tiesTo}
-use Rattle.answers.specs.Never.{SomeLeft, NoneLeftAt}
 use Rattle.answers.specs.inner.Classes.{conflictAt}
 use Rattle.jobs.specs.Prefix.{upTo, equationFrom, holders}
 use Rattle.jobs.specs.State.{State, stateAt, opened, stepped, stateAfter, neverRow}
 use Rattle.jobs.specs.Claims.{equationRow, neverState, StateIs}
 use Rattle.jobs.proofs.Prefix.{up-next}
-use Rattle.jobs.proofs.PrefixPairs.{alone, up-left}
-use Rattle.jobs.proofs.Meeting.{left-before, left-some, some-left, none-never, never-behind, lost-at, unsat-row-is}
+use Rattle.jobs.proofs.PrefixPairs.{up-left}
+use Rattle.jobs.proofs.Meeting.{left-before, some-left, none-never, lost-at, unsat-row-is}
 use Rattle.jobs.proofs.EquationRows.{row-first, row-step, row-past, row-last, row-within, row-equation}
 
 -- a step goes on from a row of the table

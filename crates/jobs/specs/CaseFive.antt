@@ -1,6 +1,6 @@
 -- Document 01's case 5 as a job, all numbers: what each call returns and leaves, whatever job and work area were lent to the opening.
 use mathlib.Core.Path.{_≡_}
-use mathlib.Core.List.{List, [], _∷_, _++_}
+use mathlib.Core.List.{List, [], _∷_}
 use Prim.Native.Nat.{ℕ, _+_, _-_}
 use lib.ListN.{length, replicate}
 use Rattle.jobs.specs.Call.{openRecord}
