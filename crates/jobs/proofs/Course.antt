@@ -37,6 +37,7 @@ use Rattle.jobs.proofs.LineNumbers.{lines-none}
 use Rattle.jobs.proofs.Held.{holders-length}
 use Rattle.jobs.proofs.States.{step-never, step-end, step-on, step-lost, state-left, state-never}
 use Rattle.jobs.proofs.Reaching.{reach-to, reach-of}
+use Rattle.jobs.proofs.Refusals.{answer-outcome}
 
 -- ---- with no equation taken every pattern is left
 pub open-always : (t : List Row) → NoLines t → answerRecord (upTo 0 t) ≡ alwaysRecord (bitsOf t)
@@ -130,10 +131,6 @@ module _ (table : List ℕ) (accepted : firstFault table ≡ Accepted) (none : N
     unfolding answerTold jobAnswerRecord jobAnswerStops stopAt breaks44
     answer-told k answerRoom l = rw (area-room k, le-ltb (length (first .work)) 16384 room, le-ltb answerRoom 24576 l, accepted, plain, reached k)
 
-    -- an answer's outcome is no refusal
-    small : (r : ℕ) → answerRecord (upTo r t) .outcome ≤ 2
-    small r = rw (rows-written (upTo r t)) at (demand-3 (rowNumbers (upTo r t)) (up-accepted r table accepted) .one-of-three)
-
     -- 45 exactly where no equation is left
     pub none-left : (k : ℕ) → NoneLeft table first k
     unfolding breaks45
@@ -147,7 +144,7 @@ module _ (table : List ℕ) (accepted : firstFault table ≡ Accepted) (none : N
         to : (b : Bool) → breaks45 t (stateAfter t k .next) ≡ b
             → cond (breaks45 t (stateAfter t k .next)) (refusal 45 0) (answerRecord (upTo (suc (stateAfter t k .next)) t)) ≡ refusal 45 0 → stateAfter t k .next ≡ length t
         to true e q = eqb-true (stateAfter t k .next) (length t) e
-        to false e q = let r = rw e at q in absurd (omega (arith, small (suc (stateAfter t k .next)), ap (λ (x : Record). x .outcome) r))
+        to false e q = let r = rw e at q in absurd (omega (arith, answer-outcome (upTo (suc (stateAfter t k .next)) t), ap (λ (x : Record). x .outcome) r))
 
     module _ (lent : Lent) (same : length (lent .work) ≡ length (first .work)) where
       abbrev Never : Type 0
@@ -175,12 +172,12 @@ module _ (table : List ℕ) (accepted : firstFault table ≡ Accepted) (none : N
         where
           go : (b : Bool) → cond b (refusal 45 0) (answerRecord (upTo (suc (stateAfter t k .next)) t)) ≡ refusal 44 0 → ⊥
           go true q = let z : _≡_ {A = ℕ} 45 44 = ap (λ (x : Record). x .outcome) q in absurd (omega arith)
-          go false q = absurd (omega (arith, small (suc (stateAfter t k .next)), ap (λ (x : Record). x .outcome) q))
+          go false q = absurd (omega (arith, answer-outcome (upTo (suc (stateAfter t k .next)) t), ap (λ (x : Record). x .outcome) q))
 
       answer-not-44 : (k answerRoom : ℕ) → 24576 ≤ answerRoom → afterSteps table first k ≡ lent → answerTold table lent answerRoom ≡ refusal 44 0 → ⊥
       answer-not-44 k answerRoom l e h =
           let told : answerRecord (upTo (stateAfter t k .next) t) ≡ refusal 44 0 = sym (answer-told k answerRoom l) ∙ ap (λ (x : Lent). answerTold table x answerRoom) (sym (after-is k) ∙ e) ∙ h in
-          absurd (omega (arith, small (stateAfter t k .next), ap (λ (x : Record). x .outcome) told))
+          absurd (omega (arith, answer-outcome (upTo (stateAfter t k .next) t), ap (λ (x : Record). x .outcome) told))
 
       -- (b)
       pub reached-exactly : ReachedExactly table first lent

@@ -25,7 +25,7 @@ use Rattle.jobs.specs.Refusals.{Refuses, Untouched}
 use Rattle.jobs.proofs.LineNumbers.{no-lines}
 
 -- an answer's outcome is 0, 1 or 2
-answer-outcome : (t : List Row) → answerRecord t .outcome ≤ 2
+pub answer-outcome : (t : List Row) → answerRecord t .outcome ≤ 2
 unfolding answerRecord
 answer-outcome t = go (valid t) refl (unsatisfiable t) refl
   where
