@@ -41,6 +41,9 @@ below-false (suc n) f h = go (f n) refl h (below-false n f)
     go true e h r = let it = r h in (it .0, omega (arith, it .1), it .2)
     go false e h r = (n, omega arith, e)
 
+some-below : (n : ℕ) (f : ℕ → Bool) (k : ℕ) → k < n → f k ≡ true → not (below n (λ j. not (f j))) ≡ true
+some-below n f k l e = ap not (below-fails n (λ j. not (f j)) k l (ap not e))
+
 -- ---- the numbers of a state
 pub record Kept (s : State) (next ties : ℕ) (work : List ℕ) : Type 0 where
   pub next-is : s .next ≡ next
@@ -102,8 +105,7 @@ module _ (table : List ℕ) (accepted : firstFault table ≡ Accepted) (none : N
   -- ---- any number of steps
   small : (k next ties : ℕ) (work : List ℕ) → k ≤ length t → Kept (stateAfter t k) next ties work → reachable t next ties work ≡ true
   unfolding reachable
-  small k next ties work l s =
-      ap not (below-fails (suc (length t)) (λ k. not (isState (stateAfter t k) next ties work)) k (omega arith) (ap not (state-of (stateAfter t k) next ties work s)))
+  small k next ties work l s = some-below _ (λ j. isState (stateAfter t j) next ties work) k (omega arith) (state-of (stateAfter t k) next ties work s)
 
   pub reach-of : (k next ties : ℕ) (work : List ℕ) → Kept (stateAfter (rowsOf table) k) next ties work → reachable (rowsOf table) next ties work ≡ true
   reach-of k next ties work s =

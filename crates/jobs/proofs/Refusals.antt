@@ -34,6 +34,10 @@ answer-outcome t = go (valid t) refl (unsatisfiable t) refl
     go false e true f = rw (e, f) (omega arith)
     go false e false f = rw (e, f) (omega arith)
 
+-- a call that does not stop returns an answer's record
+goes-low : (stops : List (Bool × Record)) (t : List Row) → stopped stops ≡ false → 2 < stopAt stops (answerRecord t) .outcome → ⊥
+goes-low stops t e h = absurd (omega (arith, answer-outcome t, ap (λ (r : Record). r .outcome) (goes-on stops (answerRecord t) e)))
+
 -- a table that is not accepted, and an equation with a line number, are found
 refused : (table : List ℕ) → firstFault table ≢ Accepted → isAccepted (firstFault table) ≡ false
 refused table n = go (isAccepted (firstFault table)) refl
@@ -79,7 +83,7 @@ module _ (table : List ℕ) (lent : Lent) where
       }
 
   pub untouched : (old : List ℕ) → Untouched table lent old
-  unfolding afterOpen afterStep stepTold answerTold answerLeft openJob openWork stepJob stepWork jobAnswerAfter
+  unfolding openRecord stepRecord afterOpen afterStep stepTold answerTold answerLeft openJob openWork stepJob stepWork jobAnswerAfter
   untouched old =
       record {
         opening = λ h. opening (stopped (openStops table workRoom)) refl h;
@@ -89,15 +93,9 @@ module _ (table : List ℕ) (lent : Lent) where
     where
       opening : (b : Bool) → stopped (openStops table workRoom) ≡ b → 2 < openRecord table workRoom .outcome → afterOpen table lent ≡ lent
       opening true e h = rw e
-      opening false e h =
-          let told : openRecord table workRoom ≡ answerRecord (upTo 0 (rowsOf table)) = unfold openRecord in (goes-on (openStops table workRoom) (answerRecord (upTo 0 (rowsOf table))) e) in
-          absurd (omega (arith, answer-outcome (upTo 0 (rowsOf table)), ap (λ (r : Record). r .outcome) told))
+      opening false e h = absurd (goes-low (openStops table workRoom) _ e h)
 
       step : (b : Bool) → stopped (stepStops table (lent .job .next) (lent .job .ties) (lent .work)) ≡ b → 2 < stepRecord table (lent .job .next) (lent .job .ties) (lent .work) .outcome
           → afterStep table lent ≡ lent
       step true e h = rw e
-      step false e h =
-          let accepted = answerRecord (upTo (suc (lent .job .next)) (rowsOf table)) in
-          let told : stepRecord table (lent .job .next) (lent .job .ties) (lent .work) ≡ accepted =
-          unfold stepRecord in (goes-on (stepStops table (lent .job .next) (lent .job .ties) (lent .work)) accepted e) in
-          absurd (omega (arith, answer-outcome (upTo (suc (lent .job .next)) (rowsOf table)), ap (λ (r : Record). r .outcome) told))
+      step false e h = absurd (goes-low (stepStops table (lent .job .next) (lent .job .ties) (lent .work)) _ e h)
