@@ -96,7 +96,8 @@ module _ (table : List ℕ) (accepted : firstFault table ≡ Accepted) (none : N
 
     state-told : (k : ℕ) → stateOf t (stateAfter t k .next) (stateAfter t k .ties) (area k) ≡ stateAfter t k
     state-told k =
-        ap (λ (h : List ℕ). record { next = stateAfter t k .next; ties = stateAfter t k .ties; holders = h }) (area-holders (length (first .work)) (bitsOf t) (stateAfter t k .holders) (state-holders k))
+        ap (λ (h : List ℕ). record { next = stateAfter t k .next; ties = stateAfter t k .ties; holders = h })
+        (area-holders (length (first .work)) (bitsOf t) (stateAfter t k .holders) (state-holders k))
 
     open-goes : stopped (openStops table (length (first .work))) ≡ false
     unfolding openStops stopped
@@ -123,7 +124,8 @@ module _ (table : List ℕ) (accepted : firstFault table ≡ Accepted) (none : N
     after-is (suc k) = ap (afterStep table) (after-is k) ∙ one-step k
 
     -- ---- the records of the calls at a state
-    pub step-told : (k : ℕ) → stepTold table (lentAt k) ≡ cond (breaks45 (rowsOf table) (stateAfter (rowsOf table) k .next)) (refusal 45 0) (answerRecord (upTo (suc (stateAfter (rowsOf table) k .next)) (rowsOf table)))
+    pub step-told : (k : ℕ) → stepTold table (lentAt k)
+        ≡ cond (breaks45 (rowsOf table) (stateAfter (rowsOf table) k .next)) (refusal 45 0) (answerRecord (upTo (suc (stateAfter (rowsOf table) k .next)) (rowsOf table)))
     unfolding stepTold stepRecord stepStops stopAt breaks44
     step-told k = rw (area-room k, le-ltb (length (first .work)) 16384 room, accepted, plain, reached k)
 
@@ -176,7 +178,8 @@ module _ (table : List ℕ) (accepted : firstFault table ≡ Accepted) (none : N
 
       answer-not-44 : (k answerRoom : ℕ) → 24576 ≤ answerRoom → afterSteps table first k ≡ lent → answerTold table lent answerRoom ≡ refusal 44 0 → ⊥
       answer-not-44 k answerRoom l e h =
-          let told : answerRecord (upTo (stateAfter t k .next) t) ≡ refusal 44 0 = sym (answer-told k answerRoom l) ∙ ap (λ (x : Lent). answerTold table x answerRoom) (sym (after-is k) ∙ e) ∙ h in
+          let told : answerRecord (upTo (stateAfter t k .next) t) ≡ refusal 44 0 =
+          sym (answer-told k answerRoom l) ∙ ap (λ (x : Lent). answerTold table x answerRoom) (sym (after-is k) ∙ e) ∙ h in
           absurd (omega (arith, answer-outcome (upTo (stateAfter t k .next) t), ap (λ (x : Record). x .outcome) told))
 
       -- (b)
@@ -317,7 +320,8 @@ module _ (table : List ℕ) (accepted : firstFault table ≡ Accepted) (none : N
                   let lost = never-at t none u in
                   let at : stateAfter t k .next ≡ equationRow t k = next-row k e in
                   let here : equationRow t k ≡ unsatRow t =
-                  ⊎-elim (λ m. absurd (lost .none-with (some-before t none (suc (unsatRow t)) (equationRow t k) (omega arith) (left-some t none (equationRow t k) e)))) (λ m. omega arith) (lt-or-le (unsatRow t) (equationRow t k)) in
+                  ⊎-elim (λ m. absurd (lost .none-with (some-before t none (suc (unsatRow t)) (equationRow t k) (omega arith) (left-some t none (equationRow t k) e))))
+                  (λ m. omega arith) (lt-or-le (unsatRow t) (equationRow t k)) in
                   let there : stateAfter t k .next ≡ unsatRow t = at ∙ here in
                   step-goes k (λ h. absurd (omega (arith, lost .counts .in-table, there)))
                   ∙ ap (λ (r : ℕ). answerRecord (upTo (suc r) t)) there

@@ -116,7 +116,8 @@ module _ (table : List ℕ) (accepted : firstFault table ≡ Accepted) (none : N
       let len : length (drop 2 c) ≡ bitsOf (rowsOf table) = tail-length c (bitsOf t) (represent (rowNumbers u) ok .len ∙ rw (read, up-bits r t)) in
       let all : roots 2 (drop 2 c) + tiesTo u (length u) ≡ bitsOf (rowsOf table) = rw (read, up-bits r t) at (roots-ties (rowNumbers u) ok left) in
       let ties : tiesTo u (length u) ≡ tiesTo t r = ap (tiesTo u) (up-count r t) ∙ up-ties-all r t none in
-      let count : roots 2 (drop 2 c) ≡ tally (bitsOf t) (λ i. eqb (getD (drop 2 c) i 0) (2 + i)) = roots-tally 2 (drop 2 c) (λ i. eqb (getD (drop 2 c) i 0) (2 + i)) (λ i. refl) ∙ ap (λ (n : ℕ). tally n (λ i. eqb (getD (drop 2 c) i 0) (2 + i))) len in
+      let count : roots 2 (drop 2 c) ≡ tally (bitsOf t) (λ i. eqb (getD (drop 2 c) i 0) (2 + i)) =
+      roots-tally 2 (drop 2 c) (λ i. eqb (getD (drop 2 c) i 0) (2 + i)) (λ i. refl) ∙ ap (λ (n : ℕ). tally n (λ i. eqb (getD (drop 2 c) i 0) (2 + i))) len in
       let mine : tally (bitsOf t) (λ i. eqb (getD (drop 2 c) i 0) (2 + i)) ≡ tally (bitsOf t) (λ i. eqb (getD (holders u) i 0) i) =
       tally-ext (bitsOf t) (λ i. eqb (getD (drop 2 c) i 0) (2 + i)) (λ i. eqb (getD (holders u) i 0) i)
       (λ i l.

@@ -103,8 +103,19 @@ module _ (t : List Row) (none : NoLines t) where
       let inside : r < length (upTo (suc r) t) = omega (arith, at .counts .in-table, up-count (suc r) t) in
       record {
         counts = plain-counts (upTo (suc r) t) (up-lines (suc r) t none) r inside (rw row (at .counts .is-equation));
-        some-before = record { pattern = at .some-before .pattern; bits = rw (up-bits (suc r) t) (at .some-before .bits); meets = across r (omega arith) (at .some-before .pattern) .of (at .some-before .meets) };
-        none-with = λ some. at .none-with (record { pattern = some .pattern; bits = rw (up-bits (suc r) t) at (some .bits); meets = across (suc r) (omega arith) (some .pattern) .to (some .meets) });
+        some-before =
+            record {
+              pattern = at .some-before .pattern;
+              bits = rw (up-bits (suc r) t) (at .some-before .bits);
+              meets = across r (omega arith) (at .some-before .pattern) .of (at .some-before .meets);
+            };
+        none-with = λ some.
+            at .none-with
+            (record {
+              pattern = some .pattern;
+              bits = rw (up-bits (suc r) t) at (some .bits);
+              meets = across (suc r) (omega arith) (some .pattern) .to (some .meets);
+            });
       }
     where
       across : (n : ℕ) → n ≤ suc r → (p : List ℕ) → Exactly (MeetsBefore (upTo (suc r) t) n p) (MeetsBefore t n p)

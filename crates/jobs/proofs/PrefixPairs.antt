@@ -9,6 +9,7 @@ use native.Mathlib.Omega.{arith}
 use lib.ListN.{length, take, drop, length-take, length-drop, take-append-drop}
 use lib.Seq.{take-add, take-take}
 use Rattle.laws.specs.Lists.{countUp}
+use Rattle.laws.proofs.Bools.{not-both}
 use Rattle.laws.proofs.Numbers.{lt-or-le}
 use Rattle.laws.proofs.CountUp.{count-at}
 use Rattle.terms.specs.declared.Row.{Row}
@@ -218,7 +219,7 @@ module _ (table : List ℕ) (accepted : firstFault table ≡ Accepted) (none : N
   up-never m = rw read at (is-never numbers ok (rw read (omega (arith, up-conflict-met r t none l m, up-count r t))))
 
   pub left-up : unsatisfiable (upTo r (rowsOf table)) ≡ false → conflictAt (alone (rowsOf table)) (take r (equationPairs (rowsOf table))) ≡ r
-  left-up h = ⊎-elim (λ m. let z : false ≡ true = sym h ∙ up-never m in let y : _≡_ {A = ℕ} 0 1 = cc in absurd (omega arith)) (λ m. omega (arith, conflict-most r t none l)) (lt-or-le (conflictAt (alone t) (take r es)) r)
+  left-up h = ⊎-elim (λ m. absurd (not-both (up-never m) h)) (λ m. omega (arith, conflict-most r t none l)) (lt-or-le (conflictAt (alone t) (take r es)) r)
 
   -- the links are the ties
   pub links-ties : unsatisfiable (upTo r (rowsOf table)) ≡ false → linksBefore (alone (rowsOf table)) (take r (equationPairs (rowsOf table))) ≡ tiesTo (rowsOf table) r

@@ -3,7 +3,7 @@ use mathlib.Core.Path.{_≡_, refl, ap}
 use mathlib.Core.Logic.{_≢_}
 use mathlib.Core.Bool.{Bool, true, false, or-true}
 use mathlib.Core.List.{List}
-use Prim.Native.Nat.{ℕ, suc, _<_, _≤_}
+use Prim.Native.Nat.{ℕ, _<_, _≤_}
 use native.Mathlib.Omega.{arith}
 use lib.Dec.{ltb}
 use lib.ListN.{length}
@@ -18,7 +18,6 @@ use Rattle.terms.specs.Table.{rowsOf}
 use Rattle.terms.proofs.AcceptedTable.{fault-none}
 use Rattle.terms.proofs.Stopping.{goes-on}
 use Rattle.answers.specs.Solve.{valid, unsatisfiable, answerRecord}
-use Rattle.jobs.specs.Prefix.{upTo}
 use Rattle.jobs.specs.Call.{breaks43, openStops, openRecord, openJob, openWork, stepStops, stepRecord, stepJob, stepWork, jobAnswerStops, jobAnswerRecord, jobAnswerAfter}
 use Rattle.jobs.specs.Course.{Lent, afterOpen, afterStep, stepTold, answerTold, answerLeft}
 use Rattle.jobs.specs.Refusals.{Refuses, Untouched}

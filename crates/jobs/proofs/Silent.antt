@@ -82,7 +82,9 @@ all-silent-links c (further {e} {es} s a) = rw (run-silent c s, links-silent c s
 -- ---- the ties
 itself-equal : (n : ℕ) (seen : List Pair) (s u : ℕ) → s ≡ u → equals n seen s u ≡ true
 unfolding equalUnder
-itself-equal n seen s u e = every-of n (λ p. not (satisfiesPairs p seen) || eqb (bitOf p s) (bitOf p u)) (λ p a. rw (eq-eqb (bitOf p s) (bitOf p u) (ap (bitOf p) e)) (or-true (not (satisfiesPairs p seen))))
+itself-equal n seen s u e =
+    every-of n (λ p. not (satisfiesPairs p seen) || eqb (bitOf p s) (bitOf p u))
+    (λ p a. rw (eq-eqb (bitOf p s) (bitOf p u) (ap (bitOf p) e)) (or-true (not (satisfiesPairs p seen))))
 
 silent-ties : (n : ℕ) (seen : List Pair) {qs : List Pair} → Silent qs → ties n seen qs ≡ 0
 unfolding ties

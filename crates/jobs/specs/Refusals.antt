@@ -14,7 +14,7 @@ use Rattle.terms.specs.Table.{rowsOf}
 use Rattle.jobs.specs.Call.{openRecord}
 use Rattle.jobs.specs.Course.{Lent, afterOpen, afterStep, stepTold, answerTold, answerLeft, afterSteps}
 
--- A call that has room, or has not, and returns this record: first the table's refusals, then 43.
+-- What a call with room returns: first the refusals of its table, then 43.
 pub record Order (table : List ℕ) (told : Record) : Type 0 where
   pub of-table : firstFault table ≢ Accepted → told ≡ faultRecord (firstFault table)
   pub line-number : firstFault table ≡ Accepted → (n r : ℕ) → 0 < n → IsLine (rowsOf table) r n → told ≡ refusal 43 0
