@@ -1,48 +1,43 @@
 -- The calls of a job one after the other: (b) which jobs and work areas are refused 44, (c) what all steps come to, (d) what the answer so far is. Assumes nothing.
-use mathlib.Core.Path.{_≡_, refl, sym, _∙_, ap, ap₂, subst}
+use mathlib.Core.Path.{_≡_, refl, sym, _∙_, ap, ap₂}
 use mathlib.Core.Logic.{_⊎_, inl, inr, _≢_, ⊎-elim}
-use mathlib.Core.Bool.{Bool, true, false, not, _||_, cond, or-false}
-use mathlib.Core.List.{List, [], _∷_, _++_}
-use Prim.Native.Nat.{ℕ, zero, suc, _+_, _-_, _<_, _≤_}
+use mathlib.Core.Bool.{Bool, true, false, not, cond, or-false}
+use mathlib.Core.List.{List}
+use Prim.Native.Nat.{ℕ, zero, suc, _-_, _<_, _≤_}
 use native.Mathlib.Omega.{arith}
-use lib.Dec.{eqb, ltb}
 use lib.ListN.{length, take, replicate, length-append, length-replicate}
 use lib.Seq.{take-at}
-use borrow.Author.Tests.{eqb-true, eqb-false, eq-eqb, ne-eqb, le-ltb}
-use Rattle.laws.specs.Buffers.{overwrite}
-use Rattle.laws.proofs.Bools.{not-both}
+use borrow.Author.Tests.{eqb-true, eq-eqb, ne-eqb, le-ltb}
 use Rattle.laws.proofs.Numbers.{lt-or-le}
 use Rattle.terms.specs.declared.Record.{Record}
 use Rattle.terms.specs.declared.Row.{Row}
 use Rattle.terms.specs.declared.Fault.the-variants.{Accepted}
-use Rattle.terms.specs.Acceptance.{Exactly}
 use Rattle.terms.specs.Assignments.{every}
-use Rattle.terms.specs.Calls.{refusal, faultRecord, stopAt, stopped}
-use Rattle.terms.specs.Faults.{isAccepted, firstFault}
-use Rattle.terms.specs.Table.{rowsOf, rowNumbers, rowAt, bitsOf, countKind, allRows, satisfies}
+use Rattle.terms.specs.Calls.{refusal, stopAt, stopped}
+use Rattle.terms.specs.Faults.{firstFault}
+use Rattle.terms.specs.Table.{rowsOf, rowNumbers, bitsOf, countKind, allRows, satisfies}
 use Rattle.terms.specs.Counting.{NoLines}
 use Rattle.terms.proofs.AcceptedTable.{accepted-table, table-bits}
 use Rattle.terms.proofs.Assignments.{every-of}
 use Rattle.terms.proofs.RowNumbers.{rows-written}
-use Rattle.answers.specs.Answer.{answerNumbers}
-use Rattle.answers.specs.Demands.{Demand2, Demand3}
-use Rattle.answers.specs.Never.{SomeLeft, NoneLeftAt}
-use Rattle.answers.specs.Solve.{valid, unsatisfiable, unsatRow, solvedRows, alwaysRecord, answerRecord, solveRecord, answerAfter}
+use Rattle.answers.specs.Solve.{valid, unsatisfiable, unsatRow, alwaysRecord, answerRecord, solveRecord, answerAfter}
 use Rattle.answers.proofs.Demands.{demand-2, demand-3}
 use Rattle.jobs.specs.declared.Job.{Job}
-use Rattle.jobs.specs.Prefix.{upTo, equationFrom, holders}
+use Rattle.jobs.specs.Prefix.{upTo, holders}
 use Rattle.jobs.specs.State.{State, stateAt, opened, stepped, stateAfter, areaOf, reachable, neverRow}
 use Rattle.jobs.specs.Call.{breaks43, breaks44, breaks45, jobOf, stateOf, openStops, openRecord, openJob, openWork, stepStops, stepRecord, stepJob, stepWork, jobAnswerStops, jobAnswerRecord, jobAnswerAfter}
-use Rattle.jobs.specs.Claims.{equationRow, neverState}
+use Rattle.jobs.specs.Claims.{equationRow}
 use Rattle.jobs.specs.Course.{Lent, afterOpen, afterStep, stepTold, answerTold, answerLeft, afterSteps, soFar, ReachedExactly, AllSteps, AnswerSoFar, OpensAlways}
+use Rattle.jobs.specs.Refusals.{NoneLeft}
 use Rattle.jobs.proofs.Prefix.{up-past, up-next, up-accepted, up-satisfies}
 use Rattle.jobs.proofs.PrefixPairs.{up-bits}
 use Rattle.jobs.proofs.Meeting.{left-some, some-before, lost-at, never-at, lost-record}
-use Rattle.jobs.proofs.EquationRows.{row-equation, row-step, row-within, row-last, row-past}
+use Rattle.jobs.proofs.EquationRows.{row-equation, row-within, row-last, row-past}
 use Rattle.jobs.proofs.LineNumbers.{lines-none}
-use Rattle.jobs.proofs.Holders.{holders-length}
+use Rattle.jobs.proofs.Held.{holders-length}
 use Rattle.jobs.proofs.States.{step-never, step-end, step-on, step-lost, state-left, state-never}
-use Rattle.jobs.proofs.Reaching.{Kept, reach-to, reach-of}
+use Rattle.jobs.proofs.Reaching.{reach-to, reach-of}
+use Rattle.jobs.proofs.Refusals.{answer-outcome}
 
 -- ---- with no equation taken every pattern is left
 pub open-always : (t : List Row) → NoLines t → answerRecord (upTo 0 t) ≡ alwaysRecord (bitsOf t)
@@ -50,6 +45,11 @@ unfolding answerRecord valid allRows
 open-always t none =
     let all : every (bitsOf (upTo 0 t)) (satisfies (upTo 0 t)) ≡ true = every-of (bitsOf (upTo 0 t)) (satisfies (upTo 0 t)) (λ p a. up-satisfies 0 t none p) in
     rw all (ap alwaysRecord (up-bits 0 t))
+
+-- after a never a step is not refused 45
+pub never-steps : (t : List Row) → length t ≤ 512 → breaks45 t neverRow ≡ false
+unfolding breaks45
+never-steps t few = ne-eqb 1000 (length t) (omega arith)
 
 -- ---- the work area
 pub area-length : (room : ℕ) (held : List ℕ) → length held ≤ room → length (areaOf room held) ≡ room
@@ -96,7 +96,8 @@ module _ (table : List ℕ) (accepted : firstFault table ≡ Accepted) (none : N
 
     state-told : (k : ℕ) → stateOf t (stateAfter t k .next) (stateAfter t k .ties) (area k) ≡ stateAfter t k
     state-told k =
-        ap (λ (h : List ℕ). record { next = stateAfter t k .next; ties = stateAfter t k .ties; holders = h }) (area-holders (length (first .work)) (bitsOf t) (stateAfter t k .holders) (state-holders k))
+        ap (λ (h : List ℕ). record { next = stateAfter t k .next; ties = stateAfter t k .ties; holders = h })
+        (area-holders (length (first .work)) (bitsOf t) (stateAfter t k .holders) (state-holders k))
 
     open-goes : stopped (openStops table (length (first .work))) ≡ false
     unfolding openStops stopped
@@ -123,7 +124,8 @@ module _ (table : List ℕ) (accepted : firstFault table ≡ Accepted) (none : N
     after-is (suc k) = ap (afterStep table) (after-is k) ∙ one-step k
 
     -- ---- the records of the calls at a state
-    pub step-told : (k : ℕ) → stepTold table (lentAt k) ≡ cond (breaks45 (rowsOf table) (stateAfter (rowsOf table) k .next)) (refusal 45 0) (answerRecord (upTo (suc (stateAfter (rowsOf table) k .next)) (rowsOf table)))
+    pub step-told : (k : ℕ) → stepTold table (lentAt k)
+        ≡ cond (breaks45 (rowsOf table) (stateAfter (rowsOf table) k .next)) (refusal 45 0) (answerRecord (upTo (suc (stateAfter (rowsOf table) k .next)) (rowsOf table)))
     unfolding stepTold stepRecord stepStops stopAt breaks44
     step-told k = rw (area-room k, le-ltb (length (first .work)) 16384 room, accepted, plain, reached k)
 
@@ -131,9 +133,20 @@ module _ (table : List ℕ) (accepted : firstFault table ≡ Accepted) (none : N
     unfolding answerTold jobAnswerRecord jobAnswerStops stopAt breaks44
     answer-told k answerRoom l = rw (area-room k, le-ltb (length (first .work)) 16384 room, le-ltb answerRoom 24576 l, accepted, plain, reached k)
 
-    -- an answer's outcome is no refusal
-    small : (r : ℕ) → answerRecord (upTo r t) .outcome ≤ 2
-    small r = rw (rows-written (upTo r t)) at (demand-3 (rowNumbers (upTo r t)) (up-accepted r table accepted) .one-of-three)
+    -- 45 exactly where no equation is left
+    pub none-left : (k : ℕ) → NoneLeft table first k
+    unfolding breaks45
+    none-left k =
+        rw (after-is k)
+        (record {
+          to = λ h. to (breaks45 t (stateAfter t k .next)) refl (sym (step-told k) ∙ h);
+          of = λ e. step-told k ∙ rw (eq-eqb (stateAfter t k .next) (length t) e);
+        })
+      where
+        to : (b : Bool) → breaks45 t (stateAfter t k .next) ≡ b
+            → cond (breaks45 t (stateAfter t k .next)) (refusal 45 0) (answerRecord (upTo (suc (stateAfter t k .next)) t)) ≡ refusal 45 0 → stateAfter t k .next ≡ length t
+        to true e q = eqb-true (stateAfter t k .next) (length t) e
+        to false e q = let r = rw e at q in absurd (omega (arith, answer-outcome (upTo (suc (stateAfter t k .next)) t), ap (λ (x : Record). x .outcome) r))
 
     module _ (lent : Lent) (same : length (lent .work) ≡ length (first .work)) where
       abbrev Never : Type 0
@@ -161,12 +174,13 @@ module _ (table : List ℕ) (accepted : firstFault table ≡ Accepted) (none : N
         where
           go : (b : Bool) → cond b (refusal 45 0) (answerRecord (upTo (suc (stateAfter t k .next)) t)) ≡ refusal 44 0 → ⊥
           go true q = let z : _≡_ {A = ℕ} 45 44 = ap (λ (x : Record). x .outcome) q in absurd (omega arith)
-          go false q = absurd (omega (arith, small (suc (stateAfter t k .next)), ap (λ (x : Record). x .outcome) q))
+          go false q = absurd (omega (arith, answer-outcome (upTo (suc (stateAfter t k .next)) t), ap (λ (x : Record). x .outcome) q))
 
       answer-not-44 : (k answerRoom : ℕ) → 24576 ≤ answerRoom → afterSteps table first k ≡ lent → answerTold table lent answerRoom ≡ refusal 44 0 → ⊥
       answer-not-44 k answerRoom l e h =
-          let told : answerRecord (upTo (stateAfter t k .next) t) ≡ refusal 44 0 = sym (answer-told k answerRoom l) ∙ ap (λ (x : Lent). answerTold table x answerRoom) (sym (after-is k) ∙ e) ∙ h in
-          absurd (omega (arith, small (stateAfter t k .next), ap (λ (x : Record). x .outcome) told))
+          let told : answerRecord (upTo (stateAfter t k .next) t) ≡ refusal 44 0 =
+          sym (answer-told k answerRoom l) ∙ ap (λ (x : Lent). answerTold table x answerRoom) (sym (after-is k) ∙ e) ∙ h in
+          absurd (omega (arith, answer-outcome (upTo (stateAfter t k .next) t), ap (λ (x : Record). x .outcome) told))
 
       -- (b)
       pub reached-exactly : ReachedExactly table first lent
@@ -306,7 +320,8 @@ module _ (table : List ℕ) (accepted : firstFault table ≡ Accepted) (none : N
                   let lost = never-at t none u in
                   let at : stateAfter t k .next ≡ equationRow t k = next-row k e in
                   let here : equationRow t k ≡ unsatRow t =
-                  ⊎-elim (λ m. absurd (lost .none-with (some-before t none (suc (unsatRow t)) (equationRow t k) (omega arith) (left-some t none (equationRow t k) e)))) (λ m. omega arith) (lt-or-le (unsatRow t) (equationRow t k)) in
+                  ⊎-elim (λ m. absurd (lost .none-with (some-before t none (suc (unsatRow t)) (equationRow t k) (omega arith) (left-some t none (equationRow t k) e))))
+                  (λ m. omega arith) (lt-or-le (unsatRow t) (equationRow t k)) in
                   let there : stateAfter t k .next ≡ unsatRow t = at ∙ here in
                   step-goes k (λ h. absurd (omega (arith, lost .counts .in-table, there)))
                   ∙ ap (λ (r : ℕ). answerRecord (upTo (suc r) t)) there

@@ -2,7 +2,7 @@
 use mathlib.Core.Path.{_≡_, refl, sym, _∙_, ap}
 use mathlib.Core.Bool.{Bool, true, false, cond}
 use mathlib.Core.List.{List, [], _∷_}
-use mathlib.Core.Logic.{_⊎_, inl, inr, _≢_, ⊎-elim}
+use mathlib.Core.Logic.{_≢_, ⊎-elim}
 use Prim.Native.Nat.{ℕ, zero, suc, _+_, _-_, _<_, _≤_}
 use native.Mathlib.Omega.{arith}
 use lib.Dec.{eqb}
@@ -85,7 +85,10 @@ module _ (t : List Row) where
   row-of r l e =
       least-at (λ i. eqb (before t (suc i)) (suc (before t r))) 0 (length t) r l
       (λ h. let z : 0 + r ≡ r = omega arith in rw z (eq-eqb (before t (suc r)) (suc (before t r)) (before-equation r h (e h))))
-      (λ m a b. ne-eqb (before t (suc m)) (suc (before t r)) (let d : suc m + (r - suc m) ≡ r = omega arith in let k : before t (suc m) ≤ before t r = rw d at (before-rises (suc m) (r - suc m) (omega arith)) in λ q. omega arith))
+      (λ m a b.
+      let d : suc m + (r - suc m) ≡ r = omega arith in
+      let k : before t (suc m) ≤ before t r = rw d at (before-rises (suc m) (r - suc m) (omega arith)) in
+      ne-eqb (before t (suc m)) (suc (before t r)) (λ q. omega arith))
       ∙ omega arith
 
   pub row-next : (r : ℕ) → r ≤ length t → equationRow t (before t r) ≡ equationFrom t r

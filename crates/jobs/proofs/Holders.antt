@@ -1,39 +1,39 @@
--- What holds each place of a table: the representatives of its bits, as a host reads them. Assumes nothing.
+-- What holds each place, by classes: the representatives of a table's bits, as a host reads them. And (f): ties and places that hold themselves add up to the
+-- variable bits. Assumes nothing.
 use mathlib.Core.Path.{_≡_, refl, sym, _∙_, ap, fun-ext}
 use mathlib.Core.Bool.{Bool, true, false}
 use mathlib.Core.List.{List, [], _∷_, map, reverse}
-use Prim.Native.Nat.{ℕ, zero, suc, _+_, _-_, _<_, _≤_}
+use mathlib.Core.Logic.{⊎-elim}
+use Prim.Native.Nat.{ℕ, suc, _+_, _-_, _<_, _≤_}
 use native.Mathlib.Omega.{arith}
 use lib.Dec.{eqb}
-use lib.ListN.{length, getD, take, drop, length-map}
-use borrow.Author.Tests.{eq-eqb, ne-eqb}
-use Rattle.laws.specs.Lists.{countUp, least}
+use lib.ListN.{length, getD, take, drop}
+use borrow.Author.Tests.{eqb-true, eq-eqb, ne-eqb, lt-ltb, le-ltb}
+use Rattle.laws.specs.Lists.{countUp, least, tally}
+use Rattle.laws.proofs.Bools.{same-test}
 use Rattle.laws.proofs.Least.{least-is}
-use Rattle.laws.proofs.Lists.{read-places}
-use Rattle.laws.proofs.CountUp.{count-up, count-read}
-use Rattle.laws.proofs.Numbers.{two}
+use Rattle.laws.proofs.Lists.{read-places, tail-length, tail-at}
+use Rattle.laws.proofs.Numbers.{lt-or-le}
+use Rattle.laws.proofs.Tallies.{tally-ext}
 use Rattle.terms.specs.declared.Row.{Row}
 use Rattle.terms.specs.declared.Fault.the-variants.{Accepted}
-use Rattle.terms.specs.Table.{rowsOf, rowNumbers, bitsOf, satisfies}
+use Rattle.terms.specs.Table.{rowsOf, rowNumbers, bitsOf}
 use Rattle.terms.specs.Faults.{firstFault}
 use Rattle.terms.specs.Counting.{NoLines}
+use Rattle.terms.proofs.AcceptedTable.{table-bits}
 use Rattle.terms.proofs.RowNumbers.{rows-written}
-use Rattle.answers.specs.Pairs.{Pair, equationPairs, equalUnder}
-use Rattle.answers.specs.Solve.{unsatisfiable, pairsTogether}
-use Rattle.answers.specs.inner.Classes.{rep, inClass, runAll, Represents}
-use Rattle.answers.proofs.Tables.{tableClasses, classes-run, represent, apart-one, same-relation}
+use Rattle.answers.specs.Pairs.{equationPairs}
+use Rattle.answers.specs.Solve.{unsatisfiable, pairsTogether, tiesTo}
+use Rattle.answers.specs.Never.{SomeLeft}
+use Rattle.answers.specs.inner.Classes.{rep, inClass, runAll, roots, Represents}
+use Rattle.answers.proofs.FreeBits.{roots-tally}
+use Rattle.answers.proofs.Tables.{tableClasses, classes-run, represent, same-relation, roots-ties}
 use Rattle.jobs.specs.Prefix.{upTo, holder, hostNumber, holders}
-use Rattle.jobs.proofs.Prefix.{up-accepted}
-use Rattle.jobs.proofs.PrefixPairs.{alone, up-bits, up-run}
-
--- ---- as many as there are places
-pub holders-length : (t : List Row) → length (holders t) ≡ bitsOf t
-unfolding holders
-holders-length t = length-map (countUp 2 (bitsOf t)) (λ s. hostNumber (holder t s)) ∙ count-up 2 (bitsOf t)
-
-pub holders-at : (t : List Row) (i : ℕ) → i < bitsOf t → getD (holders t) i 0 ≡ hostNumber (holder t (suc (suc i)))
-unfolding holders
-holders-at t i l = count-read (λ s. hostNumber (holder t s)) 2 (bitsOf t) i 0 l ∙ ap (λ (s : ℕ). hostNumber (holder t s)) (two i)
+use Rattle.jobs.specs.Claims.{TiesAndOwn}
+use Rattle.jobs.proofs.Prefix.{up-count, up-accepted}
+use Rattle.jobs.proofs.PrefixPairs.{alone, up-bits, up-run, up-ties-all}
+use Rattle.jobs.proofs.Meeting.{some-left}
+use Rattle.jobs.proofs.Held.{holders-at}
 
 -- ---- by the classes of an accepted table that some pattern satisfies
 module _ (table : List ℕ) (accepted : firstFault table ≡ Accepted) (some : unsatisfiable (rowsOf table) ≡ false) where
@@ -80,3 +80,47 @@ up-holders table accepted none r l some =
     let by = holders-classes (rowNumbers (upTo r t)) ok (rw read some) in
     let run : tableClasses (rowNumbers (upTo r t)) ok ≡ runAll (alone t) (take r (equationPairs t)) = classes-run (rowNumbers (upTo r t)) ok ∙ rw read (up-run r t none l) in
     ap holders (sym read) ∙ by ∙ ap (λ (d : List ℕ). map hostNumber (drop 2 d)) run
+
+-- a source as a host reads it
+pub host-fixed : (s : ℕ) → s < 2 → hostNumber s ≡ 4096 + s
+unfolding hostNumber
+host-fixed s l = rw (lt-ltb s 2 l)
+
+pub host-place : (s : ℕ) → 2 ≤ s → hostNumber s ≡ s - 2
+unfolding hostNumber
+host-place s l = rw (le-ltb s 2 l)
+
+-- ---- (f)
+own : (i x : ℕ) → i < 4096 → eqb x (2 + i) ≡ eqb (hostNumber x) i
+own i x l = same-test (eqb x (2 + i)) (eqb (hostNumber x) i) to of
+  where
+    to : eqb x (2 + i) ≡ true → eqb (hostNumber x) i ≡ true
+    to h = let e = eqb-true x (2 + i) h in eq-eqb (hostNumber x) i (host-place x (omega arith) ∙ omega arith)
+
+    of : eqb (hostNumber x) i ≡ true → eqb x (2 + i) ≡ true
+    of h =
+        let e = eqb-true (hostNumber x) i h in
+        ⊎-elim (λ m. absurd (omega (arith, host-fixed x m))) (λ m. eq-eqb x (2 + i) (omega (arith, host-place x m))) (lt-or-le x 2)
+
+module _ (table : List ℕ) (accepted : firstFault table ≡ Accepted) (none : NoLines (rowsOf table)) (r : ℕ) (some : SomeLeft (rowsOf table) r) where
+  abbrev u : List Row
+  u = upTo r (rowsOf table)
+
+  pub ties-and-own : TiesAndOwn (rowsOf table) r
+  ties-and-own =
+      let t = rowsOf table in
+      let read = rows-written u in
+      let ok = up-accepted r table accepted in
+      let left : unsatisfiable (rowsOf (rowNumbers u)) ≡ false = rw read (some-left t none r some) in
+      let c = tableClasses (rowNumbers u) ok in
+      let len : length (drop 2 c) ≡ bitsOf (rowsOf table) = tail-length c (bitsOf t) (represent (rowNumbers u) ok .len ∙ rw (read, up-bits r t)) in
+      let all : roots 2 (drop 2 c) + tiesTo u (length u) ≡ bitsOf (rowsOf table) = rw (read, up-bits r t) at (roots-ties (rowNumbers u) ok left) in
+      let ties : tiesTo u (length u) ≡ tiesTo t r = ap (tiesTo u) (up-count r t) ∙ up-ties-all r t none in
+      let count : roots 2 (drop 2 c) ≡ tally (bitsOf t) (λ i. eqb (getD (drop 2 c) i 0) (2 + i)) =
+      roots-tally 2 (drop 2 c) (λ i. eqb (getD (drop 2 c) i 0) (2 + i)) (λ i. refl) ∙ ap (λ (n : ℕ). tally n (λ i. eqb (getD (drop 2 c) i 0) (2 + i))) len in
+      let mine : tally (bitsOf t) (λ i. eqb (getD (drop 2 c) i 0) (2 + i)) ≡ tally (bitsOf t) (λ i. eqb (getD (holders u) i 0) i) =
+      tally-ext (bitsOf t) (λ i. eqb (getD (drop 2 c) i 0) (2 + i)) (λ i. eqb (getD (holders u) i 0) i)
+      (λ i l.
+      let h : getD (drop 2 c) i 0 ≡ holder u (suc (suc i)) = tail-at c i ∙ sym (holder-is (rowNumbers u) ok left (suc (suc i))) ∙ ap (λ (s : List Row). holder s (suc (suc i))) read in
+      own i (getD (drop 2 c) i 0) (omega (arith, table-bits table accepted)) ∙ ap (λ (x : ℕ). eqb x i) (ap hostNumber h ∙ sym (holders-at u i (omega (arith, up-bits r t))))) in
+      omega arith

@@ -6,6 +6,8 @@ pub mod EquationRows
 pub mod States
 pub mod Reaching
 pub mod LineNumbers
-pub mod Holders
+pub mod Refusals
 pub mod Held
+pub mod Holders
 pub mod Course
+pub mod CaseFive

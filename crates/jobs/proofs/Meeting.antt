@@ -2,7 +2,7 @@
 use mathlib.Core.Path.{_≡_, refl, sym, _∙_, ap, subst}
 use mathlib.Core.Bool.{Bool, true, false, not}
 use mathlib.Core.List.{List}
-use mathlib.Core.Logic.{_⊎_, inl, inr, ⊎-elim}
+use mathlib.Core.Logic.{⊎-elim}
 use Prim.Native.Nat.{ℕ, suc, _<_, _≤_}
 use native.Mathlib.Omega.{arith}
 use lib.ListN.{length, take}
@@ -13,10 +13,10 @@ use Rattle.terms.specs.declared.Row.{Row}
 use Rattle.terms.specs.Assignments.{Assignment}
 use Rattle.terms.specs.Acceptance.{Exactly}
 use Rattle.terms.specs.Table.{rowAt, bitsOf, valuesOf, sidesAgree, allRows, satisfies}
-use Rattle.terms.specs.Counting.{Counts, IsLine, MeetsBefore, NoLines}
-use Rattle.terms.proofs.Assignments.{every-at, every-of, every-false}
+use Rattle.terms.specs.Counting.{Counts, MeetsBefore, NoLines}
+use Rattle.terms.proofs.Assignments.{every-at, every-false}
 use Rattle.terms.proofs.Satisfies.{before-at, before-of}
-use Rattle.answers.specs.Solve.{unsatisfiable, unsatRow, tiesTo, neverRecord, answerRecord}
+use Rattle.answers.specs.Solve.{unsatisfiable, unsatRow, neverRecord, answerRecord}
 use Rattle.answers.specs.Never.{SomeLeft, NoneLeftAt}
 use Rattle.answers.proofs.Never.{none-left-at, never-row}
 use Rattle.jobs.specs.Prefix.{upTo}
@@ -103,8 +103,19 @@ module _ (t : List Row) (none : NoLines t) where
       let inside : r < length (upTo (suc r) t) = omega (arith, at .counts .in-table, up-count (suc r) t) in
       record {
         counts = plain-counts (upTo (suc r) t) (up-lines (suc r) t none) r inside (rw row (at .counts .is-equation));
-        some-before = record { pattern = at .some-before .pattern; bits = rw (up-bits (suc r) t) (at .some-before .bits); meets = across r (omega arith) (at .some-before .pattern) .of (at .some-before .meets) };
-        none-with = λ some. at .none-with (record { pattern = some .pattern; bits = rw (up-bits (suc r) t) at (some .bits); meets = across (suc r) (omega arith) (some .pattern) .to (some .meets) });
+        some-before =
+            record {
+              pattern = at .some-before .pattern;
+              bits = rw (up-bits (suc r) t) (at .some-before .bits);
+              meets = across r (omega arith) (at .some-before .pattern) .of (at .some-before .meets);
+            };
+        none-with = λ some.
+            at .none-with
+            (record {
+              pattern = some .pattern;
+              bits = rw (up-bits (suc r) t) at (some .bits);
+              meets = across (suc r) (omega arith) (some .pattern) .to (some .meets);
+            });
       }
     where
       across : (n : ℕ) → n ≤ suc r → (p : List ℕ) → Exactly (MeetsBefore (upTo (suc r) t) n p) (MeetsBefore t n p)

@@ -3,20 +3,20 @@ use mathlib.Core.Path.{_≡_, refl, sym, _∙_, ap, ap₂}
 use mathlib.Core.Bool.{Bool, true, false, _&&_, cond, and-false}
 use mathlib.Core.List.{List, [], _∷_}
 use mathlib.Core.Logic.{_⊎_, inl, inr, _≢_, ⊎-elim}
-use Prim.Native.Nat.{ℕ, zero, suc, _+_, _-_, _<_, _≤_}
+use Prim.Native.Nat.{ℕ, zero, suc, _-_, _<_, _≤_}
 use native.Mathlib.Omega.{arith}
-use lib.Dec.{eqb, ltb, leb}
+use lib.Dec.{eqb}
 use lib.ListN.{length, take, drop, length-drop, List·getD-eq-default}
 use lib.Seq.{ext-getD}
-use borrow.Author.Tests.{eqb-true, eq-eqb, ne-eqb, lt-ltb, le-ltb, le-leb, lt-leb}
-use Rattle.laws.proofs.Bools.{and-parts}
+use borrow.Author.Tests.{eqb-true, eq-eqb, ne-eqb, lt-ltb, le-ltb}
+use Rattle.laws.proofs.Bools.{not-both}
 use Rattle.laws.proofs.Numbers.{lt-or-le, dec-eq}
 use Rattle.terms.specs.declared.Row.{Row}
 use Rattle.terms.specs.declared.Fault.the-variants.{Accepted}
-use Rattle.terms.specs.Table.{rowsOf, rowNumbers, rowAt, noRow, silentRow, leavingOff, counting, valuesOf, sidesAgree, allRows, satisfies, nextEquation}
+use Rattle.terms.specs.Table.{rowsOf, rowNumbers, rowAt, noRow, silentRow, counting, valuesOf, sidesAgree, allRows, satisfies}
 use Rattle.terms.specs.Faults.{firstFault}
 use Rattle.terms.specs.Sound.{Sound}
-use Rattle.terms.specs.Counting.{IsLine, NoLines}
+use Rattle.terms.specs.Counting.{NoLines}
 use Rattle.terms.proofs.Alike.{Alike}
 use Rattle.terms.proofs.LeavingOff.{off-count, off-row, off-alike, off-sound, alike-values}
 use Rattle.terms.proofs.Counting.{unmoved}
@@ -29,7 +29,23 @@ use Rattle.jobs.specs.Prefix.{equationAmong, upTo, equationFrom}
 -- ---- the rows
 among-equation : (n : ℕ) (row : Row) (behind : List Row) → equationAmong n row behind ≡ true → row .kind ≡ 4
 unfolding equationAmong
-among-equation n row behind h = eqb-true (row .kind) 4 (and-parts (eqb (row .kind) 4) (ltb (length behind) n) h .0)
+among-equation n row behind h = go (eqb (row .kind) 4) refl
+  where
+    go : (b : Bool) → eqb (row .kind) 4 ≡ b → row .kind ≡ 4
+    go true e = eqb-true (row .kind) 4 e
+    go false e = absurd (not-both (rw e at h) refl)
+
+among-of : (n : ℕ) (row : Row) (behind : List Row) → row .kind ≡ 4 → length behind < n → equationAmong n row behind ≡ true
+unfolding equationAmong
+among-of n row behind e l = rw (eq-eqb (row .kind) 4 e, lt-ltb (length behind) n l)
+
+among-not : (n : ℕ) (row : Row) (behind : List Row) → n ≤ length behind → equationAmong n row behind ≡ false
+unfolding equationAmong
+among-not n row behind l = rw (le-ltb (length behind) n l) (and-false (eqb (row .kind) 4))
+
+among-term : (n : ℕ) (row : Row) (behind : List Row) → row .kind ≢ 4 → equationAmong n row behind ≡ false
+unfolding equationAmong
+among-term n row behind k = rw (ne-eqb (row .kind) 4 k)
 
 module _ (r : ℕ) (t : List Row) where
   pub up-count : length (upTo r t) ≡ length t
@@ -41,34 +57,22 @@ module _ (r : ℕ) (t : List Row) where
   up-alike = off-alike (equationAmong (length t - r)) (among-equation (length t - r)) t
 
   -- row i, as it was or left off
-  up-row : (i : ℕ) → i < length t → rowAt (upTo r t) i ≡ cond (eqb (rowAt t i .kind) 4 && ltb (length (drop (suc i) t)) (length t - r)) silentRow (rowAt t i)
-  unfolding upTo equationAmong
+  up-row : (i : ℕ) → i < length t → rowAt (upTo r t) i ≡ cond (equationAmong (length t - r) (rowAt t i) (drop (suc i) t)) silentRow (rowAt t i)
+  unfolding upTo
   up-row i h = off-row (equationAmong (length t - r)) t i h
 
-  pub up-before : (i : ℕ) → i < r → rowAt (upTo r t) i ≡ rowAt t i
-  up-before i l = ⊎-elim inside past (lt-or-le i (length t))
-    where
-      inside : i < length t → rowAt (upTo r t) i ≡ rowAt t i
-      inside h =
-          let few : ltb (length (drop (suc i) t)) (length t - r) ≡ false = le-ltb (length (drop (suc i) t)) (length t - r) (omega (arith, length-drop (suc i) t)) in
-          up-row i h ∙ rw (few, and-false (eqb (rowAt t i .kind) 4))
+  up-outside : (i : ℕ) → length t ≤ i → rowAt (upTo r t) i ≡ rowAt t i
+  up-outside i h = List·getD-eq-default (upTo r t) noRow (omega (arith, up-count)) ∙ sym (List·getD-eq-default t noRow h)
 
-      past : length t ≤ i → rowAt (upTo r t) i ≡ rowAt t i
-      past h = List·getD-eq-default (upTo r t) noRow (omega (arith, up-count)) ∙ sym (List·getD-eq-default t noRow h)
+  pub up-before : (i : ℕ) → i < r → rowAt (upTo r t) i ≡ rowAt t i
+  up-before i l =
+      ⊎-elim (λ h. up-row i h ∙ rw (among-not (length t - r) (rowAt t i) (drop (suc i) t) (omega (arith, length-drop (suc i) t)))) (up-outside i) (lt-or-le i (length t))
 
   pub up-term : (i : ℕ) → rowAt t i .kind ≢ 4 → rowAt (upTo r t) i ≡ rowAt t i
-  up-term i n = ⊎-elim inside past (lt-or-le i (length t))
-    where
-      inside : i < length t → rowAt (upTo r t) i ≡ rowAt t i
-      inside h = up-row i h ∙ rw (ne-eqb (rowAt t i .kind) 4 n)
-
-      past : length t ≤ i → rowAt (upTo r t) i ≡ rowAt t i
-      past h = List·getD-eq-default (upTo r t) noRow (omega (arith, up-count)) ∙ sym (List·getD-eq-default t noRow h)
+  up-term i n = ⊎-elim (λ h. up-row i h ∙ rw (among-term (length t - r) (rowAt t i) (drop (suc i) t) n)) (up-outside i) (lt-or-le i (length t))
 
   pub up-silent : (i : ℕ) → r ≤ i → i < length t → rowAt t i .kind ≡ 4 → rowAt (upTo r t) i ≡ silentRow
-  up-silent i l h e =
-      let many : ltb (length (drop (suc i) t)) (length t - r) ≡ true = lt-ltb (length (drop (suc i) t)) (length t - r) (omega (arith, length-drop (suc i) t)) in
-      up-row i h ∙ rw (eq-eqb (rowAt t i .kind) 4 e, many)
+  up-silent i l h e = up-row i h ∙ rw (among-of (length t - r) (rowAt t i) (drop (suc i) t) e (omega (arith, length-drop (suc i) t)))
 
   pub up-sound : Sound t → Sound (upTo r t)
   unfolding upTo

@@ -3,12 +3,13 @@
 use mathlib.Core.Path.{_≡_, refl, sym, _∙_, ap, ap₂, subst}
 use mathlib.Core.Bool.{true, false}
 use mathlib.Core.List.{List, [], _∷_, _++_}
-use mathlib.Core.Logic.{_⊎_, inl, inr, _≢_, ⊎-elim}
-use Prim.Native.Nat.{ℕ, zero, suc, _+_, _-_, _<_, _≤_, min}
+use mathlib.Core.Logic.{_≢_, ⊎-elim}
+use Prim.Native.Nat.{ℕ, zero, suc, _+_, _-_, _<_, _≤_}
 use native.Mathlib.Omega.{arith}
 use lib.ListN.{length, take, drop, length-take, length-drop, take-append-drop}
 use lib.Seq.{take-add, take-take}
 use Rattle.laws.specs.Lists.{countUp}
+use Rattle.laws.proofs.Bools.{not-both}
 use Rattle.laws.proofs.Numbers.{lt-or-le}
 use Rattle.laws.proofs.CountUp.{count-at}
 use Rattle.terms.specs.declared.Row.{Row}
@@ -24,7 +25,6 @@ use Rattle.answers.specs.Pairs.{Pair, paired, pairsOf, pairsIn, equationPairs, 
 use Rattle.answers.specs.Answer.{variableWidths}
 use Rattle.answers.specs.Solve.{unsatisfiable, pairsTogether, tiesTo}
 use Rattle.answers.specs.inner.Classes.{rep, runAll, conflictAt, linksBefore}
-use Rattle.answers.proofs.Equations.{pairs-same}
 use Rattle.answers.proofs.Revised.{same-pairs, alike-variables}
 use Rattle.answers.proofs.Tables.{pairs-length, is-never, is-left, all-ties}
 use Rattle.answers.proofs.Theorems.{links-before}
@@ -219,7 +219,7 @@ module _ (table : List ℕ) (accepted : firstFault table ≡ Accepted) (none : N
   up-never m = rw read at (is-never numbers ok (rw read (omega (arith, up-conflict-met r t none l m, up-count r t))))
 
   pub left-up : unsatisfiable (upTo r (rowsOf table)) ≡ false → conflictAt (alone (rowsOf table)) (take r (equationPairs (rowsOf table))) ≡ r
-  left-up h = ⊎-elim (λ m. let z : false ≡ true = sym h ∙ up-never m in let y : _≡_ {A = ℕ} 0 1 = cc in absurd (omega arith)) (λ m. omega (arith, conflict-most r t none l)) (lt-or-le (conflictAt (alone t) (take r es)) r)
+  left-up h = ⊎-elim (λ m. absurd (not-both (up-never m) h)) (λ m. omega (arith, conflict-most r t none l)) (lt-or-le (conflictAt (alone t) (take r es)) r)
 
   -- the links are the ties
   pub links-ties : unsatisfiable (upTo r (rowsOf table)) ≡ false → linksBefore (alone (rowsOf table)) (take r (equationPairs (rowsOf table))) ≡ tiesTo (rowsOf table) r

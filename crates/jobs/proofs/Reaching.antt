@@ -1,22 +1,22 @@
 -- Which jobs and work areas are states: at a row, the next one is that of an equation or the number of rows, a pattern is left, and ties and area are those of the
 -- equations before it; after a never they are those of the equations before that of the never. Assumes nothing.
 use mathlib.Core.Path.{_≡_, refl, sym, _∙_, ap}
-use mathlib.Core.Bool.{Bool, true, false, not, _&&_, cond}
+use mathlib.Core.Bool.{Bool, true, false, not, _&&_}
 use mathlib.Core.List.{List, [], _∷_}
-use mathlib.Core.Logic.{_⊎_, inl, inr, _≢_, ⊎-elim}
+use mathlib.Core.Logic.{_≢_, ⊎-elim}
 use Prim.Native.Nat.{ℕ, zero, suc, _+_, _-_, _<_, _≤_}
 use native.Mathlib.Omega.{arith}
 use lib.Dec.{eqb}
 use lib.ListN.{length}
 use borrow.Author.Tests.{eqb-true, eq-eqb, not-true, not-false}
 use Rattle.laws.specs.Lists.{below}
-use Rattle.laws.proofs.Bools.{not-both, and-parts, and-both, one-most}
+use Rattle.laws.proofs.Bools.{not-both, and-parts, one-most}
 use Rattle.laws.proofs.Numbers.{lt-or-le}
-use Rattle.laws.proofs.Tallies.{below-at, below-fails}
+use Rattle.laws.proofs.Tallies.{below-fails}
 use Rattle.terms.specs.declared.Row.{Row}
 use Rattle.terms.specs.declared.Fault.the-variants.{Accepted}
 use Rattle.terms.specs.Acceptance.{Exactly}
-use Rattle.terms.specs.Table.{rowsOf, rowAt, countKind, sameWord}
+use Rattle.terms.specs.Table.{rowsOf, countKind, sameWord}
 use Rattle.terms.specs.Faults.{firstFault}
 use Rattle.terms.specs.Counting.{NoLines}
 use Rattle.terms.proofs.AcceptedTable.{accepted-table}
@@ -40,6 +40,9 @@ below-false (suc n) f h = go (f n) refl h (below-false n f)
     go : (b : Bool) → f n ≡ b → b && below n f ≡ false → (below n f ≡ false → (k : ℕ) × (k < n) × (f k ≡ false)) → (k : ℕ) × (k < suc n) × (f k ≡ false)
     go true e h r = let it = r h in (it .0, omega (arith, it .1), it .2)
     go false e h r = (n, omega arith, e)
+
+some-below : (n : ℕ) (f : ℕ → Bool) (k : ℕ) → k < n → f k ≡ true → not (below n (λ j. not (f j))) ≡ true
+some-below n f k l e = ap not (below-fails n (λ j. not (f j)) k l (ap not e))
 
 -- ---- the numbers of a state
 pub record Kept (s : State) (next ties : ℕ) (work : List ℕ) : Type 0 where
@@ -100,16 +103,9 @@ module _ (table : List ℕ) (accepted : firstFault table ≡ Accepted) (none : N
       ap (stateAfter t) e ∙ still (length t + d) (omega (arith, few-equations t)) ∙ stopped-at d
 
   -- ---- any number of steps
-  pub reach-to : (next ties : ℕ) (work : List ℕ) → reachable (rowsOf table) next ties work ≡ true → (k : ℕ) × Kept (stateAfter (rowsOf table) k) next ties work
-  unfolding reachable
-  reach-to next ties work h =
-      let it = below-false (suc (length t)) (λ k. not (isState (stateAfter t k) next ties work)) (not-true (below (suc (length t)) (λ k. not (isState (stateAfter t k) next ties work))) h) in
-      (it .0, state-to (stateAfter t (it .0)) next ties work (not-false (isState (stateAfter t (it .0)) next ties work) (it .2)))
-
   small : (k next ties : ℕ) (work : List ℕ) → k ≤ length t → Kept (stateAfter t k) next ties work → reachable t next ties work ≡ true
   unfolding reachable
-  small k next ties work l s =
-      ap not (below-fails (suc (length t)) (λ k. not (isState (stateAfter t k) next ties work)) k (omega arith) (ap not (state-of (stateAfter t k) next ties work s)))
+  small k next ties work l s = some-below _ (λ j. isState (stateAfter t j) next ties work) k (omega arith) (state-of (stateAfter t k) next ties work s)
 
   pub reach-of : (k next ties : ℕ) (work : List ℕ) → Kept (stateAfter (rowsOf table) k) next ties work → reachable (rowsOf table) next ties work ≡ true
   reach-of k next ties work s =
@@ -119,6 +115,12 @@ module _ (table : List ℕ) (accepted : firstFault table ≡ Accepted) (none : N
       let q : stateAfter t k ≡ stateAfter t (length t) = ap (stateAfter t) (sym e) ∙ stopped-at (k - length t) in
       small (length t) next ties work (omega arith) (rw q at s))
       (lt-or-le k (length t))
+
+  pub reach-to : (next ties : ℕ) (work : List ℕ) → reachable (rowsOf table) next ties work ≡ true → (k : ℕ) × Kept (stateAfter (rowsOf table) k) next ties work
+  unfolding reachable
+  reach-to next ties work h =
+      let it = below-false (suc (length t)) (λ k. not (isState (stateAfter t k) next ties work)) (not-true (below (suc (length t)) (λ k. not (isState (stateAfter t k) next ties work))) h) in
+      (it .0, state-to (stateAfter t (it .0)) next ties work (not-false (isState (stateAfter t (it .0)) next ties work) (it .2)))
 
   -- ---- at a row
   at-row : (k next ties : ℕ) (work : List ℕ) → next ≤ length t → Kept (stateAfter t k) next ties work → AtRow t next ties work

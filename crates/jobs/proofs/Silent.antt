@@ -1,15 +1,14 @@
 -- Pairs of a source with itself: they change no class, join nothing, are no ties and no conflict. And equations taken in two parts. Assumes nothing.
-use mathlib.Core.Path.{_≡_, refl, sym, _∙_, ap, ap₂}
+use mathlib.Core.Path.{_≡_, refl, sym, _∙_, ap}
 use mathlib.Core.Bool.{Bool, true, false, not, _||_, cond, or-true}
 use mathlib.Core.List.{List, [], _∷_, _++_, append-assoc}
 use mathlib.Core.Logic.{_≢_}
 use Prim.Native.Nat.{ℕ, zero, suc, _+_, _≤_, _<_, min, max}
 use native.Mathlib.Omega.{arith}
 use lib.Dec.{eqb}
-use lib.ListN.{length, take, drop}
+use lib.ListN.{length, take}
 use borrow.Author.Tests.{eq-eqb, ne-eqb, eqb-false}
 use Rattle.laws.proofs.Lists.{map-same}
-use Rattle.terms.specs.Assignments.{every}
 use Rattle.terms.specs.Table.{bitOf}
 use Rattle.terms.proofs.Assignments.{every-of}
 use Rattle.answers.specs.Pairs.{Pair, paired, equals, equalUnder, satisfiesPairs, ties}
@@ -83,7 +82,9 @@ all-silent-links c (further {e} {es} s a) = rw (run-silent c s, links-silent c s
 -- ---- the ties
 itself-equal : (n : ℕ) (seen : List Pair) (s u : ℕ) → s ≡ u → equals n seen s u ≡ true
 unfolding equalUnder
-itself-equal n seen s u e = every-of n (λ p. not (satisfiesPairs p seen) || eqb (bitOf p s) (bitOf p u)) (λ p a. rw (eq-eqb (bitOf p s) (bitOf p u) (ap (bitOf p) e)) (or-true (not (satisfiesPairs p seen))))
+itself-equal n seen s u e =
+    every-of n (λ p. not (satisfiesPairs p seen) || eqb (bitOf p s) (bitOf p u))
+    (λ p a. rw (eq-eqb (bitOf p s) (bitOf p u) (ap (bitOf p) e)) (or-true (not (satisfiesPairs p seen))))
 
 silent-ties : (n : ℕ) (seen : List Pair) {qs : List Pair} → Silent qs → ties n seen qs ≡ 0
 unfolding ties

@@ -2,7 +2,7 @@
 use mathlib.Core.Path.{_≡_, refl, sym, _∙_, ap}
 use mathlib.Core.Bool.{Bool, true, false, _||_, or-true}
 use mathlib.Core.List.{List}
-use mathlib.Core.Logic.{_⊎_, inl, inr, _≢_, ⊎-elim}
+use mathlib.Core.Logic.{⊎-elim}
 use Prim.Native.Nat.{ℕ, zero, suc, _<_, _≤_}
 use native.Mathlib.Omega.{arith}
 use lib.Dec.{eqb, leb}
@@ -12,43 +12,23 @@ use Rattle.laws.proofs.Bools.{not-both}
 use Rattle.laws.proofs.Numbers.{lt-or-le}
 use Rattle.terms.specs.declared.Row.{Row}
 use Rattle.terms.specs.declared.Fault.the-variants.{Accepted}
-use Rattle.terms.specs.Table.{rowsOf, rowAt, countKind}
+use Rattle.terms.specs.Table.{rowsOf}
 use Rattle.terms.specs.Faults.{firstFault}
 use Rattle.terms.specs.Counting.{NoLines}
 use Rattle.terms.proofs.AcceptedTable.{accepted-table}
-use Rattle.answers.specs.Pairs.{equationPairs}
 use Rattle.answers.specs.Solve.{unsatisfiable, unsatRow, tiesTo}
-use Rattle.answers.specs.Never.{SomeLeft, NoneLeftAt}
 use Rattle.answers.specs.inner.Classes.{conflictAt}
 use Rattle.jobs.specs.Prefix.{upTo, equationFrom, holders}
 use Rattle.jobs.specs.State.{State, stateAt, opened, stepped, stateAfter, neverRow}
 use Rattle.jobs.specs.Claims.{equationRow, neverState, StateIs}
 use Rattle.jobs.proofs.Prefix.{up-next}
-use Rattle.jobs.proofs.PrefixPairs.{alone, up-left}
-use Rattle.jobs.proofs.Meeting.{left-before, left-some, some-left, none-never, never-behind, lost-at, unsat-row-is}
+use Rattle.jobs.proofs.PrefixPairs.{up-left}
+use Rattle.jobs.proofs.Meeting.{left-before, some-left, none-never, lost-at, unsat-row-is}
 use Rattle.jobs.proofs.EquationRows.{row-first, row-step, row-past, row-last, row-within, row-equation}
 
--- ---- one step
-module _ (t : List Row) (s : State) where
-  pub step-never : s .next ≡ neverRow → stepped t s ≡ s
-  unfolding stepped
-  step-never e = rw (eq-eqb (s .next) 1000 e)
-
-  pub step-end : length t ≤ s .next → stepped t s ≡ s
-  unfolding stepped
-  step-end l = rw (le-leb (length t) (s .next) l, or-true (eqb (s .next) 1000))
-
-  module _ (few : length t ≤ 512) (l : s .next < length t) where
-    going : eqb (s .next) 1000 || leb (length t) (s .next) ≡ false
-    going = rw (ne-eqb (s .next) 1000 (omega arith), lt-leb (length t) (s .next) l)
-
-    pub step-on : unsatisfiable (upTo (suc (s .next)) t) ≡ false → stepped t s ≡ stateAt t (equationFrom t (suc (s .next)))
-    unfolding stepped
-    step-on h = rw (going, h)
-
-    pub step-lost : unsatisfiable (upTo (suc (s .next)) t) ≡ true → stepped t s ≡ record { next = neverRow; ties = s .ties; holders = s .holders }
-    unfolding stepped
-    step-lost h = rw (going, h)
+-- a step goes on from a row of the table
+going : (t : List Row) → length t ≤ 512 → (r : ℕ) → r < length t → eqb r neverRow || leb (length t) r ≡ false
+going t few r l = rw (ne-eqb r 1000 (omega arith), lt-leb (length t) r l)
 
 module _ (table : List ℕ) (accepted : firstFault table ≡ Accepted) (none : NoLines (rowsOf table)) where
   abbrev t : List Row
@@ -72,7 +52,7 @@ module _ (table : List ℕ) (accepted : firstFault table ≡ Accepted) (none : N
       row-past t (suc k) (omega (arith, row-last t k e)) ∙ sym e
 
   pub state-left : (k : ℕ) → unsatisfiable (upTo (equationRow (rowsOf table) k) (rowsOf table)) ≡ false → stateAfter (rowsOf table) k ≡ stateAt (rowsOf table) (equationRow (rowsOf table) k)
-  unfolding stateAfter opened stateAt
+  unfolding stateAfter opened stepped stateAt
   state-left zero h = ap (stateAt t) (sym (row-first t))
   state-left (suc k) h = ⊎-elim (on (state-left k)) (end (state-left k)) (lt-or-le (equationRow t k) (length t))
     where
@@ -81,24 +61,22 @@ module _ (table : List ℕ) (accepted : firstFault table ≡ Accepted) (none : N
       on before l =
           let more : unsatisfiable (upTo (suc (equationRow t k)) t) ≡ false = sym (behind k l) ∙ h in
           ap (stepped t) (before (left-before t none (equationRow t k) (suc (equationRow t k)) (omega arith) more))
-          ∙ step-on t (stateAt t (equationRow t k)) few l more
-          ∙ ap (stateAt t) (sym (row-step t k l))
+          ∙ rw (going t few (equationRow t k) l, more) (ap (stateAt t) (sym (row-step t k l)))
 
       end : (unsatisfiable (upTo (equationRow t k) t) ≡ false → stateAfter t k ≡ stateAt t (equationRow t k))
           → length t ≤ equationRow t k → stepped t (stateAfter t k) ≡ stateAt t (equationRow t (suc k))
       end before l =
           ap (stepped t) (before (ap (λ (r : ℕ). unsatisfiable (upTo r t)) (sym (ended k l)) ∙ h))
-          ∙ step-end t (stateAt t (equationRow t k)) l
-          ∙ ap (stateAt t) (sym (ended k l))
+          ∙ rw (le-leb (length t) (equationRow t k) l, or-true (eqb (equationRow t k) 1000)) (ap (stateAt t) (sym (ended k l)))
 
   pub state-never : (k : ℕ) → unsatisfiable (upTo (equationRow (rowsOf table) k) (rowsOf table)) ≡ true → stateAfter (rowsOf table) k ≡ neverState (rowsOf table)
-  unfolding stateAfter stateAt
+  unfolding stateAfter stepped stateAt
   state-never zero h = absurd (not-both h (ap (λ (r : ℕ). unsatisfiable (upTo r t)) (row-first t) ∙ ap unsatisfiable (up-next t 0 (omega arith)) ∙ first-left))
   state-never (suc k) h = go (unsatisfiable (upTo (equationRow t k) t)) refl (state-never k)
     where
       go : (b : Bool) → unsatisfiable (upTo (equationRow t k) t) ≡ b → (unsatisfiable (upTo (equationRow t k) t) ≡ true → stateAfter t k ≡ neverState t)
           → stepped t (stateAfter t k) ≡ neverState t
-      go true e before = ap (stepped t) (before e) ∙ step-never t (neverState t) refl
+      go true e before = ap (stepped t) (before e) ∙ refl
       go false e before = ⊎-elim lost (λ l. absurd (not-both h (ap (λ (r : ℕ). unsatisfiable (upTo r t)) (ended k l) ∙ e))) (lt-or-le (equationRow t k) (length t))
         where
           lost : equationRow t k < length t → stepped t (stateAfter t k) ≡ neverState t
@@ -106,8 +84,8 @@ module _ (table : List ℕ) (accepted : firstFault table ≡ Accepted) (none : N
               let more : unsatisfiable (upTo (suc (equationRow t k)) t) ≡ true = sym (behind k l) ∙ h in
               let row : unsatRow t ≡ equationRow t k = unsat-row-is t none (equationRow t k) (lost-at t none (equationRow t k) l (row-equation t k l) e more) in
               ap (stepped t) (state-left k e)
-              ∙ step-lost t (stateAt t (equationRow t k)) few l more
-              ∙ ap (λ (r : ℕ). record { next = neverRow; ties = tiesTo t r; holders = holders (upTo r t) }) (sym row)
+              ∙ rw (going t few (equationRow t k) l, more)
+              (ap (λ (r : ℕ). record { next = neverRow; ties = tiesTo t r; holders = holders (upTo r t) }) (sym row))
 
   -- (a)
   pub state-is : (k : ℕ) → StateIs (rowsOf table) k
@@ -116,3 +94,22 @@ module _ (table : List ℕ) (accepted : firstFault table ≡ Accepted) (none : N
         left = λ some. state-left k (some-left t none (equationRow t k) some);
         never = λ lacks. state-never k (none-never t none (equationRow t k) lacks);
       }
+
+-- ---- one step
+module _ (t : List Row) (s : State) where
+  pub step-never : s .next ≡ neverRow → stepped t s ≡ s
+  unfolding stepped
+  step-never e = rw (eq-eqb (s .next) 1000 e)
+
+  pub step-end : length t ≤ s .next → stepped t s ≡ s
+  unfolding stepped
+  step-end l = rw (le-leb (length t) (s .next) l, or-true (eqb (s .next) 1000))
+
+  module _ (few : length t ≤ 512) (l : s .next < length t) where
+    pub step-on : unsatisfiable (upTo (suc (s .next)) t) ≡ false → stepped t s ≡ stateAt t (equationFrom t (suc (s .next)))
+    unfolding stepped
+    step-on h = rw (going t few (s .next) l, h)
+
+    pub step-lost : unsatisfiable (upTo (suc (s .next)) t) ≡ true → stepped t s ≡ record { next = neverRow; ties = s .ties; holders = s .holders }
+    unfolding stepped
+    step-lost h = rw (going t few (s .next) l, h)

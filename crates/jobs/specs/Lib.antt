@@ -3,3 +3,5 @@ pub mod State
 pub mod Call
 pub mod Claims
 pub mod Course
+pub mod CaseFive
+pub mod Refusals
