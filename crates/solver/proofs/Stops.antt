@@ -32,7 +32,7 @@ unfolding solveRecord stopAt answerAfter workAfter
 stop-work table answer work k l r e = rw (le-ltb (length answer) 24576 k, lt-ltb (length work) 16384 l) (e, (refl, refl))
 
 -- refused for a fault of the table
-fault-high : (f : Fault) → isAccepted f ≡ false → (eqb (faultNumber f) 2 ≡ false) × (ltb (faultNumber f) 3 ≡ false)
+pub fault-high : (f : Fault) → isAccepted f ≡ false → (eqb (faultNumber f) 2 ≡ false) × (ltb (faultNumber f) 3 ≡ false)
 fault-high Accepted h = let z : _≡_ {A = ℕ} 0 1 = cc in absurd (omega arith)
 fault-high Shape h = (refl, refl)
 fault-high (Kind r) h = (refl, refl)

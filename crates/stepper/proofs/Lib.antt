@@ -3,3 +3,4 @@ pub mod Prefixes
 pub mod Reading
 pub mod Stepping
 pub mod Trying
+pub mod Ends

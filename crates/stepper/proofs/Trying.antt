@@ -23,15 +23,16 @@ use Rattle.terms.specs.Counting.{NoLines}
 use Rattle.terms.proofs.AcceptedTable.{accepted-table, table-bits}
 use Rattle.terms.proofs.RowNumbers.{rows-written}
 use Rattle.answers.specs.Pairs.{equationPairs}
-use Rattle.answers.specs.Solve.{unsatisfiable, unsatRow, tiesTo, answerRecord}
+use Rattle.answers.specs.Answer.{answerNumbers}
+use Rattle.answers.specs.Solve.{unsatisfiable, solvedRows, unsatRow, tiesTo, answerRecord}
 use Rattle.answers.proofs.Tables.{conflict-row, links-row}
 use Rattle.linking.specs.inner.Classes.{ClassesTaken}
-use Rattle.solver.specs.inner.Call.{TakenOf}
+use Rattle.solver.specs.inner.Call.{answerOver, Answered, TakenOf}
 use Rattle.jobs.specs.Prefix.{upTo, equationFrom, holders}
 use Rattle.jobs.specs.State.{State, stateAt, stepped, areaOf, neverRow, reachable}
 use Rattle.jobs.specs.Call.{breaks43, breaks44, breaks45, jobOf, stateOf}
 use Rattle.jobs.proofs.Course.{area-holders}
-use Rattle.jobs.proofs.Holders.{holders-length}
+use Rattle.jobs.proofs.Held.{holders-length}
 use Rattle.jobs.proofs.LineNumbers.{no-lines}
 use Rattle.jobs.proofs.Meeting.{never-at}
 use Rattle.jobs.proofs.Prefix.{up-past, up-next, up-accepted}
@@ -40,7 +41,7 @@ use Rattle.jobs.proofs.States.{step-never, step-on, step-lost}
 use Rattle.areas.specs.inner.Areas.{heldBy}
 use Rattle.stepper.specs.inner.Prefixes.{PrefixTaken}
 use Rattle.stepper.specs.inner.Jobs.{claimed, noRow, StateRead}
-use Rattle.stepper.specs.inner.Steps.{StepFrom, placedStops, placedRecord, placedJob, placedWork, goesOn, StepTried}
+use Rattle.stepper.specs.inner.Steps.{StepFrom, placedStops, placedRecord, placedJob, placedWork, goesOn, StepTried, AnswerDone}
 use Rattle.stepper.proofs.Reading.{AtPlace, place-to, lost-row, claimed-never, claimed-left, claims-row, claims-past, claims-none}
 use Rattle.stepper.proofs.Stepping.{few-links, never-outcome, left-outcome}
 
@@ -68,6 +69,11 @@ module _ (table : List ℕ) (accepted : firstFault table ≡ Accepted) (plain : 
       → StepTried (rowsOf table) next ties work links found next ties
   unfolding placedStops placedRecord placedJob placedWork stopAt stopped breaks44 goesOn
   refused-44 h links found e = record { found-is = e ∙ rw h refl; next-is = rw h refl; ties-are = rw h refl; on = λ z. absurd (not-both z (rw e refl)); still = λ _. rw h refl }
+
+  pub answer-44 : reachable (rowsOf table) next ties work ≡ false → (answer : List ℕ) (found : Record) → found ≡ refusal 44 0
+      → AnswerDone (rowsOf table) next ties work answer answer found
+  unfolding breaks44
+  answer-44 h answer found e = record { found-is = e ∙ rw h refl; answer-is = rw e refl }
 
   -- a row past the end is no state's
   pub past-end : (links : List ℕ) (r : ℕ) → StateRead (rowsOf table) next ties work links r → length (rowsOf table) < r → reachable (rowsOf table) next ties work ≡ false
@@ -110,6 +116,18 @@ module _ (table : List ℕ) (accepted : firstFault table ≡ Accepted) (plain : 
     reached-44 : breaks44 t next ties work ≡ false
     unfolding breaks44
     reached-44 = ap not R
+
+    -- the answer is that of the table up to the next row
+    answered : (u : List Row) → u ≡ upTo next t → (answer answer′ : List ℕ) (found : Record) → Answered u answer answer′ found → AnswerDone t next ties work answer answer′ found
+    unfolding answerOver
+    answered u q answer answer′ found A =
+        record {
+          found-is = rw reached-44 (A .record-is ∙ ap answerRecord q);
+          answer-is =
+              A .answer-is
+              ∙ ap (λ (b : Bool). cond b (overwrite (answerNumbers (solvedRows u)) answer) answer) (ap (λ (x : Record). eqb (x .outcome) 2) (sym (A .record-is)))
+              ∙ ap (λ (x : List Row). cond (eqb (found .outcome) 2) (overwrite (answerNumbers (solvedRows x)) answer) answer) q;
+        }
 
     -- ---- after a never
     module _ (e : next ≡ 1000) where
@@ -155,6 +173,9 @@ module _ (table : List ℕ) (accepted : firstFault table ≡ Accepted) (plain : 
             still = λ _. rw (reached-44, not-45, stays) (sym same-area);
           }
 
+      pub answered-never : (answer answer′ : List ℕ) (found : Record) → Answered (rowsOf table) answer answer′ found → AnswerDone (rowsOf table) next ties work answer answer′ found
+      answered-never = answered t (sym (up-past next t (omega (arith, e, few-rows))))
+
     -- ---- at a row
     module _ (e : next ≢ 1000) where
       pub row-next : r ≡ next
@@ -164,6 +185,10 @@ module _ (table : List ℕ) (accepted : firstFault table ≡ Accepted) (plain : 
           inside k =
               ⊎-elim (λ q. at ∙ sym (claims-row table accepted next e k q)) (λ q. absurd (omega (arith, l, few-rows, at, claims-none table accepted next e k q)))
               (dec-eq (equationFrom t next) next)
+
+      pub answered-row : (answer answer′ : List ℕ) (found : Record) → Answered (rowsOf (rowNumbers (upTo r (rowsOf table)))) answer answer′ found
+          → AnswerDone (rowsOf table) next ties work answer answer′ found
+      answered-row = answered (rowsOf (rowNumbers (upTo r t))) (rows-written (upTo r t) ∙ ap (λ (n : ℕ). upTo n t) row-next)
 
       pub refused-45 : r ≡ length (rowsOf table) → (links′ : List ℕ) (found : Record) → found ≡ refusal 45 0 → StepTried (rowsOf table) next ties work links′ found next ties
       unfolding placedStops placedRecord placedJob placedWork stopAt stopped breaks45 goesOn

@@ -3,14 +3,14 @@
 // (crate copies), and compares: what these do not leave is no job of this table. Nothing lent is written before all is known.
 ghost use mathlib.Core.Path.{_≡_};
 ghost use mathlib.Core.Bool.{cond};
-ghost use Prim.Native.Nat.{_/_, _<_};
+ghost use Prim.Native.Nat.{suc, _/_, _<_};
 ghost use lib.Dec.{eqb};
 ghost use lib.ListN.{length};
 ghost use Rattle.terms.specs.Table.{rowsOf};
-ghost use Rattle.jobs.specs.Call.{hasLine, breaks43};
+ghost use Rattle.jobs.specs.Call.{hasLine, breaks43, openRecord, openJob, openWork, stepRecord, stepJob, stepWork, jobAnswerRecord, jobAnswerAfter};
 ghost use Rattle.stepper.specs.inner.Prefixes.{TakesOn};
 ghost use Rattle.stepper.specs.inner.Jobs.{Claims, ReadsState};
-ghost use Rattle.stepper.specs.inner.Steps.{nextRow, StepsFrom, TriesStep};
+ghost use Rattle.stepper.specs.inner.Steps.{nextRow, goesOn, StepsFrom, TriesStep, StepsPlaced, OpensArea, AnswersPlaced};
 use taking::Taken;
 use terms::Record;
 use terms::Row;
@@ -268,5 +268,262 @@ pub fn try_step(
         &mut left[..],
         &mut right[..],
         links,
+    )
+}
+
+// Whether a record is that of a step that leaves a pattern.
+fn goes_on(outcome: u32) -> bool
+    ensures { λ b. ⌜ b ≡ goesOn outcome ⌝ }
+{
+    if outcome == 0 {
+        return true;
+    }
+    outcome == 2
+}
+
+// A step on a job, with a link for each source. The work area is written only where a pattern is left.
+fn step_with(
+    table: &[u16],
+    widths: &[u16],
+    places: &[u16],
+    bits: usize,
+    next: u32,
+    ties: u32,
+    work: &mut [u16],
+    links: &mut [u16],
+) -> Step
+    ensures { λ s. ⌜ (length (now (links .entry)) ≡ suc (suc bits) → StepsPlaced (now (table .entry)) (now (widths .entry)) (now (places .entry)) bits next ties (now (work .entry)) (now (work .exit)) (s .found) (s .next) (s .ties)) ⌝ }
+{
+    let step = try_step(table, widths, places, bits, next, ties, work, links);
+    let found = step.found;
+    if goes_on(found.outcome) {
+        areas::put_holders(links, work);
+    }
+    step
+}
+
+// A step on a job of a table that was checked and placed.
+fn step_placed(
+    table: &[u16],
+    widths: &[u16],
+    places: &[u16],
+    bits: usize,
+    next: u32,
+    ties: u32,
+    work: &mut [u16],
+) -> Step
+    ensures { λ s. ⌜ StepsPlaced (now (table .entry)) (now (widths .entry)) (now (places .entry)) bits next ties (now (work .entry)) (now (work .exit)) (s .found) (s .next) (s .ties) ⌝ }
+{
+    let mut links = [0u16; 4098];
+    let sources = numbers::lesser(bits, terms::MAX_BITS) + 2;
+    step_with(
+        table,
+        widths,
+        places,
+        bits,
+        next,
+        ties,
+        work,
+        &mut links[..sources],
+    )
+}
+
+// Takes the next equation of a job.
+pub fn step_at(table: &[u16], next: u32, ties: u32, work: &mut [u16]) -> Step
+    ensures record { λ s. ⌜ s .found ≡ stepRecord (now (table .entry)) next ties (now (work .entry)) ⌝ }
+    ensures next { λ s. ⌜ s .next ≡ stepJob (now (table .entry)) next ties (now (work .entry)) .next ⌝ }
+    ensures ties { λ s. ⌜ s .ties ≡ stepJob (now (table .entry)) next ties (now (work .entry)) .ties ⌝ }
+    ensures work { λ _. ⌜ now (work .exit) ≡ stepWork (now (table .entry)) next ties (now (work .entry)) ⌝ }
+{
+    if work.len() < solver::MEMORY {
+        return Step {
+            found: records::refuse(10, 0),
+            next: next,
+            ties: ties,
+        };
+    }
+    let mut widths = [0u16; 512];
+    let mut places = [0u16; 578];
+    let fault = checker::check_and_place(table, &mut widths[..], &mut places[..]);
+    if !records::accepted(fault) {
+        return Step {
+            found: records::fault_record(fault),
+            next: next,
+            ties: ties,
+        };
+    }
+    if lined(table) {
+        return Step {
+            found: records::refuse(43, 0),
+            next: next,
+            ties: ties,
+        };
+    }
+    let bits = numbers::wide(places[checker::BITS]);
+    step_placed(table, &widths[..], &places[..], bits, next, ties, work)
+}
+
+// The work area of a job that is opened: each place holds itself, and all else is 0.
+fn open_area(bits: usize, work: &mut [u16])
+    ensures { λ _. ⌜ OpensArea bits (now (work .entry)) (now (work .exit)) ⌝ }
+{
+    numbers::clear(work);
+    let n = numbers::lesser(bits, work.len());
+    linking::unlink(&mut work[..n]);
+}
+
+// Opens a job.
+pub fn open_at(table: &[u16], next: u32, ties: u32, work: &mut [u16]) -> Step
+    ensures record { λ s. ⌜ s .found ≡ openRecord (now (table .entry)) (length (now (work .entry))) ⌝ }
+    ensures next { λ s. ⌜ s .next ≡ openJob (now (table .entry)) next ties (length (now (work .entry))) .next ⌝ }
+    ensures ties { λ s. ⌜ s .ties ≡ openJob (now (table .entry)) next ties (length (now (work .entry))) .ties ⌝ }
+    ensures work { λ _. ⌜ now (work .exit) ≡ openWork (now (table .entry)) (now (work .entry)) ⌝ }
+{
+    if work.len() < solver::MEMORY {
+        return Step {
+            found: records::refuse(10, 0),
+            next: next,
+            ties: ties,
+        };
+    }
+    let mut widths = [0u16; 512];
+    let mut places = [0u16; 578];
+    let fault = checker::check_and_place(table, &mut widths[..], &mut places[..]);
+    if !records::accepted(fault) {
+        return Step {
+            found: records::fault_record(fault),
+            next: next,
+            ties: ties,
+        };
+    }
+    if lined(table) {
+        return Step {
+            found: records::refuse(43, 0),
+            next: next,
+            ties: ties,
+        };
+    }
+    let bits = numbers::wide(places[checker::BITS]);
+    open_area(bits, work);
+    Step {
+        found: records::complete(0, numbers::short(bits)),
+        next: numbers::short(sides::next_equation(table, 0, table.len() / 4)),
+        ties: 0,
+    }
+}
+
+// The row at which the equations of a job's answer end: after a never the row at which no pattern is left, else all rows.
+fn answer_row(next: u32, r: usize, rows: usize) -> usize
+    ensures { λ n. ⌜ n ≡ cond (eqb next 1000) r rows ⌝ }
+{
+    if next == NEVER {
+        return r;
+    }
+    rows
+}
+
+// The answer so far of a job, with a link for each source.
+fn answer_with(
+    table: &[u16],
+    widths: &[u16],
+    places: &[u16],
+    bits: usize,
+    next: u32,
+    ties: u32,
+    work: &[u16],
+    links: &mut [u16],
+    answer: &mut [u16],
+) -> Record
+    ensures { λ r. ⌜ (length (now (links .entry)) ≡ suc (suc bits) → AnswersPlaced (now (table .entry)) (now (widths .entry)) (now (places .entry)) bits next ties (now (work .entry)) (now (answer .entry)) (now (answer .exit)) r) ⌝ }
+{
+    let mut short = [0u16; 2048];
+    let mut left = [0u16; 4096];
+    let mut right = [0u16; 4096];
+    let rows = table.len() / 4;
+    let len = copies::copy(table, &mut short[..]);
+    let r = read_state(
+        table,
+        &short[..len],
+        widths,
+        places,
+        next,
+        ties,
+        work,
+        &mut left[..],
+        &mut right[..],
+        links,
+    );
+    if rows < r {
+        return records::refuse(44, 0);
+    }
+    solver::answer_taken(
+        table,
+        bits,
+        answer_row(next, r, rows),
+        ties as usize,
+        links,
+        &mut left[..],
+        answer,
+    )
+}
+
+// The answer so far of a job of a table that was checked and placed.
+fn answer_placed(
+    table: &[u16],
+    widths: &[u16],
+    places: &[u16],
+    bits: usize,
+    next: u32,
+    ties: u32,
+    work: &[u16],
+    answer: &mut [u16],
+) -> Record
+    ensures { λ r. ⌜ AnswersPlaced (now (table .entry)) (now (widths .entry)) (now (places .entry)) bits next ties (now (work .entry)) (now (answer .entry)) (now (answer .exit)) r ⌝ }
+{
+    let mut links = [0u16; 4098];
+    let sources = numbers::lesser(bits, terms::MAX_BITS) + 2;
+    answer_with(
+        table,
+        widths,
+        places,
+        bits,
+        next,
+        ties,
+        work,
+        &mut links[..sources],
+        answer,
+    )
+}
+
+// The answer so far of a job.
+pub fn answer_at(table: &[u16], next: u32, ties: u32, work: &[u16], answer: &mut [u16]) -> Record
+    ensures record { λ r. ⌜ r ≡ jobAnswerRecord (now (table .entry)) next ties (now (work .entry)) (length (now (answer .entry))) ⌝ }
+    ensures answer { λ _. ⌜ now (answer .exit) ≡ jobAnswerAfter (now (table .entry)) next ties (now (work .entry)) (now (answer .entry)) ⌝ }
+{
+    if work.len() < solver::MEMORY {
+        return records::refuse(10, 0);
+    }
+    if answer.len() < solver::ANSWER {
+        return records::refuse(10, 0);
+    }
+    let mut widths = [0u16; 512];
+    let mut places = [0u16; 578];
+    let fault = checker::check_and_place(table, &mut widths[..], &mut places[..]);
+    if !records::accepted(fault) {
+        return records::fault_record(fault);
+    }
+    if lined(table) {
+        return records::refuse(43, 0);
+    }
+    let bits = numbers::wide(places[checker::BITS]);
+    answer_placed(
+        table,
+        &widths[..],
+        &places[..],
+        bits,
+        next,
+        ties,
+        work,
+        answer,
     )
 }
