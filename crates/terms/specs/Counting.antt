@@ -103,8 +103,8 @@ pub record OtherLines (other table : List ℕ) : Type 0 where
   pub as-many : length other ≡ length table
   pub each : (r : ℕ) → r < length (rowsOf table) → SameButLine (rowAt (rowsOf other) r) (rowAt (rowsOf table) r)
 
--- (i) Line numbers are asked of no rule: with others, whatever they are, a table is accepted where it was, and else has the fault that it had; its
--- rows have the widths that they had.
+-- (i) No rule asks for a line number: with others, whatever they are, a table is accepted where it was, and else has the fault that it had; its rows
+-- have the widths that they had.
 pub record LinesFree (other table : List ℕ) : Type 0 where
   pub same-fault : firstFault other ≡ firstFault table
   pub same-widths : widthsOf (rowsOf other) ≡ widthsOf (rowsOf table)
