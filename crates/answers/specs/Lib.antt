@@ -5,6 +5,7 @@ pub mod RightSide
 pub mod Systems
 pub mod Filled
 pub mod Revised
+pub mod Never
 pub mod Demands
 pub mod Homes
 pub mod Representatives

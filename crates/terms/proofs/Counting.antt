@@ -3,7 +3,7 @@
 use mathlib.Core.Path.{_≡_, refl, sym, _∙_, ap, ap₂}
 use mathlib.Core.Bool.{Bool, true, false, _&&_, _||_, cond, and-false, or-false}
 use mathlib.Core.List.{List, [], _∷_, _++_}
-use mathlib.Core.Logic.{_⊎_, inl, inr, ⊎-elim}
+use mathlib.Core.Logic.{_⊎_, inl, inr, ⊎-elim, _≢_}
 use Prim.Native.Nat.{ℕ, zero, suc, _+_, _-_, _<_, _≤_}
 use native.Mathlib.Omega.{arith}
 use lib.Dec.{eqb, ltb}
@@ -11,13 +11,13 @@ use lib.ListN.{length, drop, length-drop, List·getD-eq-default}
 use lib.Seq.{getD-drop, ext-getD}
 use borrow.Author.Tests.{eqb-true, eq-eqb, ltb-true, lt-ltb}
 use Rattle.laws.proofs.Bools.{not-both, and-parts, and-both, or-left, or-right}
-use Rattle.laws.proofs.Numbers.{lt-or-le}
+use Rattle.laws.proofs.Numbers.{lt-or-le, dec-eq}
 use Rattle.terms.specs.declared.Row.{Row}
 use Rattle.terms.specs.declared.Fault.the-variants.{Accepted}
 use Rattle.terms.specs.Table.{rowsOf, rowNumbers, rowAt, noRow, silentRow, leavingOff, ofLine, someRow, revised, counting}
 use Rattle.terms.specs.Faults.{firstFault}
 use Rattle.terms.specs.Sound.{Sound}
-use Rattle.terms.specs.Counting.{IsLine, Revised, CountingRows, OneOfLine, DistinctLines, Unmoved, withoutLine, FewEquations}
+use Rattle.terms.specs.Counting.{IsLine, Revised, Counts, CountingRows, OneOfLine, DistinctLines, Unmoved, withoutLine, FewEquations}
 use Rattle.terms.proofs.RowNumbers.{row-numbers-length, rows-written}
 use Rattle.terms.proofs.AcceptedTable.{accepted-table, sound-accepted, table-totals}
 use Rattle.terms.proofs.Alike.{AlikeRow, Alike}
@@ -139,6 +139,16 @@ module _ (t : List Row) where
       go : (b : Bool) → revised (rowAt t r) (drop (suc r) t) ≡ b → Revised t r ⊎ (Revised t r → ⊥)
       go true e = inl (revised-to r l e)
       go false e = inr (λ h. not-both (revised-of r h) e)
+
+  -- a row is an equation that counts or not
+  pub counts-or-not : (r : ℕ) → Counts t r ⊎ (Counts t r → ⊥)
+  counts-or-not r = go (lt-or-le r (length t)) (dec-eq (rowAt t r .kind) 4)
+    where
+      go : (r < length t) ⊎ (length t ≤ r) → (rowAt t r .kind ≡ 4) ⊎ (rowAt t r .kind ≢ 4) → Counts t r ⊎ (Counts t r → ⊥)
+      go (inr l) k = inr (λ c. absurd (omega (arith, l, c .in-table)))
+      go (inl l) (inr k) = inr (λ c. k (c .is-equation))
+      go (inl l) (inl k) =
+          ⊎-elim (λ gone. inr (λ c. c .unrevised gone)) (λ still. inl (record { in-table = l; is-equation = k; unrevised = still })) (revised-or-not r l)
 
   -- (e) where no two equations have one line number above 0, nothing moves
   pub unmoved : Unmoved t

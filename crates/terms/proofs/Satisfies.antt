@@ -6,11 +6,12 @@ use mathlib.Core.Logic.{⊎-elim}
 use Prim.Native.Nat.{ℕ, zero, suc, _<_}
 use native.Mathlib.Omega.{arith}
 use lib.Dec.{eqb}
-use lib.ListN.{length, getD}
+use lib.ListN.{length, getD, take, length-take}
+use lib.Seq.{getD-take, take-all}
 use borrow.Author.Tests.{eqb-true, eq-eqb}
 use Rattle.terms.specs.declared.Row.{Row}
-use Rattle.terms.specs.Table.{rowAt, byKind, valuesOf, sameWord, evened, sidesAgree, allRows, silentRow, counting, satisfies}
-use Rattle.terms.specs.Counting.{Counts, SidesEqual, MeetsCounting}
+use Rattle.terms.specs.Table.{rowAt, noRow, byKind, valuesOf, sameWord, evened, sidesAgree, allRows, silentRow, counting, satisfies}
+use Rattle.terms.specs.Counting.{Counts, SidesEqual, MeetsBefore, MeetsCounting}
 use Rattle.terms.proofs.RowKinds.{each-kind}
 use Rattle.terms.proofs.Counting.{counting-rows, revised-or-not}
 use Rattle.laws.proofs.Bools.{not-both, and-parts}
@@ -62,26 +63,41 @@ pub silent-agrees : (vs : List (List ℕ)) → sidesAgree vs silentRow ≡ true
 silent-agrees vs = agree-of vs silentRow (λ e. refl)
 
 module _ (t : List Row) (p : List ℕ) where
+  -- the first n rows, as they count, agree exactly if the filled sides of each equation that counts among them have the same value
+  pub before-at : (n : ℕ) → allRows (sidesAgree (valuesOf t p)) (take n (counting t)) ≡ true → MeetsBefore t n p
+  before-at n h r l c =
+      let rows = counting-rows t in
+      let inside : r < length (take n (counting t)) = omega (arith, l, c .in-table, rows .as-many, length-take n (counting t)) in
+      agree-at (valuesOf t p) (rowAt t r) (c .is-equation)
+      (rw (getD-take n (counting t) r noRow l, rows .stays r (c .unrevised)) at (all-at (sidesAgree (valuesOf t p)) (take n (counting t)) h r inside))
+
+  pub before-of : (n : ℕ) → MeetsBefore t n p → allRows (sidesAgree (valuesOf t p)) (take n (counting t)) ≡ true
+  before-of n h =
+      all-of (sidesAgree (valuesOf t p)) (take n (counting t))
+      (λ r l.
+      let below : r < n = omega (arith, l, length-take n (counting t)) in
+      rw (getD-take n (counting t) r noRow below) (row r below (omega (arith, l, length-take n (counting t), counting-rows t .as-many))))
+    where
+      row : (r : ℕ) → r < n → r < length t → sidesAgree (valuesOf t p) (rowAt (counting t) r) ≡ true
+      row r below l =
+          ⊎-elim (λ gone. rw (counting-rows t .replaced r gone) (silent-agrees (valuesOf t p)))
+          (λ still.
+          rw (counting-rows t .stays r still)
+          (agree-of (valuesOf t p) (rowAt t r) (λ k. h r below (record { in-table = l; is-equation = k; unrevised = still }))))
+          (revised-or-not t r l)
+
+  all-rows : take (length t) (counting t) ≡ counting t
+  all-rows = take-all (length t) (counting t) (omega (arith, counting-rows t .as-many))
+
   -- In a table that an assignment satisfies the filled sides of each equation that counts have the same value.
   pub satisfies-at : satisfies t p ≡ true → (r : ℕ) → Counts t r → SidesEqual t p r
   unfolding satisfies
-  satisfies-at h r c =
-      let rows = counting-rows t in
-      agree-at (valuesOf t p) (rowAt t r) (c .is-equation)
-      (rw (rows .stays r (c .unrevised)) at (all-at (sidesAgree (valuesOf t p)) (counting t) h r (omega (arith, c .in-table, rows .as-many))))
+  satisfies-at h r c = before-at (length t) (rw all-rows h) r (c .in-table) c
 
   -- An assignment under which the filled sides of each equation that counts have the same value satisfies the table.
   pub satisfies-of : ((r : ℕ) → Counts t r → SidesEqual t p r) → satisfies t p ≡ true
   unfolding satisfies
-  satisfies-of h = all-of (sidesAgree (valuesOf t p)) (counting t) (λ r l. row r (omega (arith, l, counting-rows t .as-many)))
-    where
-      row : (r : ℕ) → r < length t → sidesAgree (valuesOf t p) (rowAt (counting t) r) ≡ true
-      row r l =
-          ⊎-elim (λ gone. rw (counting-rows t .replaced r gone) (silent-agrees (valuesOf t p)))
-          (λ still.
-          rw (counting-rows t .stays r still)
-          (agree-of (valuesOf t p) (rowAt t r) (λ k. h r (record { in-table = l; is-equation = k; unrevised = still }))))
-          (revised-or-not t r l)
+  satisfies-of h = rw all-rows at (before-of (length t) (λ r l c. h r c))
 
   -- (c) both ways
   pub meets-counting : MeetsCounting t p

@@ -6,7 +6,7 @@ use Prim.Native.Nat.{ℕ, _<_, _≤_}
 use lib.ListN.{length}
 use Rattle.terms.specs.declared.Row.{Row}
 use Rattle.terms.specs.declared.Fault.the-variants.{Accepted}
-use Rattle.terms.specs.Table.{rowsOf, rowNumbers, rowAt, countKind, valueOf, evened, satisfies, silentRow, leavingOff, ofLine, counting}
+use Rattle.terms.specs.Table.{rowsOf, rowNumbers, rowAt, widthsOf, countKind, valueOf, evened, satisfies, silentRow, leavingOff, ofLine, counting}
 use Rattle.terms.specs.Faults.{firstFault}
 use Rattle.terms.specs.Acceptance.{Exactly}
 
@@ -49,6 +49,10 @@ pub record OneOfLine (t : List Row) (n : ℕ) : Type 0 where
 abbrev pub SidesEqual : List Row → List ℕ → ℕ → Type 0
 SidesEqual t p r = evened (valueOf t p (rowAt t r .a)) (valueOf t p (rowAt t r .b)) ≡ evened (valueOf t p (rowAt t r .b)) (valueOf t p (rowAt t r .a))
 
+-- An assignment meets the equations that count in the rows before row n: their filled sides are equal.
+abbrev pub MeetsBefore : List Row → ℕ → List ℕ → Type 0
+MeetsBefore t n p = (r : ℕ) → r < n → Counts t r → SidesEqual t p r
+
 -- (c) An assignment satisfies a table exactly if both filled sides are equal in each equation that counts.
 abbrev pub MeetsCounting : List Row → List ℕ → Type 0
 MeetsCounting t p = Exactly (satisfies t p ≡ true) ((r : ℕ) → Counts t r → SidesEqual t p r)
@@ -87,3 +91,20 @@ TakesItsPlace t e p =
 -- (g) The equations that a table is refused 17 for are all of them: an accepted table has at most 64, counting or not.
 abbrev pub FewEquations : List ℕ → Type 0
 FewEquations table = countKind 4 (rowsOf table) ≤ 64
+
+-- Two rows are the same, but for the line number if they are equations; and tables of as many numbers, all of whose rows are so.
+pub record SameButLine (s r : Row) : Type 0 where
+  pub kind-is : s .kind ≡ r .kind
+  pub a-is : s .a ≡ r .a
+  pub b-is : s .b ≡ r .b
+  pub c-is : (r .kind ≡ 4 → ⊥) → s .c ≡ r .c
+
+pub record OtherLines (other table : List ℕ) : Type 0 where
+  pub as-many : length other ≡ length table
+  pub each : (r : ℕ) → r < length (rowsOf table) → SameButLine (rowAt (rowsOf other) r) (rowAt (rowsOf table) r)
+
+-- (i) No rule asks for a line number: with others, whatever they are, a table is accepted where it was, and else has the fault that it had; its rows
+-- have the widths that they had.
+pub record LinesFree (other table : List ℕ) : Type 0 where
+  pub same-fault : firstFault other ≡ firstFault table
+  pub same-widths : widthsOf (rowsOf other) ≡ widthsOf (rowsOf table)
