@@ -30,7 +30,7 @@ use Rattle.answers.proofs.AnswerNumbers.{numbers-length, rows-back}
 use Rattle.answers.proofs.Demands.{demand-2, demand-3}
 use Rattle.answers.proofs.Lent.{call-answer}
 use Rattle.worked.specs.Cases.{Case, Holds, AllHold, _and_, row, figures}
-use Rattle.worked.specs.WrongSolvers.{Solver, rightSolver, foundBy, answering, solvedAs, solving, firstCopied, firstEquationOnly, wholePieces, everyVariableFree, neverAtFirst, alwaysAlways, everyPairATie, inventedRows, inventedTie, noAnswerTable, allRefused, passed, sweep, sweptOnce, placePairs, sweptLabel, sweptRows, oneSweep, WrongRecord, RightAt, rowsRead, Breaks2, overlap, overlapTwice, bothZero, zeroAndOne, zeroIsOne, chain, chainBack, ShutOut}
+use Rattle.worked.specs.WrongSolvers.{Solver, rightSolver, foundBy, answering, solvedAs, solving, firstCopied, firstEquationOnly, wholePieces, everyVariableFree, neverOn, neverAtFirst, neverAtFirstEquation, alwaysAlways, everyPairATie, inventedRows, inventedTie, noAnswerTable, allRefused, passed, sweep, sweptOnce, placePairs, sweptLabel, sweptRows, oneSweep, WrongRecord, RightAt, rowsRead, Breaks2, overlap, overlapTwice, bothZero, zeroAndOne, zeroIsOne, chain, chainBack, ShutOut}
 use Rattle.worked.proofs.ByClasses.{by-classes, classRecord}
 use Rattle.worked.proofs.WorkedOut.{tableComputed, out-holds}
 use Rattle.worked.proofs.Worked.{all-cases}
@@ -168,6 +168,10 @@ never-is : Is zeroIsOne (figures 1 0 0 0 0 2)
 unfolding tableComputed
 never-is = by-classes zeroIsOne never-accepted .0
 
+zero-one-is : Is zeroAndOne (figures 1 0 0 0 2 6)
+unfolding tableComputed
+zero-one-is = by-classes zeroAndOne zero-one-accepted .0
+
 chain-is : Is chain (figures 2 6 1 4 20 0)
 unfolding tableComputed
 chain-is = by-classes chain chain-accepted .0
@@ -233,16 +237,22 @@ free-sum : freeBits (freeRows (rowsOf overlap)) + 0 ≡ bitsOf (rowsOf overlap)
 unfolding wrongComputed
 free-sum = refl
 
--- 3. Never at the first row.
-never-first-3 : WrongRecord neverAtFirst overlap
-never-first-3 =
-    shut overlap overlap-accepted (λ t. neverRecord 0 0) (λ t. [])
+-- 3. Never at the first row, or at any.
+never-3 : (first : List Row → ℕ) → WrongRecord (neverOn first) overlap
+never-3 first =
+    shut overlap overlap-accepted (λ t. neverRecord 0 (first t)) (λ t. [])
     (λ e. omega (arith, case-1, demand-3 overlap overlap-accepted .never-to (outcome-of (sym e))))
 
 never-first-row : WrongRecord neverAtFirst zeroIsOne
 never-first-row =
     shut zeroIsOne never-accepted (λ t. neverRecord 0 0) (λ t. [])
     (λ e. omega (arith, ap (λ (r : Record). r .row) (e ∙ never-is)))
+
+never-equation-row : WrongRecord neverAtFirstEquation zeroAndOne
+unfolding wrongComputed nextEquation
+never-equation-row =
+    shut zeroAndOne zero-one-accepted (λ t. neverRecord 0 (nextEquation t 0 (length t))) (λ t. [])
+    (λ e. omega (arith, ap (λ (r : Record). r .row) (e ∙ zero-one-is)))
 
 -- 4. Always.
 always-3 : WrongRecord alwaysAlways overlap
@@ -379,8 +389,10 @@ shut-out =
       variable-free-2 = variable-free-2;
       free-system = free-system;
       free-sum = free-sum;
-      never-first-3 = never-first-3;
+      never-first-3 = never-3 (λ t. 0);
+      never-equation-3 = never-3 (λ t. nextEquation t 0 (length t));
       never-first-row = never-first-row;
+      never-equation-row = never-equation-row;
       always-3 = always-3;
       always-none = always-none;
       pair-a-tie = pair-a-tie;

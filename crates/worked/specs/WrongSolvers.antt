@@ -71,9 +71,15 @@ wholePieces v (w ∷ ws) = record { variable = v; kind = 2; width = w; fresh = v
 abbrev pub everyVariableFree : Solver
 everyVariableFree = solving (λ t. wholePieces 0 (variableWidths t)) (λ t. 0)
 
--- 3. It answers never on the first row.
+-- 3. It answers never on the first row, be that row 0 or the first equation's.
+abbrev pub neverOn : (List Row → ℕ) → Solver
+neverOn first = answering (λ t. neverRecord 0 (first t)) (λ t. [])
+
 abbrev pub neverAtFirst : Solver
-neverAtFirst = answering (λ t. neverRecord 0 0) (λ t. [])
+neverAtFirst = neverOn (λ t. 0)
+
+abbrev pub neverAtFirstEquation : Solver
+neverAtFirstEquation = neverOn (λ t. nextEquation t 0 (length t))
 
 -- 4. It always answers always.
 abbrev pub alwaysAlways : Solver
@@ -195,9 +201,11 @@ pub record ShutOut : Type 0 where
   pub variable-free-2 : Breaks2 everyVariableFree overlap
   pub free-system : SolvedSystem (variableWidths (rowsOf overlap)) (sidesOf (variableWidths (rowsOf overlap)) (wholePieces 0 (variableWidths (rowsOf overlap))))
   pub free-sum : freeBits (wholePieces 0 (variableWidths (rowsOf overlap))) + 0 ≡ bitsOf (rowsOf overlap)
-  -- 3. Demand 3: 16 patterns meet case 1. And where none does, in case 4, the row is not the first.
+  -- 3. Demand 3: 16 patterns meet case 1. And where none does, in cases 4 and 5, the row is another.
   pub never-first-3 : WrongRecord neverAtFirst overlap
+  pub never-equation-3 : WrongRecord neverAtFirstEquation overlap
   pub never-first-row : WrongRecord neverAtFirst zeroIsOne
+  pub never-equation-row : WrongRecord neverAtFirstEquation zeroAndOne
   -- 4. Demand 3: not every pattern meets case 1; and none meets case 4.
   pub always-3 : WrongRecord alwaysAlways overlap
   pub always-none : WrongRecord alwaysAlways zeroIsOne
