@@ -1,20 +1,18 @@
 -- Wrong solvers are shut out, each at its table: by the demand that document 01 names for it. Assumes nothing.
 use mathlib.Core.Path.{_≡_, refl, sym, _∙_, ap, subst}
-use mathlib.Core.Bool.{Bool, true, false, cond}
+use mathlib.Core.Bool.{Bool}
 use mathlib.Core.List.{List, [], _∷_, _++_}
-use Prim.Native.Nat.{ℕ, suc, _+_, _-_, _*_, _^_, _≤_, _<_}
+use Prim.Native.Nat.{ℕ, _+_, _-_, _*_, _^_, _≤_, _<_}
 use native.Mathlib.Omega.{arith}
-use lib.Dec.{eqb}
 use lib.ListN.{length, getD, take, drop, replicate, length-replicate, replicate-append-replicate}
 use lib.Seq.{take-at}
 use borrow.Author.Tests.{le-ltb}
-use Rattle.laws.specs.Buffers.{overwrite}
 use Rattle.laws.proofs.Bools.{not-both}
 use Rattle.laws.proofs.Buffers.{overwrite-fits}
 use Rattle.terms.specs.declared.Record.{Record}
 use Rattle.terms.specs.declared.Row.{Row}
 use Rattle.terms.specs.declared.Fault.the-variants.{Accepted}
-use Rattle.terms.specs.Assignments.{Assignment, done, off, on, every, count}
+use Rattle.terms.specs.Assignments.{done, off, on, every, count}
 use Rattle.terms.specs.Calls.{stopAt}
 use Rattle.terms.specs.Faults.{firstFault}
 use Rattle.terms.specs.Table.{rowsOf, nextEquation, bitsOf, bitOf, satisfies, sameWord, evened}
@@ -24,16 +22,16 @@ use Rattle.answers.specs.declared.AnswerRow.{AnswerRow}
 use Rattle.answers.specs.Answer.{variableWidths, freeBits, answerNumbers, answerRowsOf, instantiate, bitsOfRows, rowBits}
 use Rattle.answers.specs.Pairs.{equationPairs, equalUnder, satisfiesPairs, ties}
 use Rattle.answers.specs.Solve.{pairsTogether, valid, unsatisfiable, satisfiesTo, unsatRow, tiesTo, answerRecord, solvedRecord, solvedRows, solveRecord, answerAfter, neverRecord, alwaysRecord}
-use Rattle.answers.specs.Systems.{SolvedSystem, sideWidth}
-use Rattle.answers.specs.Demands.{Filled, partOf, sideOf, sidesFrom, sidesOf}
+use Rattle.answers.specs.Demands.{Filled}
 use Rattle.answers.proofs.AnswerNumbers.{numbers-length, rows-back}
 use Rattle.answers.proofs.Demands.{demand-2, demand-3}
 use Rattle.answers.proofs.Lent.{call-answer}
-use Rattle.worked.specs.Cases.{Case, Holds, AllHold, _and_, row, figures}
-use Rattle.worked.specs.WrongSolvers.{Solver, rightSolver, foundBy, answering, solvedAs, solving, firstCopied, firstEquationOnly, wholePieces, everyVariableFree, neverOn, neverAtFirst, neverAtFirstEquation, alwaysAlways, everyPairATie, inventedRows, inventedTie, noAnswerTable, allRefused, passed, sweep, sweptOnce, placePairs, sweptLabel, sweptRows, oneSweep, WrongRecord, RightAt, rowsRead, Breaks2, overlap, overlapTwice, bothZero, zeroAndOne, zeroIsOne, chain, chainBack, ShutOut}
-use Rattle.worked.proofs.ByClasses.{by-classes, classRecord}
-use Rattle.worked.proofs.WorkedOut.{tableComputed, out-holds}
+use Rattle.worked.specs.Cases.{Case, Holds, AllHold, _and_, figures}
+use Rattle.worked.specs.WrongSolvers.{Solver, rightSolver, foundBy, answering, solvedAs, firstCopied, firstEquationOnly, wholePieces, everyVariableFree, neverOn, neverAtFirst, neverAtFirstEquation, alwaysAlways, everyPairATie, inventedRows, inventedTie, noAnswerTable, allRefused, passed, sweep, sweptOnce, placePairs, sweptLabel, sweptRows, oneSweep, WrongRecord, RightAt, rowsRead, Breaks2, overlap, overlapTwice, bothZero, zeroAndOne, zeroIsOne, chain, chainBack, ShutOut}
+use Rattle.worked.proofs.ByClasses.{by-classes}
+use Rattle.worked.proofs.WorkedOut.{tableComputed}
 use Rattle.worked.proofs.Worked.{all-cases}
+use Rattle.worked.proofs.WholePieces.{whole-system, whole-free}
 
 -- The right solver is one that answers so.
 pub right-is : answering answerRecord solvedRows ≡ rightSolver
@@ -46,11 +44,11 @@ module _ (table : List ℕ) (accepted : firstFault table ≡ Accepted) where
 
   module _ (old : List ℕ) (workRoom : ℕ) (room : 24576 ≤ length old) (memory : 16384 ≤ workRoom) where
     -- With room an accepted table is answered; and so by the right solver.
-    pub found-by : (answer : List Row → Record) → foundBy answer table old workRoom ≡ answer t
+    found-by : (answer : List Row → Record) → foundBy answer table old workRoom ≡ answer t
     unfolding foundBy stopAt
     found-by answer = rw (le-ltb (length old) 24576 room, le-ltb workRoom 16384 memory, accepted) refl
 
-    pub right-found : solveRecord table (length old) workRoom ≡ answerRecord t
+    right-found : solveRecord table (length old) workRoom ≡ answerRecord t
     unfolding foundBy solveRecord
     right-found = found-by answerRecord
 
@@ -66,7 +64,7 @@ module _ (table : List ℕ) (accepted : firstFault table ≡ Accepted) where
     breaks-not-right solver two broken e l = broken old workRoom room memory (rw (e, l) (right-filled two))
 
     -- What a host reads of an answer that is solved are its rows, if they have room.
-    pub rows-read : (answer : List Row → Record) (rows : List Row → List AnswerRow) (tied : ℕ) → answer t ≡ solvedRecord (rows t) tied
+    rows-read : (answer : List Row → Record) (rows : List Row → List AnswerRow) (tied : ℕ) → answer t ≡ solvedRecord (rows t) tied
         → length (rows t) * 6 ≤ 24576 → rowsRead (answering answer rows) table old workRoom ≡ rows t
     rows-read answer rows tied is few =
         rw (found-by answer ∙ is)
@@ -229,14 +227,6 @@ variable-free-2 =
     breaks overlap overlap-accepted (solvedAs freeRows (λ t. 0)) freeRows 0 free-is (omega arith)
     (λ filled. not-both (filled .every-filling (0 ∷ 1 ∷ replicate 6 0) (off (on (off (off (off (off (off (off done)))))))) .1) refl)
 
-free-system : SolvedSystem (variableWidths (rowsOf overlap)) (sidesOf (variableWidths (rowsOf overlap)) (freeRows (rowsOf overlap)))
-unfolding wrongComputed partOf sideOf sidesFrom sidesOf sideWidth
-free-system = record { wide = λ label. 8; parts-fine = (((omega arith, refl), tt), tt); widths-are = refl }
-
-free-sum : freeBits (freeRows (rowsOf overlap)) + 0 ≡ bitsOf (rowsOf overlap)
-unfolding wrongComputed
-free-sum = refl
-
 -- 3. Never at the first row, or at any.
 never-3 : (first : List Row → ℕ) → WrongRecord (neverOn first) overlap
 never-3 first =
@@ -387,8 +377,8 @@ shut-out =
       first-equation-2 = first-equation-2;
       variable-free = variable-free;
       variable-free-2 = variable-free-2;
-      free-system = free-system;
-      free-sum = free-sum;
+      free-system = whole-system;
+      free-sum = whole-free;
       never-first-3 = never-3 (λ t. 0);
       never-equation-3 = never-3 (λ t. nextEquation t 0 (length t));
       never-first-row = never-first-row;

@@ -2,9 +2,9 @@
 -- each as a definition of its answer for every input, as somebody could have programmed it; and what it means that they are shut out.
 -- Nothing is built on these. Each is as near to the right one as it can be: wrong in the one thing that its name says.
 use mathlib.Core.Path.{_≡_}
-use mathlib.Core.Bool.{Bool, not, _&&_, _||_, cond}
+use mathlib.Core.Bool.{not, _&&_, _||_, cond}
 use mathlib.Core.List.{List, [], _∷_, _++_, map}
-use Prim.Native.Nat.{ℕ, suc, _+_, _-_, _*_, _≤_, _<_, min}
+use Prim.Native.Nat.{ℕ, suc, _-_, _*_, _≤_, _<_, min}
 use lib.Dec.{eqb, ltb}
 use lib.ListN.{length, getD, set, take, replicate}
 use Rattle.laws.specs.Buffers.{overwrite}
@@ -195,12 +195,12 @@ pub record ShutOut : Type 0 where
   -- 1. Demand 3: case 5 is solved for it, and no pattern meets that. Demand 2: where u = v and v = 0 it leaves both free.
   pub first-equation-3 : WrongRecord firstEquationOnly zeroAndOne
   pub first-equation-2 : Breaks2 firstEquationOnly bothZero
-  -- 2. Demand 2: of case 1 a filling of the free word does not meet the table. Its answer is a solved system, free is the sum of the fresh
-  -- pieces' widths, and free plus ties are the variable bits: nothing else is wrong with it.
+  -- 2. Demand 2: of case 1 a filling of the free word does not meet the table. Nothing else is wrong with its answer, whatever the table: for
+  -- widths of at least 1 it is a solved system, and its free bits, with no tie, are the variable bits.
   pub variable-free : WrongRecord everyVariableFree overlap
   pub variable-free-2 : Breaks2 everyVariableFree overlap
-  pub free-system : SolvedSystem (variableWidths (rowsOf overlap)) (sidesOf (variableWidths (rowsOf overlap)) (wholePieces 0 (variableWidths (rowsOf overlap))))
-  pub free-sum : freeBits (wholePieces 0 (variableWidths (rowsOf overlap))) + 0 ≡ bitsOf (rowsOf overlap)
+  pub free-system : (ws : List ℕ) → ((v : ℕ) → v < length ws → 1 ≤ getD ws v 0) → SolvedSystem ws (sidesOf ws (wholePieces 0 ws))
+  pub free-sum : (t : List Row) → freeBits (wholePieces 0 (variableWidths t)) ≡ bitsOf t
   -- 3. Demand 3: 16 patterns meet case 1. And where none does, in cases 4 and 5, the row is another.
   pub never-first-3 : WrongRecord neverAtFirst overlap
   pub never-equation-3 : WrongRecord neverAtFirstEquation overlap
