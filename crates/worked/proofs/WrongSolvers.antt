@@ -178,6 +178,10 @@ back-is : Is chainBack (figures 2 6 1 4 20 0)
 unfolding tableComputed
 back-is = by-classes chainBack back-accepted .0
 
+-- An answer row of one bit of variable 0, of a fresh piece.
+abbrev bit : ℕ → AnswerRow
+bit f = record { variable = 0; kind = 2; width = 1; fresh = f }
+
 abbrev outcome-of : {r s : Record} → r ≡ s → r .outcome ≡ s .outcome
 outcome-of e = ap (λ (r : Record). r .outcome) e
 
@@ -283,18 +287,30 @@ tie-invented =
     (λ e. let same : solvedRecord (inventedRows (rowsOf overlap)) (inventedTies (rowsOf overlap)) ≡ answerRecord (rowsOf overlap) = sym invented-is ∙ e in
     omega (arith, case-1, demand-3 overlap overlap-accepted .solved-count (outcome-of (sym same)) ∙ ap (λ (r : Record). 2 ^ r .free) (sym same)))
 
--- Bit 7 alone is 1: that meets the table, and no filling gives it.
-not-filled : (f : List ℕ) → length f ≡ freeBits (inventedRows (rowsOf overlap)) → instantiate (inventedRows (rowsOf overlap)) f ≡ 1 ∷ replicate 7 0 → ⊥
+-- Its rows are of one bit each, and the first two are one fresh piece. Bit 7 alone is 1: that meets the table, and no filling gives it.
+abbrev singleBits : List AnswerRow
+singleBits = bit 0 ∷ bit 0 ∷ bit 1 ∷ bit 0 ∷ bit 1 ∷ bit 0 ∷ bit 1 ∷ bit 2 ∷ []
+
+invented-rows : inventedRows (rowsOf overlap) ≡ singleBits
+unfolding wrongComputed
+invented-rows = refl
+
+not-filled : (f : List ℕ) → length f ≡ 3 → instantiate singleBits f ≡ 1 ∷ replicate 7 0 → ⊥
 unfolding wrongComputed
 not-filled [] l e = omega (arith, l)
 not-filled (x ∷ f) l e = let z : _≡_ {A = ℕ} 0 1 = cc in omega arith
 
+filled-not : Filled (rowsOf overlap) singleBits → ⊥
+unfolding wrongComputed
+filled-not filled =
+    let only = filled .one-filling (1 ∷ replicate 7 0) (on (off (off (off (off (off (off (off done)))))))) refl in
+    not-filled (only .filling) (assignment-length (only .bits)) (only .gives)
+
 tie-invented-2 : Breaks2 inventedTie overlap
-unfolding wrongComputed inventedTies
+unfolding inventedTies
 tie-invented-2 =
-    breaks overlap overlap-accepted (solvedAs inventedRows inventedTies) inventedRows (inventedTies (rowsOf overlap)) invented-is (omega arith)
-    (λ filled. let only = filled .one-filling (1 ∷ replicate 7 0) (on (off (off (off (off (off (off (off done)))))))) refl in
-    not-filled (only .filling) (assignment-length {p = only .filling} (only .bits)) (only .gives))
+    breaks overlap overlap-accepted (solvedAs inventedRows inventedTies) inventedRows (inventedTies (rowsOf overlap)) invented-is (rw invented-rows (omega arith))
+    (λ filled. filled-not (rw invented-rows at filled))
 
 -- 6. No answer table.
 numbers-30 : length (answerNumbers (solvedRows (rowsOf overlap))) ≡ 30
