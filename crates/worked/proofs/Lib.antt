@@ -20,3 +20,5 @@ pub mod Spellings
 pub mod ShortSides
 pub mod FirstPlaces
 pub mod Revised
+pub mod WholePieces
+pub mod WrongSolvers

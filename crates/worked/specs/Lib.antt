@@ -5,3 +5,4 @@ pub mod Spellings
 pub mod ShortSides
 pub mod FirstPlaces
 pub mod Revised
+pub mod WrongSolvers
