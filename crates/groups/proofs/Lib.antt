@@ -1,3 +1,5 @@
 pub mod Masks
 pub mod Rows
+pub mod Keys
 pub mod Groups
+pub mod Counting
