@@ -1,17 +1,17 @@
 -- The equal rows counted: those of a word, place by place, are one for each two words and shift. Assumes nothing.
 use mathlib.Core.Path.{_≡_, refl, sym, _∙_, subst}
-use mathlib.Core.Bool.{Bool, true, false, not, _&&_, cond, and-false}
+use mathlib.Core.Bool.{true, false, not, _&&_, cond, and-false}
 use mathlib.Core.List.{List}
 use Prim.Native.Nat.{ℕ, suc, _+_, _-_, _*_, _/_, _≤_, _<_}
 use native.Mathlib.Omega.{arith}
 use native.Mathlib.Numerals.{add-one}
-use lib.Dec.{eqb, leb, ltb}
+use lib.Dec.{eqb, leb}
 use lib.ListN.{getD}
 use borrow.Author.Tests.{eq-eqb, ne-eqb, le-leb, lt-leb, lt-ltb, le-ltb}
 use Rattle.laws.specs.Lists.{below, tally}
 use Rattle.laws.proofs.Tallies.{below-of}
 use Rattle.groups.specs.inner.Counts.{linked, represented, standIn, firstAlike}
-use Rattle.groups.specs.inner.Groups.{groupX, groupY, groupShift, GroupOf, sameKey, isRowOf, noRow, Added, noPlace, WordRows, PlacePut, PutsPlace, Counts}
+use Rattle.groups.specs.inner.Groups.{groupX, groupY, groupShift, GroupOf, sameKey, isRowOf, noRow, Added, noPlace, WordRows, PutsPlace, Counts}
 use Rattle.groups.proofs.Keys.{none-alike}
 
 -- where a word begins, none of its rows is there

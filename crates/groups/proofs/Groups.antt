@@ -20,9 +20,9 @@ use Rattle.laws.proofs.Bools.{and-past, or-right, one-most}
 use Rattle.laws.proofs.Numbers.{dec-eq, eqb-turn}
 use Rattle.laws.specs.Bools.{implies}
 use Rattle.groups.specs.inner.Places.{sourceBit, equalTest, fixedPlace, agreesAt, PutsEqual}
-use Rattle.groups.specs.inner.Counts.{linked, equalRows, firstAlike}
-use Rattle.groups.specs.inner.Groups.{groupTest, Groups, groupX, groupY, groupShift, GroupOf, sameKey, isRowOf, lastRow, noRow, Added, Covered, Covers, Counts}
-use Rattle.groups.proofs.Keys.{Same, key-same, row-there, last-is}
+use Rattle.groups.specs.inner.Counts.{linked, equalRows}
+use Rattle.groups.specs.inner.Groups.{groupTest, Groups, groupX, groupY, groupShift, GroupOf, sameKey, isRowOf, noRow, Added, Covered, Covers, Counts}
+use Rattle.groups.proofs.Keys.{Same, key-same, row-there}
 use Rattle.groups.proofs.Masks.{and-or-none, equal-bit}
 use Rattle.groups.proofs.Rows.{four-other, four-first, four-second, four-third, four-fourth, below-same, place-bit}
 

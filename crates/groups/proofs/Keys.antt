@@ -1,20 +1,19 @@
 -- Equal rows by their words and their shift: rows that were compared, the last that is looked for, and places that stand alike.
 -- Assumes nothing.
 use mathlib.Core.Path.{_≡_, refl, sym, _∙_, ap, ap₂}
-use mathlib.Core.Bool.{Bool, true, false, not, _&&_, cond, and-false}
+use mathlib.Core.Bool.{Bool, true, false, not, _&&_, cond, and-false, and-true}
 use mathlib.Core.List.{List}
 use mathlib.Core.Logic.{_⊎_, inl, inr, _≢_}
 use Prim.Native.Nat.{ℕ, zero, suc, _+_, _-_, _*_, _/_, _%_, _≤_, _<_}
 use native.Mathlib.Omega.{arith}
-use native.Mathlib.Numerals.{add-one}
 use lib.Dec.{eqb, leb, ltb}
 use lib.ListN.{getD}
 use borrow.Author.Tests.{eqb-true, eq-eqb, ne-eqb, leb-true, leb-false, ltb-true, le-leb, lt-leb}
 use Rattle.laws.specs.Lists.{below}
-use Rattle.laws.proofs.Bools.{and-first, and-second, and-both, same-test, clash}
+use Rattle.laws.proofs.Bools.{and-first, and-second, and-both, same-test}
 use Rattle.laws.proofs.Numbers.{eqb-turn}
-use Rattle.laws.proofs.Tallies.{below-of, below-fails}
-use Rattle.groups.specs.inner.Counts.{represented, standIn, alike, firstAlike}
+use Rattle.laws.proofs.Tallies.{below-fails}
+use Rattle.groups.specs.inner.Counts.{represented, standIn, alike}
 use Rattle.groups.specs.inner.Groups.{groupX, groupY, groupShift, sameKey, isRowOf, lastRow, noRow, noPlace}
 use Rattle.groups.proofs.Rows.{below-same}
 
@@ -64,14 +63,10 @@ module _ (plan : List ℕ) (x y shift g w : ℕ) (e : w ≡ g) where
 
   pub first-tells : getD plan (4 * w + 260 + 1) 0 ≡ y → getD plan (4 * w + 260 + 2) 0 ≡ shift → eqb (getD plan (4 * w + 260) 0) x ≡ isRowOf plan x y shift g
   unfolding sameKey
-  first-tells b c = go (eqb (getD plan (4 * w + 260) 0) x) refl
-    where
-      go : (t : Bool) → eqb (getD plan (4 * w + 260) 0) x ≡ t → t ≡ isRowOf plan x y shift g
-      go t h = sym (row-test ∙ rw (h, eq-eqb (getD plan (4 * w + 260 + 1) 0) y b, eq-eqb (getD plan (4 * w + 260 + 2) 0) shift c) (go′ t))
-        where
-          go′ : (t : Bool) → t && true ≡ t
-          go′ true = refl
-          go′ false = refl
+  first-tells b c =
+      sym
+      (row-test
+      ∙ rw (eq-eqb (getD plan (4 * w + 260 + 1) 0) y b, eq-eqb (getD plan (4 * w + 260 + 2) 0) shift c) (and-true (eqb (getD plan (4 * w + 260) 0) x)))
 
 -- ---- the last row
 

@@ -3,3 +3,4 @@ pub mod Rows
 pub mod Keys
 pub mod Groups
 pub mod Counting
+pub mod Alike

@@ -148,7 +148,7 @@ module _ (table links : List ℕ) (row ties k : ℕ) (plan plan′ : List ℕ) (
 
     pub planned-never : Planned table plan′
     unfolding fixedRowsOf equalRowsOf
-    planned-never = record { tells = tells-never; sized = rw (is-never table accepted met) (put room .sized) }
+    planned-never = (tells-never, rw (is-never table accepted met) (put room .sized))
 
   -- none did
   module _ (l : length table / 4 ≤ row) (e : k ≡ countKind 0 (rowsOf table)) (put : PutsRows links k plan plan′) where
@@ -171,10 +171,7 @@ module _ (table links : List ℕ) (row ties k : ℕ) (plan plan′ : List ℕ) (
     pub planned-rows : Planned table plan′
     unfolding fixedRowsOf equalRowsOf
     planned-rows =
-        record {
-          tells = tells-rows;
-          sized = rw (is-left table accepted left, ← lowest-links table accepted left links (taken .settled whole), ← e) (rows .sized);
-        }
+        (tells-rows, rw (is-left table accepted left, ← lowest-links table accepted left links (taken .settled whole), ← e) (rows .sized))
 
 -- ---- (e): what a plan tells of a never table and of an always table
 

@@ -9,7 +9,7 @@ use lib.ListN.{getD}
 use Rattle.laws.specs.Lists.{below, tally}
 use Rattle.laws.specs.Bools.{implies}
 use Rattle.groups.specs.inner.Places.{sourceBit, equalTest, fixedPlace, agreesAt}
-use Rattle.groups.specs.inner.Counts.{linked, represented, standIn, firstAlike}
+use Rattle.groups.specs.inner.Counts.{represented, standIn, firstAlike}
 
 -- The test of an equal row x, y, shift, mask.
 unfoldable pub groupTest : List ℕ → ℕ → ℕ → ℕ → ℕ → Bool

@@ -74,9 +74,8 @@ Tells table plan =
     (window : List ℕ) → length window ≡ countKind 0 (rowsOf table) → meetsPlan plan window ≡ satisfies (rowsOf table) (wordsBits window)
 
 -- And it has as many rows as its words with fixed bits and its pairs of words with tied bits need.
-pub record Planned (table plan : List ℕ) : Type 0 where
-  pub tells : Tells table plan
-  pub sized : Sized plan (fixedRowsOf (rowsOf table)) (equalRowsOf (rowsOf table))
+abbrev pub Planned : List ℕ → List ℕ → Type 0
+Planned table plan = Tells table plan × Sized plan (fixedRowsOf (rowsOf table)) (equalRowsOf (rowsOf table))
 
 -- The plan of a table that was placed, of k variables that have 16 bits each, from a link for each source.
 abbrev pub Plans : List ℕ → List ℕ → List ℕ → List ℕ → ℕ → List ℕ → List ℕ → Type 0
