@@ -2,7 +2,7 @@
 use mathlib.Core.Path.{_≡_, refl, sym, _∙_}
 use mathlib.Core.Bool.{Bool, true, false, not, _&&_, cond}
 use mathlib.Core.Logic.{_⊎_, inl, inr}
-use Prim.Native.Nat.{ℕ, zero, suc, _+_, _-_, _/_, _≤_, _<_, min}
+use Prim.Native.Nat.{ℕ, zero, suc, _+_, _-_, _/_, _%_, _≤_, _<_, min}
 use native.Mathlib.Omega.{arith}
 use lib.Dec.{ltb}
 use borrow.Author.Tests.{not-true, not-false}
@@ -91,8 +91,8 @@ module _ (r : ℕ → ℕ) where
       go i j f g h (inr l) (inl m) = absurd (no-earlier i j m f g h)
       go i j f g h (inr l) (inr m) = omega arith
 
--- Two words that are equal have one row, of 16 bits; two words whose bits are all equal have 31 rows, of one bit each.
-pub equal-words : equalRows (λ s. cond (ltb s 18) s (s - 16)) 2 ≡ 1
+-- Three words that are equal have two rows, of 16 bits each; two words whose bits are all equal have 31 rows, of one bit each.
+pub equal-words : equalRows (λ s. cond (ltb s 2) s (2 + (s - 2) % 16)) 3 ≡ 2
 unfolding equalRows tally firstAlike below represented alike
 equal-words = refl
 
