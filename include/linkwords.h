@@ -706,7 +706,8 @@ lw_record lw_marker_positions(const uint16_t *table, size_t table_len,
 
      The table is analysed once, and then a start takes a few operations on
      words: one for each word that has fixed bits, and one for each two words
-     and each shift between tied bits of them, up to the first that fails.
+     (or one word) and each shift at which a bit of the one stands to the lowest
+     bit that it is tied to, in the other; up to the first that fails.
 
      The table and the run are only read. Neither may overlap list.
 */
