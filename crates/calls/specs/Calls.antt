@@ -1,5 +1,6 @@
--- The calls that return a record, and the program, together: what is said of every one of them for every input (documents 01, "Where a call
--- stops", and 02, (iii); proofs/Outcomes.antt, proofs/Refusals.antt). That these are the exported contracts is linkwords/proofs/Calls.antt.
+-- The calls that return a record, and the program, together: what is said of every one of them for every input (document 01, "Where a call
+-- stops"; document 02, (iii)), in proofs/Outcomes.antt and proofs/Refusals.antt. That their contracts say the same is linkwords/proofs/Calls.antt,
+-- of the program solve/proofs/Calls.antt.
 use mathlib.Core.Path.{_≡_}
 use mathlib.Core.List.{List, [], _∷_}
 use Prim.Native.Nat.{ℕ, _≤_}
