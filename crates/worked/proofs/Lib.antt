@@ -8,6 +8,16 @@ pub mod AnyWidth
 pub mod WidthBounds
 pub mod NoneLeft
 pub mod Labels
+pub mod LaidRows
+pub mod LaidAnswer
+pub mod LaidPatterns
+pub mod LaidCases
+pub mod PatternWords
+pub mod ShortSidesAnyWidth
+pub mod ShortSidesWithin
+pub mod NeverAt
+pub mod ShortSidesNever
+pub mod ShortSidesEveryWidth
 pub mod Overlaps
 pub mod OverlapRows
 pub mod OverlapNumbers
