@@ -18,6 +18,8 @@ pub mod ShortSidesWithin
 pub mod NeverAt
 pub mod ShortSidesNever
 pub mod ShortSidesEveryWidth
+pub mod RevisedAnyWidth
+pub mod RevisedEveryWidth
 pub mod Overlaps
 pub mod OverlapRows
 pub mod OverlapNumbers

@@ -6,3 +6,4 @@ pub mod ShortSides
 pub mod ShortSidesEveryWidth
 pub mod FirstPlaces
 pub mod Revised
+pub mod RevisedEveryWidth
