@@ -2,22 +2,22 @@
 -- the ties say just what they say, and which are cut and numbered by document 01's rules, are the answer's. Assumes nothing.
 use mathlib.Core.Path.{_≡_, refl, sym, _∙_, ap, ap₂}
 use mathlib.Core.Bool.{Bool, true, false, not, _&&_, _||_, cond, and-false, or-true}
-use mathlib.Core.List.{List, [], _∷_, reverse, reverseAux}
+use mathlib.Core.List.{List, _∷_, reverse, reverseAux}
 use mathlib.Core.Logic.{_⊎_, inl, inr, _≢_}
 use Prim.Native.Nat.{ℕ, zero, suc, _+_, _-_, _≤_, _<_, pred}
 use native.Mathlib.Omega.{arith}
 use lib.Dec.{eqb}
-use lib.ListN.{length, drop}
+use lib.ListN.{length}
 use lib.Seq.{drop-length}
 use borrow.Author.Tests.{eq-eqb, ne-eqb, eqb-true}
 use Rattle.laws.specs.Bools.{implies}
 use Rattle.laws.specs.Lists.{below, tally}
 use Rattle.laws.proofs.Bools.{and-parts, clash}
 use Rattle.laws.proofs.Least.{least-is}
-use Rattle.laws.proofs.Numbers.{dec-eq, eqb-turn}
+use Rattle.laws.proofs.Numbers.{dec-eq}
 use Rattle.laws.proofs.Tallies.{below-of, below-fails, tally-none, tally-apart, tally-front}
 use Rattle.answers.specs.declared.AnswerRow.{AnswerRow}
-use Rattle.answers.specs.Answer.{begins, variableAt, tied, fixedTo, unfixed, contiguous, fixedAlike, goesOn, lowest, appears, placeRow, widened, placed, rowsTo, answerRows, noAnswerRow, answerRowAt, isFresh, homeRow}
+use Rattle.answers.specs.Answer.{begins, variableAt, tied, fixedTo, unfixed, contiguous, fixedAlike, goesOn, lowest, appears, placeRow, placed, rowsTo, answerRows, answerRowAt, isFresh, homeRow}
 use Rattle.answers.proofs.AnswerRows.{placed-new}
 use Rattle.answers.proofs.Homes.{ofPiece, home-of, before-not, home-le}
 use Rattle.worked.proofs.LaidRows.{startOf, start-next, Stands, stands, start-up, Laid, Ends, laid-wide, laid-variable, laid-inside, laid-ends, lastFirst, turned-rows}

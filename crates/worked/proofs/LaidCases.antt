@@ -3,7 +3,7 @@
 use mathlib.Core.Path.{_≡_, refl, sym, _∙_, ap}
 use mathlib.Core.Bool.{Bool, true, false, not}
 use mathlib.Core.List.{List}
-use Prim.Native.Nat.{ℕ, _+_, _-_, _^_, _≤_}
+use Prim.Native.Nat.{ℕ, _+_, _^_, _≤_}
 use native.Mathlib.Omega.{arith}
 use lib.ListN.{length}
 use Rattle.terms.specs.declared.Row.{Row}
@@ -13,7 +13,7 @@ use Rattle.terms.specs.Table.{rowsOf, bitsOf, satisfies}
 use Rattle.answers.specs.declared.AnswerRow.{AnswerRow}
 use Rattle.laws.specs.Lists.{distinct, least, member}
 use Rattle.answers.specs.Answer.{variableWidths, freshPieces, freshNumbers, freshStart, freshWidth, freeBits, homeRow, highBit, widthInRows, answerRowNumbers, numbersFrom, answerNumbers}
-use Rattle.answers.specs.Solve.{valid, unsatisfiable, tiesTo, solvedRows, solvedRecord, answerRecord}
+use Rattle.answers.specs.Solve.{valid, unsatisfiable, tiesTo, solvedRows, answerRecord}
 use Rattle.answers.proofs.Demands.{solved-sum}
 use Rattle.answers.proofs.Tables.{valid-to}
 use Rattle.answers.proofs.GeneralSystems.{widthSum}

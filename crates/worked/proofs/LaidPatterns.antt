@@ -25,7 +25,7 @@ use Rattle.answers.proofs.Agreement.{place-bit, fixed-bit}
 use Rattle.answers.proofs.Homes.{ofPiece}
 use Rattle.answers.proofs.Tables.{every-same}
 use Rattle.worked.proofs.OneWord.{equal-in, unequal-at}
-use Rattle.worked.proofs.LaidRows.{startOf, Stands, stands, Laid}
+use Rattle.worked.proofs.LaidRows.{startOf, stands, Laid}
 use Rattle.worked.proofs.LaidAnswer.{Fine, zeros, ones, fresh-piece, WellCut, SaidBy, laid-answer}
 
 -- The bits of a row, where each fresh piece has a word; and of all rows.

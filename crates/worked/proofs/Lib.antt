@@ -20,6 +20,8 @@ pub mod ShortSidesNever
 pub mod ShortSidesEveryWidth
 pub mod RevisedAnyWidth
 pub mod RevisedEveryWidth
+pub mod FirstPlacesAnyWidth
+pub mod FirstPlacesEveryWidth
 pub mod Overlaps
 pub mod OverlapRows
 pub mod OverlapNumbers

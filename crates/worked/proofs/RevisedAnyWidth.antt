@@ -1,6 +1,6 @@
 -- Revised equations at every width (specs/RevisedEveryWidth.antt). Assumes nothing.
 use mathlib.Core.Path.{_≡_, refl, sym, _∙_, ap}
-use mathlib.Core.Bool.{Bool, true, false, _&&_, _||_, and-true, and-false}
+use mathlib.Core.Bool.{true, false, _&&_, _||_, and-true, and-false}
 use mathlib.Core.List.{List, [], _∷_, _++_, append-nil}
 use mathlib.Core.Logic.{_⊎_, inl, inr, _≢_}
 use Prim.Native.Nat.{ℕ, zero, suc, _+_, _-_, _≤_, _<_}
@@ -28,7 +28,7 @@ use Rattle.worked.proofs.Holding.{refused-case}
 use Rattle.worked.proofs.OneWord.{alike, all-alike, false-of}
 use Rattle.worked.proofs.PatternWords.{Tells, tells}
 use Rattle.worked.proofs.LaidRows.{line, Laid, none, last}
-use Rattle.worked.proofs.LaidAnswer.{WellCut, Fine, zeros, ones, Apart, OneVariable}
+use Rattle.worked.proofs.LaidAnswer.{WellCut, Fine, zeros, ones}
 use Rattle.worked.proofs.LaidPatterns.{Patterns, patternOf, rowWord}
 use Rattle.worked.proofs.LaidCases.{laid-holds, laid-ties, numbersComputed}
 use Rattle.worked.proofs.NeverAt.{never-at}

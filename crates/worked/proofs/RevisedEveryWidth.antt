@@ -1,5 +1,8 @@
--- The cases of revised equations hold at every width and with every line number. Assumes nothing.
+-- The cases of revised equations hold at every width and with every line number; one worked by hand as an instance.
+-- Assumes nothing.
+use mathlib.Core.List.{[], _++_}
 use native.Mathlib.Omega.{arith}
+use Rattle.worked.specs.Cases.{Solved, Holds, row, figures}
 use Rattle.worked.specs.RevisedEveryWidth.{RevisedAtEveryWidth}
 use Rattle.worked.proofs.RevisedAnyWidth.{to-ones-any, to-zeros-any, both-count-any, where-it-stands-any, says-nothing-any, cut-no-line-any, checked-too-any, value-unlined-any}
 
@@ -15,3 +18,11 @@ revised-every-width =
       checked-too = λ w n r a b h. checked-too-any w a b n r h;
       value-unlined = value-unlined-any;
     }
+
+-- The third case worked by hand: w is 2, line 7, and the other has no line.
+pub by-hand-revised : Holds (Solved
+    (row 0 2 0 0 ++ row 1 0 2 0 ++ row 1 1 2 0 ++ row 4 0 1 7 ++ row 4 0 2 0 ++ row 4 0 1 7)
+    (figures 1 0 0 0 2 5)
+    []
+    0)
+by-hand-revised = revised-every-width .where-it-stands 2 7 0 (omega arith) (omega arith) (omega arith) (λ e. omega arith)

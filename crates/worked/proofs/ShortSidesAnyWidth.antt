@@ -1,26 +1,24 @@
 -- Short sides against long sides at every width (specs/ShortSidesEveryWidth.antt). Assumes nothing.
-use mathlib.Core.Path.{_≡_, refl, sym, _∙_, ap, ap₂}
-use mathlib.Core.Bool.{Bool, true, false, _&&_, cond, and-true}
+use mathlib.Core.Path.{_≡_, refl, sym, _∙_, ap}
+use mathlib.Core.Bool.{true, false, and-true}
 use mathlib.Core.List.{List, [], _∷_, _++_, append-assoc, append-nil}
-use mathlib.Core.Logic.{_⊎_, inl, inr, _≢_}
-use Prim.Native.Nat.{ℕ, zero, suc, _+_, _-_, _^_, _≤_, _<_}
+use Prim.Native.Nat.{ℕ, zero, suc, _+_, _-_, _≤_, _<_}
 use native.Mathlib.Omega.{arith}
-use lib.ListN.{length, take, drop, replicate, length-append, length-replicate, length-drop}
+use lib.ListN.{length, replicate, length-append, length-replicate}
 use lib.Dec.{eqb, ltb}
 use borrow.Author.Tests.{le-ltb, ne-eqb}
 use Rattle.terms.specs.declared.Fault.the-variants.{Accepted}
 use Rattle.terms.specs.Faults.{firstFault}
-use Rattle.terms.specs.Table.{rowsOf, bitsOf, evened, sameWord, satisfies}
+use Rattle.terms.specs.Table.{rowsOf, bitsOf, satisfies}
 use Rattle.terms.proofs.Computed.{faultComputed, satisfiesComputed}
-use Rattle.terms.proofs.Satisfies.{same-word, word-same}
 use Rattle.laws.specs.Lists.{tally, least}
 use Rattle.answers.specs.declared.AnswerRow.{AnswerRow}
 use Rattle.answers.specs.Answer.{variableWidths, homeRow}
-use Rattle.worked.specs.Cases.{Solved, Holds, row, piece, figures}
+use Rattle.worked.specs.Cases.{Holds, row, piece}
 use Rattle.worked.specs.ShortSidesEveryWidth.{EitherSideLeft, longFirst, shortFirst}
 use Rattle.worked.proofs.PatternWords.{Sides, said, turned, Tells, tells, tells-turned, long-left, long-right, first-of-two, second-of-two, two-words}
-use Rattle.worked.proofs.LaidRows.{line, Laid, none, more, last}
-use Rattle.worked.proofs.LaidAnswer.{WellCut, Fine, zeros, ones, fresh-piece, Apart, kinds, ends, OneVariable}
+use Rattle.worked.proofs.LaidRows.{line, none, more, last}
+use Rattle.worked.proofs.LaidAnswer.{WellCut, Fine, zeros, fresh-piece, Apart, kinds, OneVariable}
 use Rattle.worked.proofs.LaidPatterns.{Patterns, patternOf, rowWord, Sized}
 use Rattle.worked.proofs.LaidCases.{laid-holds, numbersComputed}
 

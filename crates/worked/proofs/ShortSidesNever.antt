@@ -1,12 +1,12 @@
 -- Short sides at every width (specs/ShortSidesEveryWidth.antt) that no pattern can make equal to the long side, or that every pattern does.
 -- Assumes nothing.
 use mathlib.Core.Path.{_≡_, refl, sym, _∙_, ap}
-use mathlib.Core.Bool.{Bool, true, false, _&&_, and-true, and-false}
+use mathlib.Core.Bool.{Bool, true, false, and-true, and-false}
 use mathlib.Core.List.{List, [], _∷_, _++_, append-nil}
 use Prim.Native.Nat.{ℕ, zero, suc, _+_, _≤_, _<_}
 use native.Mathlib.Omega.{arith}
 use lib.Dec.{eqb, ltb}
-use lib.ListN.{length, getD, take, drop, replicate, length-replicate, length-append, replicate-append-replicate}
+use lib.ListN.{length, getD, take, drop, replicate, length-replicate, replicate-append-replicate}
 use lib.Seq.{length-take-le}
 use borrow.Author.Tests.{le-ltb, ne-eqb}
 use Rattle.terms.specs.declared.Fault.the-variants.{Accepted}
@@ -21,13 +21,13 @@ use Rattle.answers.specs.declared.AnswerRow.{AnswerRow}
 use Rattle.answers.specs.Answer.{variableWidths, homeRow}
 use Rattle.answers.specs.Pairs.{ties, pairsOf, pairsIn}
 use Rattle.answers.specs.Solve.{satisfiesTo, tiesTo, pairsTogether}
-use Rattle.worked.specs.Cases.{Solved, Holds, row, figures}
+use Rattle.worked.specs.Cases.{Holds, row, figures}
 use Rattle.worked.specs.ShortSidesEveryWidth.{EitherSideLeft, longOnes, longOnesLater, zeroFills, oneFills}
 use Rattle.worked.proofs.Holding.{met-by-all, solved-case}
 use Rattle.worked.proofs.OneWord.{alike, false-of}
 use Rattle.worked.proofs.PatternWords.{Sides, said, turned, Tells, tells, tells-turned, long-left, long-right, first-of-two, second-of-two, two-words}
-use Rattle.worked.proofs.LaidRows.{line, Laid, none, more, last}
-use Rattle.worked.proofs.LaidAnswer.{WellCut, Fine, zeros, ones, fresh-piece, Apart, kinds, ends, OneVariable}
+use Rattle.worked.proofs.LaidRows.{line, none, last}
+use Rattle.worked.proofs.LaidAnswer.{WellCut, Fine, fresh-piece, Apart, OneVariable}
 use Rattle.worked.proofs.LaidPatterns.{Patterns, patternOf, rowWord, Sized}
 use Rattle.worked.proofs.LaidCases.{laid-ties, numbersComputed}
 use Rattle.worked.proofs.NeverAt.{never-at}

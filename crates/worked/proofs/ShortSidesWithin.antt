@@ -7,21 +7,24 @@ use mathlib.Core.Logic.{inr}
 use Prim.Native.Nat.{ℕ, zero, suc, _+_, _-_, _^_, _≤_, _<_}
 use native.Mathlib.Omega.{arith}
 use lib.Dec.{eqb, ltb}
-use lib.ListN.{length, take, drop, replicate, length-append, length-replicate}
-use lib.Seq.{take-all}
+use lib.ListN.{length, take, replicate, length-append, length-replicate}
+use lib.Seq.{take-at, take-all}
 use borrow.Author.Tests.{le-ltb, lt-ltb, ne-eqb}
 use Rattle.terms.specs.declared.Fault.the-variants.{Accepted}
 use Rattle.terms.specs.Faults.{firstFault}
-use Rattle.terms.specs.Table.{rowsOf, bitsOf, extract, satisfies}
+use Rattle.terms.specs.Table.{rowsOf, bitsOf, extract, sameWord, satisfies}
 use Rattle.terms.proofs.Computed.{faultComputed, satisfiesComputed}
-use Rattle.terms.proofs.Words.{extract-right, extract-whole}
+use Rattle.terms.proofs.Filled.{same-even}
+use Rattle.terms.proofs.Satisfies.{word-same}
+use Rattle.terms.proofs.Words.{extract-right, extract-left, extract-whole}
 use Rattle.laws.specs.Lists.{tally, least}
+use Rattle.laws.proofs.Bools.{and-parts}
 use Rattle.answers.specs.declared.AnswerRow.{AnswerRow}
 use Rattle.answers.specs.Answer.{variableWidths, homeRow}
 use Rattle.worked.specs.Cases.{Solved, Holds, row, piece, figures}
-use Rattle.worked.specs.ShortSidesEveryWidth.{EitherSideLeft, ownBits, shortOnes, shortJoin}
+use Rattle.worked.specs.ShortSidesEveryWidth.{EitherSideLeft, ownBits, ownBitsAgain, shortOnes, shortJoin}
 use Rattle.worked.proofs.PatternWords.{Sides, said, turned, Tells, tells, tells-turned, long-left, long-right, first-of-two, two-words, second-of-three, third-of-three, three-words}
-use Rattle.worked.proofs.LaidRows.{line, Laid, none, more, last}
+use Rattle.worked.proofs.LaidRows.{line, none, more, last}
 use Rattle.worked.proofs.LaidAnswer.{WellCut, Fine, zeros, ones, fresh-piece, Apart, kinds, ends, OneVariable}
 use Rattle.worked.proofs.LaidPatterns.{Patterns, patternOf, rowWord, Sized}
 use Rattle.worked.proofs.LaidCases.{laid-holds, numbersComputed}
@@ -96,40 +99,114 @@ module _ (w g : ℕ) (one : 1 ≤ w) (some : 1 ≤ g) (most : w + g ≤ 1024) wh
       apart zero l e = kinds (λ h. omega arith)
       apart (suc k) l e = absurd (omega arith)
 
-  own-patterns : (a b : ℕ) → Sides 0 1 a b → Patterns (rowsOf (ownTable a b)) ownRows wide
-  unfolding patternOf rowWord
-  own-patterns a b side = record { passes = passes; reaches = reaches }
-    where
-      together : (y : List ℕ) → zero-word ++ y ≡ zero-word ++ (y ++ [])
-      together y = ap (λ (z : List ℕ). zero-word ++ z) (sym (append-nil y))
+  -- a table of one variable that says just that its top bits are 0
+  module _ (table : List ℕ) (accepted : firstFault table ≡ Accepted) (bits : bitsOf (rowsOf table) ≡ w + g + 0)
+      (widths : variableWidths (rowsOf table) ≡ (w + g) ∷ [])
+      (says : (x y : List ℕ) → length x ≡ g → length y ≡ w → Tells (satisfies (rowsOf table) (x ++ y)) (x ++ y) (zero-word ++ y)) where
+    own-patterns : Patterns (rowsOf table) ownRows wide
+    unfolding patternOf rowWord
+    own-patterns = record { passes = passes; reaches = reaches }
+      where
+        together : (y : List ℕ) → zero-word ++ y ≡ zero-word ++ (y ++ [])
+        together y = ap (λ (z : List ℕ). zero-word ++ z) (sym (append-nil y))
 
-      passes : (word : ℕ → List ℕ) → Sized wide word → satisfies (rowsOf (ownTable a b)) (zero-word ++ (word 0 ++ [])) ≡ true
-      passes word h =
-          ap (satisfies (rowsOf (ownTable a b))) (sym (together (word 0)))
-          ∙ own-says a b side zero-word (word 0) (length-replicate g 0) (h 0) .met refl
+        passes : (word : ℕ → List ℕ) → Sized wide word → satisfies (rowsOf table) (zero-word ++ (word 0 ++ [])) ≡ true
+        passes word h = ap (satisfies (rowsOf table)) (sym (together (word 0))) ∙ says zero-word (word 0) (length-replicate g 0) (h 0) .met refl
 
-      reaches : (p : List ℕ) → length p ≡ bitsOf (rowsOf (ownTable a b)) → satisfies (rowsOf (ownTable a b)) p ≡ true
-          → (word : ℕ → List ℕ) × Sized wide word × (p ≡ zero-word ++ (word 0 ++ []))
-      reaches p n e =
-          let c = two-words g w p (omega (arith, n, own-bits a b)) in
-          let y : List ℕ = c .1 in (
-            λ f. y,
-            λ f. c .3,
-            c .4 ∙ own-says a b side (c .0) y (c .2) (c .3) .equal (ap (satisfies (rowsOf (ownTable a b))) (sym (c .4)) ∙ e) ∙ together y,
-          )
+        reaches : (p : List ℕ) → length p ≡ bitsOf (rowsOf table) → satisfies (rowsOf table) p ≡ true
+            → (word : ℕ → List ℕ) × Sized wide word × (p ≡ zero-word ++ (word 0 ++ []))
+        reaches p n e =
+            let c = two-words g w p (omega (arith, n, bits)) in
+            let y : List ℕ = c .1 in
+            (λ f. y, λ f. c .3, c .4 ∙ says (c .0) y (c .2) (c .3) .equal (ap (satisfies (rowsOf table)) (sym (c .4)) ∙ e) ∙ together y)
+
+    zeros-and-piece : Holds (Solved table (figures 2 2 1 w g 0) (piece 0 0 g 0 0 (w + g - 1) ++ piece 0 2 w 0 0 (w - 1)) (2 ^ w))
+    unfolding numbersComputed
+    zeros-and-piece =
+        laid-holds table accepted ownRows wide own-cut ((w + g) ∷ []) widths
+        (more refl some (omega arith) (last refl one (omega arith) none))
+        own-patterns
+        2 1 w g (piece 0 0 g 0 0 (w + g - 1) ++ piece 0 2 w 0 0 (w - 1))
+        refl refl (omega arith) (omega (arith, bits)) some
+        (let c : g + (w + 0) - 1 ≡ w + g - 1 = omega arith in let d : w + 0 - 1 ≡ w - 1 = omega arith in rw (c, d) refl)
 
   pub own-any : EitherSideLeft (ownBits w g) 0 1
-  unfolding numbersComputed
   own-any = (holds 0 1 said, holds 1 0 turned)
     where
       holds : (a b : ℕ) → Sides 0 1 a b → Holds (ownBits w g (row 4 a b 0))
+      holds a b side = zeros-and-piece (ownTable a b) (own-accepted a b side) (own-bits a b) (own-widths a b) (own-says a b side)
+
+  -- The same where the top bits are 0 already.
+  abbrev againTable : ℕ → ℕ → List ℕ
+  againTable a b = row 0 (w + g) 0 0 ++ row 3 0 (w + g - 1) w ++ row 1 0 g 0 ++ row 4 1 2 0 ++ row 3 0 (w - 1) 0 ++ row 4 a b 0
+
+  again-accepted : (a b : ℕ) → Sides 0 4 a b → firstFault (againTable a b) ≡ Accepted
+  unfolding faultComputed
+  again-accepted a b side = go side
+    where
+      c : eqb (w + g) 0 ≡ false
+      c = ne-eqb (w + g) 0 (λ e. omega arith)
+
+      d : ltb 4096 (w + g + 0) ≡ false
+      d = le-ltb 4096 (w + g + 0) (omega arith)
+
+      e : ltb (w - 1) (w + g) ≡ true
+      e = lt-ltb (w - 1) (w + g) (omega arith)
+
+      f : ltb (w + g - 1) (w + g) ≡ true
+      f = lt-ltb (w + g - 1) (w + g) (omega arith)
+
+      h : ltb (w + g - 1) w ≡ false
+      h = le-ltb (w + g - 1) w (omega arith)
+
+      i : eqb g 0 ≡ false
+      i = ne-eqb g 0 (λ z. omega arith)
+
+      go : {a b : ℕ} → Sides 0 4 a b → firstFault (againTable a b) ≡ Accepted
+      go said = rw (c, le-ltb 1024 (w + g) most, d, e, f, h, i, le-ltb 1024 g (omega arith), le-ltb (w - 1) 0 (omega arith)) refl
+      go turned = rw (c, le-ltb 1024 (w + g) most, d, e, f, h, i, le-ltb 1024 g (omega arith), le-ltb (w - 1) 0 (omega arith)) refl
+
+  top-bits : (x y : List ℕ) → length x ≡ g → length y ≡ w → extract (x ++ y) (w + g - 1) w ≡ x
+  top-bits x y m n =
+      let e : w + g - 1 - length y ≡ length x - 1 = omega arith in
+      let f : w - length y ≡ 0 = omega arith in
+      extract-left x y (w + g - 1) w (omega arith) (omega arith) (omega arith) ∙ ap₂ (extract x) e f ∙ extract-whole x (omega arith)
+
+  -- both equations say that the top bits are 0
+  both-tell : (x y : List ℕ) → length x ≡ g → (t : Bool) → Tells t (x ++ y) (zero-word ++ y)
+      → Tells (sameWord x zero-word && (t && true)) (x ++ y) (zero-word ++ y)
+  both-tell x y m t told =
+      record {
+        equal = λ e. told .equal (and-parts t true (and-parts (sameWord x zero-word) (t && true) e .1) .0);
+        met = λ e.
+            let first : x ≡ zero-word = sym (take-at x y g m) ∙ ap (take g) e ∙ take-at zero-word y g (length-replicate g 0) in
+            rw (told .met e, ap (λ (z : List ℕ). sameWord z zero-word) first ∙ word-same zero-word) refl;
+      }
+
+  again-says : (a b : ℕ) → Sides 0 4 a b → (x y : List ℕ) → length x ≡ g → length y ≡ w
+      → Tells (satisfies (rowsOf (againTable a b)) (x ++ y)) (x ++ y) (zero-word ++ y)
+  unfolding satisfiesComputed
+  again-says a b said x y m n =
+      rw (own-word x y m n, low-bits x y n, top-bits x y m n, same-even x zero-word (m ∙ sym (length-replicate g 0)))
+      (both-tell x y m _ (tells _ (x ++ y) (zero-word ++ y) (long-left g (x ++ y) y (omega (arith, length-append x y)))))
+  again-says a b turned x y m n =
+      rw (own-word x y m n, low-bits x y n, top-bits x y m n, same-even x zero-word (m ∙ sym (length-replicate g 0)))
+      (both-tell x y m _ (tells-turned _ (x ++ y) (zero-word ++ y) (long-right g (x ++ y) y (omega (arith, length-append x y)))))
+
+  again-bits : (a b : ℕ) → bitsOf (rowsOf (againTable a b)) ≡ w + g + 0
+  unfolding satisfiesComputed
+  again-bits a b = refl
+
+  again-widths : (a b : ℕ) → variableWidths (rowsOf (againTable a b)) ≡ (w + g) ∷ []
+  unfolding satisfiesComputed variableWidths
+  again-widths a b = refl
+
+  pub again-any : EitherSideLeft (ownBitsAgain w g) 0 4
+  again-any = (holds 0 4 said, holds 4 0 turned)
+    where
+      holds : (a b : ℕ) → Sides 0 4 a b → Holds (ownBitsAgain w g (row 4 a b 0))
       holds a b side =
-          laid-holds (ownTable a b) (own-accepted a b side) ownRows wide own-cut ((w + g) ∷ []) (own-widths a b)
-          (more refl some (omega arith) (last refl one (omega arith) none))
-          (own-patterns a b side)
-          2 1 w g (piece 0 0 g 0 0 (w + g - 1) ++ piece 0 2 w 0 0 (w - 1))
-          refl refl (omega arith) (omega (arith, own-bits a b)) some
-          (let c : g + (w + 0) - 1 ≡ w + g - 1 = omega arith in let d : w + 0 - 1 ≡ w - 1 = omega arith in rw (c, d) refl)
+          zeros-and-piece (againTable a b) (again-accepted a b side) (again-bits a b) (again-widths a b) (again-says a b side)
 
   -- A variable against ones.
   abbrev onesTable : ℕ → ℕ → List ℕ

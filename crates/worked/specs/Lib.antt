@@ -5,5 +5,6 @@ pub mod Spellings
 pub mod ShortSides
 pub mod ShortSidesEveryWidth
 pub mod FirstPlaces
+pub mod FirstPlacesEveryWidth
 pub mod Revised
 pub mod RevisedEveryWidth

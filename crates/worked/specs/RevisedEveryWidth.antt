@@ -4,7 +4,7 @@ use mathlib.Core.Path.{_≡_}
 use mathlib.Core.List.{List, [], _++_}
 use mathlib.Core.Logic.{_⊎_, _≢_}
 use Prim.Native.Nat.{ℕ, _-_, _≤_, _<_}
-use Rattle.worked.specs.Cases.{Case, Solved, Refused, Holds, row, piece, figures}
+use Rattle.worked.specs.Cases.{Solved, Refused, Holds, row, piece, figures}
 
 -- A variable of w bits, zeros and ones.
 abbrev pub zerosAndOnes : ℕ → List ℕ

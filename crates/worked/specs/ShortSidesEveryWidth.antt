@@ -1,6 +1,6 @@
 -- Short sides against long sides (document 02, request (iii)) at every width at which their tables are accepted ("anything true at several
--- widths is shown for a general width"): the shorter side has w bits, the longer one g more, and either may stand left. The cases worked by hand in
--- ShortSides.antt are instances.
+-- widths is shown for a general width"): the shorter side has w bits, the longer one g more, and either may stand left. The cases of variables,
+-- cuts and fills that ShortSides.antt works by hand are instances.
 use mathlib.Core.List.{List, [], _++_}
 use Prim.Native.Nat.{ℕ, _+_, _-_, _^_, _≤_}
 use Rattle.worked.specs.Cases.{Case, Solved, Holds, row, piece, figures}
@@ -32,6 +32,15 @@ abbrev pub ownBits : ℕ → ℕ → List ℕ → Case
 ownBits w g equation =
     Solved
     (row 0 (w + g) 0 0 ++ row 3 0 (w - 1) 0 ++ equation)
+    (figures 2 2 1 w g 0)
+    (piece 0 0 g 0 0 (w + g - 1) ++ piece 0 2 w 0 0 (w - 1))
+    (2 ^ w)
+
+-- The same where the top bits are 0 by an earlier equation: no tie more.
+abbrev pub ownBitsAgain : ℕ → ℕ → List ℕ → Case
+ownBitsAgain w g equation =
+    Solved
+    (row 0 (w + g) 0 0 ++ row 3 0 (w + g - 1) w ++ row 1 0 g 0 ++ row 4 1 2 0 ++ row 3 0 (w - 1) 0 ++ equation)
     (figures 2 2 1 w g 0)
     (piece 0 0 g 0 0 (w + g - 1) ++ piece 0 2 w 0 0 (w - 1))
     (2 ^ w)
@@ -75,6 +84,7 @@ pub record ShortSidesAtEveryWidth : Type 0 where
   pub long-first : (w g : ℕ) → 1 ≤ w → 1 ≤ g → w + g ≤ 1024 → EitherSideLeft (longFirst w g) 0 1
   pub short-first : (w g : ℕ) → 1 ≤ w → 1 ≤ g → w + g ≤ 1024 → EitherSideLeft (shortFirst w g) 0 1
   pub own-bits : (w g : ℕ) → 1 ≤ w → 1 ≤ g → w + g ≤ 1024 → EitherSideLeft (ownBits w g) 0 1
+  pub own-bits-again : (w g : ℕ) → 1 ≤ w → 1 ≤ g → w + g ≤ 1024 → EitherSideLeft (ownBitsAgain w g) 0 4
   pub short-ones : (w g : ℕ) → 1 ≤ w → 1 ≤ g → w + g ≤ 1024 → EitherSideLeft (shortOnes w g) 0 1
   pub short-join : (u v g : ℕ) → 1 ≤ u → 1 ≤ v → 1 ≤ g → u + v + g ≤ 1024 → EitherSideLeft (shortJoin u v g) 3 2
   pub long-ones : (w g : ℕ) → 1 ≤ w → 1 ≤ g → w + g ≤ 1024 → EitherSideLeft (longOnes w g) 0 1
