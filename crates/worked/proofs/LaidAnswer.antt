@@ -19,6 +19,7 @@ use Rattle.laws.proofs.Tallies.{below-of, below-fails, tally-none, tally-apart,
 use Rattle.answers.specs.declared.AnswerRow.{AnswerRow}
 use Rattle.answers.specs.Answer.{begins, variableAt, tied, fixedTo, unfixed, contiguous, fixedAlike, goesOn, lowest, appears, placeRow, placed, rowsTo, answerRows, answerRowAt, isFresh, homeRow}
 use Rattle.answers.proofs.AnswerRows.{placed-new}
+use Rattle.answers.proofs.Variables.{begins-first}
 use Rattle.answers.proofs.Homes.{ofPiece, home-of, before-not, home-le}
 use Rattle.worked.proofs.LaidRows.{startOf, start-next, Stands, stands, start-up, Laid, Ends, laid-wide, laid-variable, laid-inside, laid-ends, lastFirst, turned-rows}
 
@@ -26,12 +27,23 @@ use Rattle.worked.proofs.LaidRows.{startOf, start-next, Stands, stands,
 abbrev pub OneVariable : List AnswerRow → ℕ → Type 0
 OneVariable rows k = answerRowAt rows k .variable ≡ answerRowAt rows (suc k) .variable
 
--- Why rows k and k + 1 of one variable are two rows: they are of different kinds; or both are fresh, and a row of the fresh piece of
--- row k stands at the end of its variable.
+-- Whether a variable begins with row l.
+abbrev pub Starts : List AnswerRow → ℕ → Type 0
+Starts rows zero = Unit {0}
+Starts rows (suc l) = answerRowAt rows l .variable ≢ answerRowAt rows (suc l) .variable
+
+-- Why rows k and k + 1 of one variable are two rows: they are of different kinds; or both are fresh, and somewhere a row of either one's
+-- piece has none of the other's beside it: at the end of its variable, before another row, at the beginning, or behind another row.
 pub data Apart (rows : List AnswerRow) (k : ℕ) : Type 0 where
   kinds : answerRowAt rows k .kind ≢ answerRowAt rows (suc k) .kind → Apart rows k
   ends : (l : ℕ) → l < length rows → answerRowAt rows k .kind ≡ 2 → answerRowAt rows (suc k) .kind ≡ 2 → answerRowAt rows l .kind ≡ 2
       → answerRowAt rows l .fresh ≡ answerRowAt rows k .fresh → Ends rows l → Apart rows k
+  before : (l : ℕ) → suc l < length rows → answerRowAt rows k .kind ≡ 2 → answerRowAt rows (suc k) .kind ≡ 2 → answerRowAt rows l .kind ≡ 2
+      → answerRowAt rows l .fresh ≡ answerRowAt rows k .fresh → ofPiece rows (suc k) (suc l) ≡ false → Apart rows k
+  starts : (l : ℕ) → l < length rows → answerRowAt rows k .kind ≡ 2 → answerRowAt rows (suc k) .kind ≡ 2 → answerRowAt rows l .kind ≡ 2
+      → answerRowAt rows l .fresh ≡ answerRowAt rows (suc k) .fresh → Starts rows l → Apart rows k
+  behind : (l : ℕ) → suc l < length rows → answerRowAt rows k .kind ≡ 2 → answerRowAt rows (suc k) .kind ≡ 2 → answerRowAt rows (suc l) .kind ≡ 2
+      → answerRowAt rows (suc l) .fresh ≡ answerRowAt rows (suc k) .fresh → ofPiece rows k l ≡ false → Apart rows k
 
 -- Whether a fresh piece first appears with row k.
 abbrev pub firstRow : List AnswerRow → ℕ → Bool
@@ -151,6 +163,11 @@ module _ (rows : List AnswerRow) (wide : ℕ → ℕ) (cut : WellCut rows wide) 
   one-begins : (k : ℕ) → k < m → Ends rows k → begins ws (s (suc k)) ≡ true
   one-begins k l h = let e : s (suc k) ≡ 0 + s (suc k) = omega arith in ap (begins ws) e ∙ laid-ends laid k l h
 
+  begins-row : (k : ℕ) → k < m → Starts rows k → begins ws (s k) ≡ true
+  unfolding startOf
+  begins-row zero l h = begins-first ws
+  begins-row (suc k) l h = one-begins k (omega arith) (inr h)
+
   -- an unfixed place
   loose : (k o : ℕ) → k < m → o < at k .width → isFresh (at k) ≡ true → unfixed same (s k + o) ≡ true
   loose k o l h f = rw (said .fixed k o 0 l h (omega arith), said .fixed k o 1 l h (omega arith), kind-2 k l f) refl
@@ -182,13 +199,13 @@ module _ (rows : List AnswerRow) (wide : ℕ → ℕ) (cut : WellCut rows wide) 
 
   -- Inside a row the next place goes on.
   module _ (k o : ℕ) (l : k < m) (h : suc o < at k .width) (f : isFresh (at k) ≡ true) where
-    abbrev before : ℕ → Bool
-    before p = implies (tied same p (suc (s k + o))) (not (begins ws p) && tied same (pred p) (s k + o))
+    abbrev all-asked-before : ℕ → Bool
+    all-asked-before p = implies (tied same p (suc (s k + o))) (not (begins ws p) && tied same (pred p) (s k + o))
 
-    abbrev behind : ℕ → Bool
-    behind p = implies (tied same p (s k + o)) (not (begins ws (suc p)) && tied same (suc p) (suc (s k + o)))
+    abbrev all-asked-behind : ℕ → Bool
+    all-asked-behind p = implies (tied same p (s k + o)) (not (begins ws (suc p)) && tied same (suc p) (suc (s k + o)))
 
-    all-before : (p : ℕ) → p < n → before p ≡ true
+    all-before : (p : ℕ) → p < n → all-asked-before p ≡ true
     all-before p q = go (tied same p (suc (s k + o))) refl (stands rows m p (omega arith) (omega arith))
       where
         go : (b : Bool) → tied same p (suc (s k + o)) ≡ b → Stands rows m p → not b || (not (begins ws p) && tied same (pred p) (s k + o)) ≡ true
@@ -202,7 +219,7 @@ module _ (rows : List AnswerRow) (wide : ℕ → ℕ) (cut : WellCut rows wide) 
             rw (place, none-begins (st .row) o (st .below) in-row, at-suc (st .row) o)
             (tied-of k o (st .row) l (omega arith) (st .below) f (a .0) (a .1))
 
-    all-behind : (p : ℕ) → p < n → behind p ≡ true
+    all-behind : (p : ℕ) → p < n → all-asked-behind p ≡ true
     all-behind p q = go (tied same p (s k + o)) refl (stands rows m p (omega arith) (omega arith))
       where
         go : (b : Bool) → tied same p (s k + o) ≡ b → Stands rows m p → not b || (not (begins ws (suc p)) && tied same (suc p) (suc (s k + o))) ≡ true
@@ -220,7 +237,7 @@ module _ (rows : List AnswerRow) (wide : ℕ → ℕ) (cut : WellCut rows wide) 
     together =
         let next : unfixed same (suc (s k + o)) ≡ true = ap (unfixed same) (sym (at-suc k o)) ∙ loose k (suc o) l h f in
         let open′ : begins ws (suc (s k + o)) ≡ false = ap (begins ws) (sym (at-suc k o)) ∙ none-begins k o l h in
-        rw (loose k o l (omega arith) f, next, open′, below-of n before all-before, below-of n behind all-behind) refl
+        rw (loose k o l (omega arith) f, next, open′, below-of n all-asked-before all-before, below-of n all-asked-behind all-behind) refl
 
   -- In one row the next place goes on.
   on : (k o : ℕ) → k < m → suc o < at k .width → goesOn n ws same (suc (s k + o)) ≡ true
@@ -262,9 +279,9 @@ module _ (rows : List AnswerRow) (wide : ℕ → ℕ) (cut : WellCut rows wide) 
         let e : suc (s k + o) ≡ s (suc k) + 0 = omega (arith, at-end) in
         ap (λ (x : ℕ). fixedTo same x b) e ∙ said .fixed (suc k) 0 b l (wide-1 (suc k) l) q
 
-    two : Apart rows k → fixedAlike same (s k + o) || contiguous n ws same (s k + o) ≡ false
+    unlike-rows : at k .kind ≢ at (suc k) .kind → fixedAlike same (s k + o) || contiguous n ws same (s k + o) ≡ false
     unfolding fixedAlike contiguous
-    two (kinds d) =
+    unlike-rows d =
         rw (
           here 0 (omega arith),
           next 0 (omega arith),
@@ -274,25 +291,68 @@ module _ (rows : List AnswerRow) (wide : ℕ → ℕ) (cut : WellCut rows wide) 
           one-closed (at k .kind) (at (suc k) .kind) (kind-most k (omega arith)) (kind-most (suc k) l) d,
         )
         refl
-    two (ends j lj a b c e h) =
-        rw (below-fails n behind (s j + o) (inside j o lj (omega (arith, width, in-row)))
-        (rw (tied-of k o j (omega arith) in-row lj (fresh-2 (at k) a) (fresh-2 (at j) c) e, stop) refl))
+
+    abbrev ask-behind : ℕ → Bool
+    ask-behind p = implies (tied same p (s k + o)) (not (begins ws (suc p)) && tied same (suc p) (suc (s k + o)))
+
+    abbrev ask-before : ℕ → Bool
+    ask-before p = implies (tied same p (suc (s k + o))) (not (begins ws p) && tied same (pred p) (s k + o))
+
+    -- behind a row j of the piece of row k no place is tied to the next row's first
+    not-behind : (j : ℕ) → j < m → at k .kind ≡ 2 → at (suc k) .kind ≡ 2 → at j .kind ≡ 2 → at j .fresh ≡ at k .fresh
+        → not (begins ws (s (suc j))) && tied same (s (suc j)) (suc (s k + o)) ≡ false
+        → fixedAlike same (s k + o) || contiguous n ws same (s k + o) ≡ false
+    unfolding fixedAlike contiguous
+    not-behind j lj a b c e h =
+        rw (below-fails n ask-behind (s j + o) (inside j o lj (omega (arith, width, in-row)))
+        (rw (tied-of k o j (omega arith) in-row lj (fresh-2 (at k) a) (fresh-2 (at j) c) e, place) h))
         (rw (here 0 (omega arith), next 0 (omega arith), here 1 (omega arith), next 1 (omega arith), a, b)
-        (and-false (not (begins ws (suc (s k + o))) && below n before′)))
+        (and-false (not (begins ws (suc (s k + o))) && below n ask-before)))
       where
-        behind : ℕ → Bool
-        behind p = implies (tied same p (s k + o)) (not (begins ws (suc p)) && tied same (suc p) (suc (s k + o)))
-
-        before′ : ℕ → Bool
-        before′ p = implies (tied same p (suc (s k + o))) (not (begins ws p) && tied same (pred p) (s k + o))
-
         width : at j .width ≡ at k .width
         width = width-is j lj (fresh-2 (at j) c) ∙ ap wide e ∙ sym (width-is k (omega arith) (fresh-2 (at k) a))
 
-        stop : begins ws (suc (s j + o)) ≡ true
-        stop =
-            let q : suc (s j + o) ≡ s (suc j) = omega (arith, start-next rows j lj, width, wide-1 k (omega arith)) in
-            ap (begins ws) q ∙ one-begins j lj h
+        place : suc (s j + o) ≡ s (suc j)
+        place = omega (arith, start-next rows j lj, width, wide-1 k (omega arith))
+
+    -- before a row j of the piece of row k + 1 no place is tied to the last of row k
+    not-before : (j : ℕ) → j < m → at k .kind ≡ 2 → at (suc k) .kind ≡ 2 → at j .kind ≡ 2 → at j .fresh ≡ at (suc k) .fresh
+        → not (begins ws (s j)) && tied same (pred (s j)) (s k + o) ≡ false
+        → fixedAlike same (s k + o) || contiguous n ws same (s k + o) ≡ false
+    unfolding fixedAlike contiguous
+    not-before j lj a b c e h =
+        rw (below-fails n ask-before (s j) (omega (arith, inside j 0 lj (wide-1 j lj))) (rw first h))
+        (rw (here 0 (omega arith), next 0 (omega arith), here 1 (omega arith), next 1 (omega arith), a, b, and-false (not (begins ws (suc (s k + o))))) refl)
+      where
+        first : tied same (s j) (suc (s k + o)) ≡ true
+        first =
+            let q : suc (s k + o) ≡ s (suc k) + 0 = omega (arith, at-end) in
+            ap₂ (tied same) (sym (at-0 j)) q ∙ tied-of (suc k) 0 j l (wide-1 (suc k) l) lj (fresh-2 (at (suc k)) b) (fresh-2 (at j) c) e
+
+    two : Apart rows k → fixedAlike same (s k + o) || contiguous n ws same (s k + o) ≡ false
+    two (kinds d) = unlike-rows d
+    two (ends j lj a b c e h) = not-behind j lj a b c e (rw (one-begins j lj h) refl)
+    two (before j lj a b c e h) =
+        not-behind j (omega arith) a b c e
+        (rw (
+        ap₂ (tied same) (sym (at-0 (suc j))) (sym at-end ∙ sym (at-0 (suc k)))
+        ∙ said .turned (s (suc j) + 0) (s (suc k) + 0)
+        ∙ said .joint (suc k) 0 (suc j) 0 l (wide-1 (suc k) l) lj (wide-1 (suc j) lj) (fresh-2 (at (suc k)) b)
+        ∙ ap (λ (t : Bool). t && eqb 0 0) h
+        )
+        (and-false (not (begins ws (s (suc j))))))
+    two (starts j lj a b c e h) = not-before j lj a b c e (rw (begins-row j lj h) refl)
+    two (behind j lj a b c e h) =
+        let w = wide-1 j (omega arith) in
+        let place : pred (s (suc j)) ≡ s j + (at j .width - 1) = omega (arith, start-next rows j (omega arith)) in
+        not-before (suc j) lj a b c e
+        (rw (
+        ap (λ (x : ℕ). tied same x (s k + o)) place
+        ∙ said .turned (s j + (at j .width - 1)) (s k + o)
+        ∙ said .joint k o j (at j .width - 1) (omega arith) in-row (omega arith) (omega arith) (fresh-2 (at k) a)
+        ∙ ap (λ (t : Bool). t && eqb (at j .width - 1) o) h
+        )
+        (and-false (not (begins ws (s (suc j))))))
 
     off-next : goesOn n ws same (s (suc k)) ≡ false
     unfolding goesOn
