@@ -321,8 +321,8 @@ extern "C" {
   The version of the library, as text and as a number that grows from version to
   version: major * 1000000 + minor * 1000 + patch.
 */
-#define LW_VERSION_TEXT "0.19.0"
-#define LW_VERSION      19000
+#define LW_VERSION_TEXT "0.20.0"
+#define LW_VERSION      20000
 
 /* constants */
 
@@ -706,8 +706,7 @@ lw_record lw_marker_positions(const uint16_t *table, size_t table_len,
 
      The table is analysed once, and then a start takes a few operations on
      words: one for each word that has fixed bits, and one for each two words
-     (or one word) and each shift at which a bit of the one stands to the lowest
-     bit that it is tied to, in the other; up to the first that fails.
+     and each shift between tied bits of them, up to the first that fails.
 
      The table and the run are only read. Neither may overlap list.
 */
