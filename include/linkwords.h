@@ -321,8 +321,8 @@ extern "C" {
   The version of the library, as text and as a number that grows from version to
   version: major * 1000000 + minor * 1000 + patch.
 */
-#define LW_VERSION_TEXT "0.19.0"
-#define LW_VERSION      19000
+#define LW_VERSION_TEXT "0.20.0"
+#define LW_VERSION      20000
 
 /* constants */
 

@@ -29,5 +29,5 @@ pub mod AnswerNumbers
 pub mod Homes
 pub mod RightSide
 pub mod Runs
-pub mod Revised
 pub mod Never
+pub mod Revised

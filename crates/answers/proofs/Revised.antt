@@ -1,25 +1,34 @@
 -- A table with its revised equations left off has the answer of the table (document 02, (vii)): what the answer asks of a table are its
 -- variables and the bit pairs of what counts in it, and those stay. Assumes nothing.
 use mathlib.Core.Path.{_≡_, refl, sym, _∙_, ap, ap₂, fun-ext}
-use mathlib.Core.Bool.{Bool}
-use mathlib.Core.List.{List, [], _∷_}
-use Prim.Native.Nat.{ℕ, suc}
+use mathlib.Core.Bool.{true, not, _||_}
+use mathlib.Core.List.{List, [], _∷_, reverseAux}
+use mathlib.Core.Logic.{⊎-elim}
+use Prim.Native.Nat.{ℕ, zero, suc, _+_}
 use native.Mathlib.Omega.{arith}
-use lib.ListN.{length, take}
+use lib.Dec.{eqb}
+use lib.ListN.{length, getD, take, List·getD-eq-default}
+use borrow.Author.Tests.{eq-eqb}
+use Rattle.laws.proofs.Bools.{or-right}
+use Rattle.laws.proofs.Numbers.{lt-or-le}
 use Rattle.terms.specs.declared.Row.{Row}
 use Rattle.terms.specs.declared.Fault.the-variants.{Accepted}
-use Rattle.terms.specs.Table.{rowsOf, rowNumbers, ifVariable, bitsOf, valuesOf, sidesAgree, allRows, sourcesOf, counting, satisfies}
+use Rattle.terms.specs.Counting.{Revised, Counts}
+use Rattle.terms.specs.Table.{rowsOf, rowNumbers, rowAt, noRow, ifVariable, bitsOf, bitOf, sourcesOf, sourceOf, evened, silentRow, counting, satisfies}
 use Rattle.terms.specs.Faults.{firstFault}
-use Rattle.terms.proofs.RowKinds.{of-other}
+use Rattle.terms.proofs.Assignments.{every-of}
+use Rattle.terms.proofs.RowKinds.{Equation, of-other, of-equation, of-term}
 use Rattle.terms.proofs.RowNumbers.{rows-written}
 use Rattle.terms.proofs.Alike.{Alike, head-alike, tail-alike, alike-use, alike-bits}
 use Rattle.terms.proofs.LeavingOff.{alike-values, alike-sources}
-use Rattle.terms.proofs.Counting.{counting-rows, counting-alike, counting-once, counting-accepted}
+use Rattle.terms.proofs.Counting.{counting-rows, revised-or-not, counting-alike, counting-once, counting-accepted}
 use Rattle.terms.proofs.Revising.{counting-satisfies}
-use Rattle.answers.specs.Pairs.{Pair, pairsOf, pairsIn, equationPairs}
+use Rattle.answers.specs.Pairs.{Pair, paired, pairsOf, pairsIn, equationPairs, equalUnder, satisfiesPairs, equals, ties}
 use Rattle.answers.specs.Answer.{variableWidths}
-use Rattle.answers.specs.Solve.{valid, unsatisfiable, satisfiesTo, unsatRow, tiesTo, solvedRows, answerRecord, solveRecord, answerAfter}
-use Rattle.answers.specs.Revised.{SameCounting}
+use Rattle.answers.specs.Solve.{valid, unsatisfiable, satisfiesTo, unsatRow, pairsTogether, tiesTo, solvedRows, answerRecord, solveRecord, answerAfter, workAfter}
+use Rattle.answers.specs.Revised.{SameCounting, SaysNothing}
+use Rattle.answers.proofs.Never.{never-row}
+use Rattle.answers.proofs.Together.{ties-append}
 
 -- tables that differ at most in what their equations say have the same variables
 pub alike-variables : (ss rs : List Row) → Alike 4 ss rs → variableWidths ss ≡ variableWidths rs
@@ -80,6 +89,7 @@ same-counting table accepted =
       same-rows = rows-same t;
       same-call = call;
       same-table = λ old room. unfold answerAfter in (rw (call (length old) room, read, rows-same t));
+      same-work = λ room old. unfold workAfter in (rw (call room (length old)));
     }
   where
     t : List Row
@@ -90,3 +100,69 @@ same-counting table accepted =
 
     call : (answerRoom workRoom : ℕ) → solveRecord (rowNumbers (counting (rowsOf table))) answerRoom workRoom ≡ solveRecord table answerRoom workRoom
     call answerRoom workRoom = unfold solveRecord in (rw (read, record-same (rowsOf table), counting-accepted table accepted, accepted))
+
+-- ---- (h) the rows that say nothing
+
+-- a list of pairs that gives no tie, whatever came before it, may be left out
+ties-without : (n : ℕ) (seen : List Pair) (es : List (List Pair)) (r : ℕ) → ((s : List Pair) → ties n s (getD es r []) ≡ 0)
+    → ties n seen (pairsTogether (take (suc r) es)) ≡ ties n seen (pairsTogether (take r es))
+unfolding pairsTogether ties
+ties-without n seen [] zero none = refl
+ties-without n seen [] (suc r) none = refl
+ties-without n seen (e ∷ es) zero none = ties-append n seen e [] ∙ rw (none seen) refl
+ties-without n seen (e ∷ es) (suc r) none =
+    ties-append n seen e (pairsTogether (take (suc r) es))
+    ∙ ap (λ (x : ℕ). ties n seen e + x) (ties-without n (reverseAux e seen) es r none)
+    ∙ sym (ties-append n seen e (pairsTogether (take r es)))
+
+-- a bit's pair with itself is implied, so a side's pairs with itself give no tie
+itself-implied : (n : ℕ) (seen : List Pair) (s : ℕ) → equals n seen s s ≡ true
+unfolding equalUnder
+itself-implied n seen s =
+    every-of n (λ p. not (satisfiesPairs p seen) || eqb (bitOf p s) (bitOf p s))
+    (λ p a. or-right (not (satisfiesPairs p seen)) (eqb (bitOf p s) (bitOf p s)) (eq-eqb (bitOf p s) (bitOf p s) refl))
+
+itself-ties : (n : ℕ) (xs : List ℕ) (seen : List Pair) → ties n seen (paired xs xs) ≡ 0
+unfolding paired ties
+itself-ties n [] seen = refl
+itself-ties n (x ∷ xs) seen = rw (itself-implied n seen x) (omega (arith, itself-ties n xs (record { left = x; right = x } ∷ seen)))
+
+-- the pairs of each row, and of what is read past the end
+pairs-at : (t rs : List Row) (r : ℕ) → getD (pairsIn t rs) r [] ≡ pairsOf t (rowAt rs r)
+unfolding pairsIn
+pairs-at t [] r = sym (unfold pairsOf in (of-term (rowAt [] r) _ [] (λ e. absurd (omega (arith, e)))))
+pairs-at t (x ∷ rs) zero = refl
+pairs-at t (x ∷ rs) (suc r) = pairs-at t rs r
+
+module _ (t : List Row) (r : ℕ) (none : Counts t r → ⊥) where
+  silent-ties : (seen : List Pair) → ties (bitsOf t) seen (pairsOf t silentRow) ≡ 0
+  unfolding pairsOf
+  silent-ties seen =
+      let side = evened (sourceOf t 0) (sourceOf t 0) in
+      ap (ties (bitsOf t) seen) (of-equation silentRow (paired side side) [] refl) ∙ itself-ties (bitsOf t) side seen
+
+  no-equation : (Revised t r → ⊥) → Equation (rowAt t r) → ⊥
+  no-equation still e = ⊎-elim
+      (λ l. none (record { in-table = l; is-equation = e; unrevised = still }))
+      (λ l. absurd (omega (arith, e, ap (λ (x : Row). x .kind) (List·getD-eq-default t noRow l))))
+      (lt-or-le r (length t))
+
+  row-ties : (seen : List Pair) → ties (bitsOf t) seen (pairsOf t (rowAt (counting t) r)) ≡ 0
+  row-ties seen = ⊎-elim
+      (λ l. ⊎-elim (λ gone. rw (counting-rows t .replaced r gone) (silent-ties seen)) stays (revised-or-not t r l))
+      (λ l. stays (λ h. absurd (omega (arith, l, h .here .in-table))))
+      (lt-or-le r (length t))
+    where
+      stays : (Revised t r → ⊥) → ties (bitsOf t) seen (pairsOf t (rowAt (counting t) r)) ≡ 0
+      stays still =
+          rw (counting-rows t .stays r still)
+          (unfold pairsOf ties in ap (ties (bitsOf t) seen) (of-term (rowAt t r) _ [] (no-equation still)))
+
+  -- a row that is no equation, or an equation that does not count, gives no tie and is not the row of a never
+  pub says-nothing : SaysNothing t r
+  unfolding tiesTo
+  says-nothing =
+      record {
+        no-tie = ties-without (bitsOf t) [] (equationPairs t) r (λ seen. rw (pairs-at t (counting t) r) (row-ties seen));
+        no-never = λ o e. none (never-row t r .to o e .counts);
+      }

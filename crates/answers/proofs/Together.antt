@@ -35,7 +35,7 @@ satisfies-together p [] = unfold satisfiesPairs in refl
 satisfies-together p (e ∷ es) = satisfies-append p e (pairsTogether es) ∙ ap (λ (b : Bool). satisfiesPairs p e && b) (satisfies-together p es)
 
 -- ties
-ties-append : (n : ℕ) (seen qs rs : List Pair) → ties n seen (qs ++ rs) ≡ ties n seen qs + ties n (reverseAux qs seen) rs
+pub ties-append : (n : ℕ) (seen qs rs : List Pair) → ties n seen (qs ++ rs) ≡ ties n seen qs + ties n (reverseAux qs seen) rs
 unfolding ties
 ties-append n seen [] rs = omega arith
 ties-append n seen (q ∷ qs) rs = omega (arith, ties-append n (q ∷ seen) qs rs)

@@ -15,7 +15,7 @@ pub record SomeLeft (t : List Row) (n : ℕ) : Type 0 where
   pub bits : Assignment (bitsOf t) pattern
   pub meets : MeetsBefore t n pattern
 
--- Row r is the lowest equation row at which no assignment is left: an equation that counts, of which some assignment meets all that count before it, and
+-- Row r is the lowest equation row at which no assignment is left: it is an equation that counts, some assignment meets all that count before it, and
 -- none meets these and it.
 pub record NoneLeftAt (t : List Row) (r : ℕ) : Type 0 where
   pub counts : Counts t r

@@ -1,94 +1,117 @@
--- No call yields 18, whatever it is lent (document 02, (iii)). Assumes nothing.
-use mathlib.Core.Path.{_≡_}
+-- What holds of every record with outcome 0, 1 or 2, and of every refusal from 10 on but 18, holds of the record of every call: so no call
+-- yields 18, whatever it is lent (document 02, (iii)). Assumes nothing.
+use mathlib.Core.Path.{_≡_, refl}
 use mathlib.Core.Bool.{Bool, true, false, cond}
 use mathlib.Core.List.{List, [], _∷_}
-use Prim.Native.Nat.{ℕ}
+use mathlib.Core.Logic.{_≢_}
+use Prim.Native.Nat.{ℕ, _≤_}
 use native.Mathlib.Omega.{arith}
 use lib.Dec.{eqb, ltb}
 use Rattle.terms.specs.declared.Record.{Record}
 use Rattle.terms.specs.declared.Row.{Row}
+use Rattle.terms.specs.declared.Fault.{Fault}
 use Rattle.terms.specs.Table.{rowsOf, rowNumbers}
-use Rattle.terms.specs.Faults.{firstFault}
-use Rattle.terms.specs.Calls.{stopAt}
+use Rattle.terms.specs.Faults.{firstFault, isAccepted}
+use Rattle.terms.specs.Calls.{refusal, faultNumber, faultRow, faultRecord, stopAt}
 use Rattle.terms.specs.Value.{valueRecord}
 use Rattle.terms.proofs.Acceptance.{fault-never-18}
+use Rattle.terms.proofs.AcceptedTable.{fault-none, fault-high}
 use Rattle.forms.specs.Call.{formRecord}
 use Rattle.sheets.specs.declared.Sheet.{Sheet}
 use Rattle.sheets.specs.declared.Sheet.the-variants.{TooLong, WrongNames, TooMany, WrongLine, Rows}
-use Rattle.sheets.specs.Sheet.{sheetFound}
-use Rattle.sheets.specs.Call.{sheetNumber, sheetRecord}
+use Rattle.sheets.specs.Sheet.{sheetFound, sheetRows}
+use Rattle.sheets.specs.Call.{sheetNumber, sheetRow, sheetRecord}
+use Rattle.sheets.specs.Program.{textRecord, programRecord}
 use Rattle.answers.specs.Solve.{valid, unsatisfiable, answerRecord, solveRecord}
 use Rattle.assignments.specs.Call.{patternRecord}
 use Rattle.windows.specs.Call.{positionsRecord}
-use Rattle.calls.specs.Calls.{Call, lw-value, lw-normal-form, lw-read-sheet, lw-solve, lw-make-pattern, lw-marker-positions, lw-value-rows, lw-normal-form-rows, lw-solve-rows, recordOf}
+use Rattle.calls.specs.Calls.{Call, lw-value, lw-normal-form, lw-read-sheet, lw-solve, lw-make-pattern, lw-marker-positions, lw-value-rows, lw-normal-form-rows, lw-solve-rows, program, recordOf}
 
--- a record with another outcome
-abbrev Other : Record → Type 0
-Other r = r .outcome ≡ 18 → ⊥
+-- A property of these records.
+module _ (P : Record → Type 0) (fine : (r : Record) → r .outcome ≤ 2 → P r) (refused : (n row : ℕ) → 10 ≤ n → n ≢ 18 → P (refusal n row)) where
+  -- each record of a list of conditions has it
+  data All : List (Bool × Record) → Type 0 where
+    none : All []
+    more : {s : Bool × Record} {stops : List (Bool × Record)} → P (s .1) → All stops → All (s ∷ stops)
 
--- the first condition that is met, where no record of the list has 18
-data Others : List (Bool × Record) → Type 0 where
-  none : Others []
-  more : {s : Bool × Record} {stops : List (Bool × Record)} → Other (s .1) → Others stops → Others (s ∷ stops)
+  either : (b : Bool) (r s : Record) → P r → P s → P (cond b r s)
+  either true r s h k = h
+  either false r s h k = k
 
-either : (b : Bool) (r s : Record) → Other r → Other s → Other (cond b r s)
-either true r s h k = h
-either false r s h k = k
+  -- the first condition that is met
+  first : (stops : List (Bool × Record)) (accepted : Record) → All stops → P accepted → P (stopAt stops accepted)
+  unfolding stopAt
+  first stops accepted none k = k
+  first stops accepted (more {s = s} {stops = rest} h hs) k = either (s .0) (s .1) (stopAt rest accepted) h (first rest accepted hs k)
 
-stops-other : (stops : List (Bool × Record)) (accepted : Record) → Others stops → Other accepted → Other (stopAt stops accepted)
-unfolding stopAt
-stops-other stops accepted none k = k
-stops-other stops accepted (more {s = s} {stops = rest} h hs) k = either (s .0) (s .1) (stopAt rest accepted) h (stops-other rest accepted hs k)
+  fault : (f : Fault) → P (faultRecord f)
+  fault f = go (isAccepted f) refl
+    where
+      go : (b : Bool) → isAccepted f ≡ b → P (faultRecord f)
+      go true h = rw (fault-none f h) (fine _ (omega arith))
+      go false h = refused (faultNumber f) (faultRow f) (omega (arith, fault-high f h)) (fault-never-18 f)
 
-value-other : (table : List ℕ) (row : ℕ) (pattern : List ℕ) (room : ℕ) → Other (valueRecord table row pattern room)
-unfolding valueRecord
-value-other table row pattern room =
-    stops-other _ _ (more (fault-never-18 (firstFault table)) (more (λ e. omega arith) (more (λ e. omega arith) (more (λ e. omega arith) none)))) (λ e. omega arith)
+  value : (table : List ℕ) (row : ℕ) (pattern : List ℕ) (room : ℕ) → P (valueRecord table row pattern room)
+  unfolding valueRecord
+  value table row pattern room =
+      first _ _
+      (more (fault (firstFault table)) (more (refused 30 0 (omega arith) (omega arith)) (more (refused 31 0 (omega arith) (omega arith)) (more (refused 32 0 (omega arith) (omega arith)) none))))
+      (fine _ (omega arith))
 
-form-other : (table : List ℕ) (row room : ℕ) → Other (formRecord table row room)
-unfolding formRecord
-form-other table row room =
-    stops-other _ _ (more (fault-never-18 (firstFault table)) (more (λ e. omega arith) (more (λ e. omega arith) none))) (λ e. omega arith)
+  form : (table : List ℕ) (row room : ℕ) → P (formRecord table row room)
+  unfolding formRecord
+  form table row room =
+      first _ _ (more (fault (firstFault table)) (more (refused 30 0 (omega arith) (omega arith)) (more (refused 32 0 (omega arith) (omega arith)) none))) (fine _ (omega arith))
 
-answer-other : (t : List Row) → Other (answerRecord t)
-unfolding answerRecord
-answer-other t = either (valid t) _ _ (λ e. omega arith) (either (unsatisfiable t) _ _ (λ e. omega arith) (λ e. omega arith))
+  answer : (t : List Row) → P (answerRecord t)
+  unfolding answerRecord
+  answer t = either (valid t) _ _ (fine _ (omega arith)) (either (unsatisfiable t) _ _ (fine _ (omega arith)) (fine _ (omega arith)))
 
-solve-other : (table : List ℕ) (answerRoom workRoom : ℕ) → Other (solveRecord table answerRoom workRoom)
-unfolding solveRecord
-solve-other table answerRoom workRoom =
-    stops-other _ _ (more (λ e. omega arith) (more (fault-never-18 (firstFault table)) none)) (answer-other (rowsOf table))
+  solve : (table : List ℕ) (answerRoom workRoom : ℕ) → P (solveRecord table answerRoom workRoom)
+  unfolding solveRecord
+  solve table answerRoom workRoom =
+      first _ _ (more (refused 10 0 (omega arith) (omega arith)) (more (fault (firstFault table)) none)) (answer (rowsOf table))
 
-pattern-other : (answer fresh : List ℕ) (room : ℕ) → Other (patternRecord answer fresh room)
-unfolding patternRecord
-pattern-other answer fresh room =
-    stops-other _ _ (more (λ e. omega arith) (more (λ e. omega arith) (more (λ e. omega arith) none))) (λ e. omega arith)
+  pattern-made : (answers fresh : List ℕ) (room : ℕ) → P (patternRecord answers fresh room)
+  unfolding patternRecord
+  pattern-made answers fresh room =
+      first _ _ (more (refused 33 0 (omega arith) (omega arith)) (more (refused 34 0 (omega arith) (omega arith)) (more (refused 32 0 (omega arith) (omega arith)) none))) (fine _ (omega arith))
 
-positions-other : (table words : List ℕ) → Other (positionsRecord table words)
-unfolding positionsRecord
-positions-other table words =
-    stops-other _ _ (more (fault-never-18 (firstFault table)) (more (λ e. omega arith) (more (λ e. omega arith) none))) (λ e. omega arith)
+  positions : (table words : List ℕ) → P (positionsRecord table words)
+  unfolding positionsRecord
+  positions table words =
+      first _ _ (more (fault (firstFault table)) (more (refused 41 0 (omega arith) (omega arith)) (more (refused 42 0 (omega arith) (omega arith)) none))) (fine _ (omega arith))
 
-found-other : (found : Sheet) → sheetNumber found ≡ 18 → ⊥
-found-other TooLong e = omega arith
-found-other WrongNames e = omega arith
-found-other TooMany e = omega arith
-found-other (WrongLine k) e = omega arith
-found-other (Rows k) e = omega arith
+  found : (sheet : Sheet) → P (refusal (sheetNumber sheet) (sheetRow sheet))
+  found TooLong = refused 20 0 (omega arith) (omega arith)
+  found WrongNames = refused 21 0 (omega arith) (omega arith)
+  found TooMany = refused 23 512 (omega arith) (omega arith)
+  found (WrongLine k) = refused 22 k (omega arith) (omega arith)
+  found (Rows k) = fine _ (omega arith)
 
-sheet-other : (sheet : List ℕ) (room : ℕ) → Other (sheetRecord sheet room)
-unfolding sheetRecord
-sheet-other sheet room =
-    either (eqb (sheetNumber (sheetFound sheet)) 0) _ _ (either (ltb room 2048) _ _ (λ e. omega arith) (λ e. omega arith)) (found-other (sheetFound sheet))
+  sheet : (text : List ℕ) (room : ℕ) → P (sheetRecord text room)
+  unfolding sheetRecord
+  sheet text room =
+      either (eqb (sheetNumber (sheetFound text)) 0) _ _
+      (either (ltb room 2048) _ _ (refused 32 0 (omega arith) (omega arith)) (fine _ (omega arith)))
+      (found (sheetFound text))
 
--- No call yields 18.
+  printed : (text : List ℕ) → P (programRecord text)
+  unfolding programRecord textRecord
+  printed text = either (eqb (sheetRecord text 2048 .outcome) 0) _ _ (solve (rowNumbers (sheetRows text)) 24576 16384) (sheet text 2048)
+
+  pub of-every-record : (c : Call) → P (recordOf c)
+  of-every-record (lw-value table row pattern lent) = value table row pattern _
+  of-every-record (lw-normal-form table row lent) = form table row _
+  of-every-record (lw-read-sheet text lent) = sheet text _
+  of-every-record (lw-solve table lent work) = solve table _ _
+  of-every-record (lw-make-pattern rows fresh lent) = pattern-made rows fresh _
+  of-every-record (lw-marker-positions table words lent) = positions table words
+  of-every-record (lw-value-rows rows row pattern lent) = value (rowNumbers rows) row pattern _
+  of-every-record (lw-normal-form-rows rows row lent) = form (rowNumbers rows) row _
+  of-every-record (lw-solve-rows rows lent work) = solve (rowNumbers rows) _ _
+  of-every-record (program text) = printed text
+
+-- No call yields 18, nor does the program.
 pub never-18 : (c : Call) → recordOf c .outcome ≡ 18 → ⊥
-never-18 (lw-value table row pattern room) = value-other table row pattern room
-never-18 (lw-normal-form table row room) = form-other table row room
-never-18 (lw-read-sheet sheet room) = sheet-other sheet room
-never-18 (lw-solve table answerRoom workRoom) = solve-other table answerRoom workRoom
-never-18 (lw-make-pattern answer fresh room) = pattern-other answer fresh room
-never-18 (lw-marker-positions table words) = positions-other table words
-never-18 (lw-value-rows rows row pattern room) = value-other (rowNumbers rows) row pattern room
-never-18 (lw-normal-form-rows rows row room) = form-other (rowNumbers rows) row room
-never-18 (lw-solve-rows rows answerRoom workRoom) = solve-other (rowNumbers rows) answerRoom workRoom
+never-18 = of-every-record (λ r. r .outcome ≢ 18) (λ r l e. omega arith) (λ n row l h. h)

@@ -1,36 +1,95 @@
--- The calls that return a record, together: what is said of every one of them for every input (document 02, (iii); proofs/Outcomes.antt).
-use mathlib.Core.List.{List}
-use Prim.Native.Nat.{ℕ}
+-- The calls that return a record, and the program, together: what is said of every one of them for every input (document 01, "Where a call
+-- stops"; document 02, (iii)), in proofs/Outcomes.antt and proofs/Refusals.antt. That their contracts say the same is linkwords/proofs/Calls.antt,
+-- of the program solve/proofs/Calls.antt.
+use mathlib.Core.Path.{_≡_}
+use mathlib.Core.List.{List, [], _∷_}
+use Prim.Native.Nat.{ℕ, _≤_}
+use lib.ListN.{length}
 use Rattle.terms.specs.declared.Record.{Record}
 use Rattle.terms.specs.declared.Row.{Row}
+use Rattle.terms.specs.Calls.{refusal}
 use Rattle.terms.specs.Table.{rowNumbers}
-use Rattle.terms.specs.Value.{valueRecord}
-use Rattle.forms.specs.Call.{formRecord}
-use Rattle.sheets.specs.Call.{sheetRecord}
-use Rattle.answers.specs.Solve.{solveRecord}
-use Rattle.assignments.specs.Call.{patternRecord}
-use Rattle.windows.specs.Call.{positionsRecord}
+use Rattle.terms.specs.Value.{valueRecord, valueAfter}
+use Rattle.forms.specs.Call.{formRecord, formAfter}
+use Rattle.sheets.specs.Call.{sheetRecord, tableAfter}
+use Rattle.sheets.specs.Program.{programRecord}
+use Rattle.answers.specs.Solve.{solveRecord, answerAfter, workAfter}
+use Rattle.assignments.specs.Call.{patternRecord, patternAfter}
+use Rattle.windows.specs.Call.{positionsRecord, positionsAfter}
 
--- A call with its input. Of a buffer that is lent to be written, the input is how much room it has.
+-- A call with all that it is lent, in its order; the program with the text that it has read.
 pub data Call : Type 0 where
-  lw-value : (table : List ℕ) (row : ℕ) (pattern : List ℕ) (room : ℕ) → Call
-  lw-normal-form : (table : List ℕ) (row room : ℕ) → Call
-  lw-read-sheet : (sheet : List ℕ) (room : ℕ) → Call
-  lw-solve : (table : List ℕ) (answerRoom workRoom : ℕ) → Call
-  lw-make-pattern : (answer fresh : List ℕ) (room : ℕ) → Call
-  lw-marker-positions : (table words : List ℕ) → Call
-  lw-value-rows : (rows : List Row) (row : ℕ) (pattern : List ℕ) (room : ℕ) → Call
-  lw-normal-form-rows : (rows : List Row) (row room : ℕ) → Call
-  lw-solve-rows : (rows : List Row) (answerRoom workRoom : ℕ) → Call
+  lw-value : (table : List ℕ) (row : ℕ) (pattern value : List ℕ) → Call
+  lw-normal-form : (table : List ℕ) (row : ℕ) (form : List ℕ) → Call
+  lw-read-sheet : (sheet table : List ℕ) → Call
+  lw-solve : (table answer work : List ℕ) → Call
+  lw-make-pattern : (answer fresh pattern : List ℕ) → Call
+  lw-marker-positions : (table words list : List ℕ) → Call
+  lw-value-rows : (rows : List Row) (row : ℕ) (pattern value : List ℕ) → Call
+  lw-normal-form-rows : (rows : List Row) (row : ℕ) (form : List ℕ) → Call
+  lw-solve-rows : (rows : List Row) (answer work : List ℕ) → Call
+  program : (text : List ℕ) → Call
 
--- The record that it returns, as its contract says.
+-- The record that it returns, or prints, as its contract says.
 abbrev pub recordOf : Call → Record
-recordOf (lw-value table row pattern room) = valueRecord table row pattern room
-recordOf (lw-normal-form table row room) = formRecord table row room
-recordOf (lw-read-sheet sheet room) = sheetRecord sheet room
-recordOf (lw-solve table answerRoom workRoom) = solveRecord table answerRoom workRoom
-recordOf (lw-make-pattern answer fresh room) = patternRecord answer fresh room
-recordOf (lw-marker-positions table words) = positionsRecord table words
-recordOf (lw-value-rows rows row pattern room) = valueRecord (rowNumbers rows) row pattern room
-recordOf (lw-normal-form-rows rows row room) = formRecord (rowNumbers rows) row room
-recordOf (lw-solve-rows rows answerRoom workRoom) = solveRecord (rowNumbers rows) answerRoom workRoom
+recordOf (lw-value table row pattern value) = valueRecord table row pattern (length value)
+recordOf (lw-normal-form table row form) = formRecord table row (length form)
+recordOf (lw-read-sheet sheet table) = sheetRecord sheet (length table)
+recordOf (lw-solve table answer work) = solveRecord table (length answer) (length work)
+recordOf (lw-make-pattern answer fresh pattern) = patternRecord answer fresh (length pattern)
+recordOf (lw-marker-positions table words list) = positionsRecord table words
+recordOf (lw-value-rows rows row pattern value) = valueRecord (rowNumbers rows) row pattern (length value)
+recordOf (lw-normal-form-rows rows row form) = formRecord (rowNumbers rows) row (length form)
+recordOf (lw-solve-rows rows answer work) = solveRecord (rowNumbers rows) (length answer) (length work)
+recordOf (program text) = programRecord text
+
+-- What is lent to be written, before the call.
+abbrev pub lentTo : Call → List (List ℕ)
+lentTo (lw-value table row pattern value) = value ∷ []
+lentTo (lw-normal-form table row form) = form ∷ []
+lentTo (lw-read-sheet sheet table) = table ∷ []
+lentTo (lw-solve table answer work) = answer ∷ work ∷ []
+lentTo (lw-make-pattern answer fresh pattern) = pattern ∷ []
+lentTo (lw-marker-positions table words list) = list ∷ []
+lentTo (lw-value-rows rows row pattern value) = value ∷ []
+lentTo (lw-normal-form-rows rows row form) = form ∷ []
+lentTo (lw-solve-rows rows answer work) = answer ∷ work ∷ []
+lentTo (program text) = []
+
+-- The same after the call, as its contract says.
+abbrev pub leftBy : Call → List (List ℕ)
+leftBy (lw-value table row pattern value) = valueAfter table row pattern value ∷ []
+leftBy (lw-normal-form table row form) = formAfter table row form ∷ []
+leftBy (lw-read-sheet sheet table) = tableAfter sheet table ∷ []
+leftBy (lw-solve table answer work) = answerAfter table answer (length work) ∷ workAfter table (length answer) work ∷ []
+leftBy (lw-make-pattern answer fresh pattern) = patternAfter answer fresh pattern ∷ []
+leftBy (lw-marker-positions table words list) = positionsAfter table words list ∷ []
+leftBy (lw-value-rows rows row pattern value) = valueAfter (rowNumbers rows) row pattern value ∷ []
+leftBy (lw-normal-form-rows rows row form) = formAfter (rowNumbers rows) row form ∷ []
+leftBy (lw-solve-rows rows answer work) = answerAfter (rowNumbers rows) answer (length work) ∷ workAfter (rowNumbers rows) (length answer) work ∷ []
+leftBy (program text) = []
+
+-- A call is refused with this record and leaves all as it was. The outcome of a call that is not refused is 0, 1 or 2; the number of a refusal
+-- is 10 or above, and the other numbers of its record are 0 but row.
+pub record RefusedWith (found : Record) (c : Call) : Type 0 where
+  pub record-is : recordOf c ≡ found
+  pub high : 10 ≤ found .outcome
+  pub alone : found ≡ refusal (found .outcome) (found .row)
+  pub left : leftBy c ≡ lentTo c
+
+-- Whether a call takes this term table and comes to look at it: a solve has the room that it asks for before (10). One line for each call.
+abbrev pub Takes : List ℕ → Call → Type 0
+Takes t (lw-value table row pattern value) = table ≡ t
+Takes t (lw-normal-form table row form) = table ≡ t
+Takes t (lw-read-sheet sheet table) = ⊥
+Takes t (lw-solve table answer work) = (table ≡ t) × (24576 ≤ length answer) × (16384 ≤ length work)
+Takes t (lw-make-pattern answer fresh pattern) = ⊥
+Takes t (lw-marker-positions table words list) = table ≡ t
+Takes t (lw-value-rows rows row pattern value) = rowNumbers rows ≡ t
+Takes t (lw-normal-form-rows rows row form) = rowNumbers rows ≡ t
+Takes t (lw-solve-rows rows answer work) = (rowNumbers rows ≡ t) × (24576 ≤ length answer) × (16384 ≤ length work)
+Takes t (program text) = ⊥
+
+-- A table is refused with this record by each call that takes one.
+abbrev pub RefusedByEach : List ℕ → Record → Type 0
+RefusedByEach t found = (c : Call) → Takes t c → RefusedWith found c

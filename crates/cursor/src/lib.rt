@@ -4,7 +4,7 @@ ghost use mathlib.Core.Path.{_≡_};
 ghost use lib.Dec.{leb};
 ghost use lib.ListN.{length};
 ghost use Rattle.sheets.specs.Text.{decimalAt, hexadecimalAt, numberAt, fieldAt, lineAt, columnAt, nameAt, namesAt};
-ghost use Rattle.cursor.specs.inner.Found.{numberFound, nameFound, namesFound, lineFound, fourFound, FieldFound, FourFound};
+ghost use Rattle.cursor.specs.inner.Found.{numberFound, nameFound, namesFound, lineFound, fourFound, decimalFieldAt, decimalLineAt};
 use sheets::Order;
 use terms::Row;
 
@@ -148,21 +148,22 @@ impl Cursor {
 impl Cursor {
     // A decimal number and the byte behind it.
     pub fn decimal_field(self, text: &[u8], end: u8) -> Number
-        ensures { λ r. ⌜ FieldFound r (now (text .entry)) (self .at) end ⌝ }
+        ensures { λ r. ⌜ numberFound r ≡ decimalFieldAt (now (text .entry)) (self .at) end ⌝ }
     {
         let Number::Value(v, behind) = self.decimal(text) else {
             return Number::NoNumber;
         };
         let at = behind.at;
         if scanner::sees_byte(text, at, end) {
-            return Number::Value(v, Cursor { at: at + 1 });
+            let past = at + 1;
+            return Number::Value(v, Cursor { at: past });
         }
         Number::NoNumber
     }
 
     // The four values of a line, if they are decimal.
     pub fn decimal_four(self, text: &[u8]) -> Four
-        ensures { λ r. ⌜ FourFound r (now (text .entry)) (self .at) ⌝ }
+        ensures { λ r. ⌜ ((order : Order) → fourFound order r ≡ decimalLineAt (now (text .entry)) order (self .at)) ⌝ }
     {
         let Number::Value(d1, c1) = self.decimal_field(text, sheets::SPACE) else {
             return Four::NoFour;

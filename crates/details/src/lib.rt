@@ -4,10 +4,9 @@ use sheets::Text;
 use terms::Record;
 ghost use mathlib.Core.Path.{_≡_};
 ghost use mathlib.Core.Bool.{cond};
-ghost use mathlib.Core.List.{_++_};
-ghost use Prim.Native.Nat.{_%_};
 ghost use lib.Dec.{eqb};
-ghost use Rattle.sheets.specs.Print.{field, lineOf};
+ghost use lib.ListN.{length};
+ghost use Rattle.details.specs.inner.Printing.{markAt, marks, fourLine, piecesBehind, piecesPut};
 
 // The numbers of a normal form.
 const FORM: usize = 4096;
@@ -20,7 +19,7 @@ pub fn write_first(out: &[u8], n: usize) {
 
 // 1 for each step-th number from the first on, 0 for the others.
 fn mark(i: usize, first: usize, step: usize) -> u8
-    ensures { λ r. ⌜ r ≡ cond (eqb step 0) 0 (cond (eqb (i % step) first) 1 0) ⌝ }
+    ensures { λ r. ⌜ r ≡ markAt first step i ⌝ }
 {
     if step == 0 {
         return 0;
@@ -31,7 +30,10 @@ fn mark(i: usize, first: usize, step: usize) -> u8
     0
 }
 
-fn mark_every(bits: &mut [u8], first: usize, step: usize) {
+// Sets each byte to its mark.
+fn mark_every(bits: &mut [u8], first: usize, step: usize)
+    ensures { λ _. ⌜ now (bits .exit) ≡ marks first step (length (now (bits .entry))) ⌝ }
+{
     let mut i = 0;
     while i < bits.len() {
         bits[i] = mark(i, first, step);
@@ -70,7 +72,7 @@ fn print_record(found: Record, out: &mut [u8]) {
 
 // A line of four values.
 fn four_values(a: u16, b: u16, c: u16, d: u16) -> Text
-    ensures { λ t. ⌜ t ≡ lineOf (field a 32 ++ (field b 32 ++ (field c 32 ++ field d 10))) ⌝ }
+    ensures { λ t. ⌜ t ≡ fourLine a b c d ⌝ }
 {
     let t1 = lines::put_number(lines::empty(), a as u32, sheets::SPACE);
     let t2 = lines::put_number(t1, b as u32, sheets::SPACE);
@@ -79,7 +81,10 @@ fn four_values(a: u16, b: u16, c: u16, d: u16) -> Text
 }
 
 // Writes a line for each of the first n pieces of a form, from a place on where they fit, and gives the place behind them.
-fn put_pieces(form: &[u16], n: usize, out: &mut [u8], at: usize) -> usize {
+fn put_pieces(form: &[u16], n: usize, out: &mut [u8], at: usize) -> usize
+    ensures place { λ r. ⌜ r ≡ piecesBehind (length (now (out .entry))) at (now (form .entry)) n ⌝ }
+    ensures bytes { λ _. ⌜ now (out .exit) ≡ piecesPut (now (out .entry)) at (now (form .entry)) n ⌝ }
+{
     let mut behind = at;
     let mut i = 0;
     while i < n {

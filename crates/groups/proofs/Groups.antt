@@ -1,7 +1,7 @@
 -- Equal rows: the row of one place and its representative, a test added to the rows of a plan, and the places covered so far.
 -- Assumes nothing.
 use mathlib.Core.Path.{_≡_, refl, sym, _∙_, ap, ap₂}
-use mathlib.Core.Bool.{Bool, true, not, _&&_, and-assoc}
+use mathlib.Core.Bool.{Bool, true, false, not, _&&_, and-assoc}
 use mathlib.Core.List.{List}
 use mathlib.Core.Logic.{_⊎_, inl, inr, _≢_}
 use Prim.Native.Nat.{ℕ, zero, suc, _+_, _-_, _*_, _/_, _%_, _^_, _≤_, _<_}
@@ -9,18 +9,20 @@ use native.Mathlib.Omega.{arith}
 use native.Mathlib.Numerals.{add-one}
 use native.Mathlib.Nat.{mod-eq-of-lt}
 use lib.Bits.{bitOr, bitXor}
-use lib.Dec.{eqb}
+use lib.Dec.{eqb, leb}
 use lib.ListN.{length, getD, set}
 use lib.Pow.{pow-lt}
 use lib.Seq.{getD-set-same, getD-set-other}
-use borrow.Author.Tests.{lt-ltb, le-ltb, eq-eqb}
+use borrow.Author.Tests.{lt-ltb, le-ltb, le-leb, lt-leb, eq-eqb}
 use Rattle.laws.specs.Buffers.{setFour}
-use Rattle.laws.specs.Lists.{below}
-use Rattle.laws.proofs.Bools.{and-past, or-right}
+use Rattle.laws.specs.Lists.{below, tally}
+use Rattle.laws.proofs.Bools.{and-past, or-right, one-most}
 use Rattle.laws.proofs.Numbers.{dec-eq, eqb-turn}
 use Rattle.laws.specs.Bools.{implies}
 use Rattle.groups.specs.inner.Places.{sourceBit, equalTest, fixedPlace, agreesAt, PutsEqual}
-use Rattle.groups.specs.inner.Groups.{groupTest, Groups, RowOf, Added, Covered, Covers}
+use Rattle.groups.specs.inner.Counts.{linked, equalRows}
+use Rattle.groups.specs.inner.Groups.{groupTest, Groups, groupX, groupY, groupShift, GroupOf, sameKey, isRowOf, noRow, Added, Covered, Covers, Counts}
+use Rattle.groups.proofs.Keys.{Same, key-same, row-there}
 use Rattle.groups.proofs.Masks.{and-or-none, equal-bit}
 use Rattle.groups.proofs.Rows.{four-other, four-first, four-second, four-third, four-fourth, below-same, place-bit}
 
@@ -63,28 +65,43 @@ module _ (i r x y shift mask : ℕ) (pair : 2 ≤ r) where
 
   -- the representative's word is shifted up
   pub group-up : i % 16 ≤ (r - 2) % 16 → x ≡ i / 16 → y ≡ (r - 2) / 16 → shift ≡ (r - 2) % 16 - i % 16 → mask ≡ 2 ^ (15 - i % 16)
-      → Groups i r x y shift mask
-  group-up h ex ey es em window =
-      rw (ex, ey, es, em) (upwards window (i / 16) ((r - 2) / 16) (i % 16) ((r - 2) % 16) h (omega arith) ∙ sym (ap₂ eqb (place-bit window i) (place window)))
+      → GroupOf i r x y shift mask
+  unfolding groupX groupY groupShift
+  group-up h ex ey es em =
+      let t = le-leb (i % 16) ((r - 2) % 16) h in
+      record {
+        tests = λ window.
+            rw (ex, ey, es, em) (upwards window (i / 16) ((r - 2) / 16) (i % 16) ((r - 2) % 16) h (omega arith) ∙ sym (ap₂ eqb (place-bit window i) (place window)));
+        x-is = rw t ex;
+        y-is = rw t ey;
+        shift-is = rw t es;
+      }
 
   -- the place's word is
-  pub group-down : (r - 2) % 16 ≤ i % 16 → x ≡ (r - 2) / 16 → y ≡ i / 16 → shift ≡ i % 16 - (r - 2) % 16 → mask ≡ 2 ^ (15 - (r - 2) % 16)
-      → Groups i r x y shift mask
-  group-down h ex ey es em window =
-      rw (ex, ey, es, em)
-      (upwards window ((r - 2) / 16) (i / 16) ((r - 2) % 16) (i % 16) h (omega arith)
-      ∙ sym (ap₂ eqb (place window) (place-bit window i)) ∙ eqb-turn (sourceBit window r) (sourceBit window (suc (suc i))))
+  pub group-down : (r - 2) % 16 < i % 16 → x ≡ (r - 2) / 16 → y ≡ i / 16 → shift ≡ i % 16 - (r - 2) % 16 → mask ≡ 2 ^ (15 - (r - 2) % 16)
+      → GroupOf i r x y shift mask
+  unfolding groupX groupY groupShift
+  group-down h ex ey es em =
+      let t = lt-leb (i % 16) ((r - 2) % 16) h in
+      record {
+        tests = λ window.
+            rw (ex, ey, es, em)
+            (upwards window ((r - 2) / 16) (i / 16) ((r - 2) % 16) (i % 16) (omega arith) (omega arith)
+            ∙ sym (ap₂ eqb (place window) (place-bit window i)) ∙ eqb-turn (sourceBit window r) (sourceBit window (suc (suc i))));
+        x-is = rw t ex;
+        y-is = rw t ey;
+        shift-is = rw t es;
+      }
 
 -- ---- a test added to the rows
 
--- three numbers that were compared
-pub row-read : (plan : List ℕ) (x y shift g w : ℕ) → w ≡ g → getD plan (4 * w + 260) 0 ≡ x → getD plan (4 * w + 260 + 1) 0 ≡ y
-    → getD plan (4 * w + 260 + 2) 0 ≡ shift → RowOf plan x y shift g
-row-read plan x y shift g w e a b c =
-    let f : 4 * g + 260 ≡ 4 * w + 260 = omega arith in
-    let h : 4 * g + 261 ≡ 4 * w + 260 + 1 = omega arith in
-    let k : 4 * g + 262 ≡ 4 * w + 260 + 2 = omega arith in
-    record { first = rw f a; second = rw h b; by = rw k c }
+-- what an equal row has, if it is one of words x and y at a shift
+abbrev RowOf : List ℕ → ℕ → ℕ → ℕ → ℕ → Type 0
+RowOf plan x y shift g = Same (getD plan (4 * g + 260) 0) (getD plan (4 * g + 261) 0) (getD plan (4 * g + 262) 0) x y shift
+
+row-has : (plan : List ℕ) (x y shift g : ℕ) → isRowOf plan x y shift g ≡ true → RowOf plan x y shift g
+unfolding isRowOf
+row-has plan x y shift g h = key-same (getD plan (4 * g + 260) 0) (getD plan (4 * g + 261) 0) (getD plan (4 * g + 262) 0) x y shift h
 
 equal-is : (plan window : List ℕ) (g : ℕ)
     → equalTest plan window g ≡ groupTest window (getD plan (4 * g + 260) 0) (getD plan (4 * g + 261) 0) (getD plan (4 * g + 262) 0) (getD plan (4 * g + 263) 0)
@@ -103,21 +120,52 @@ group-or : (window : List ℕ) (x y shift m b : ℕ) → groupTest window x y sh
 unfolding groupTest
 group-or window x y shift m b = and-or-none (bitXor (getD window x 0) (getD window y 0 * 2 ^ (shift % 16))) m b
 
-module _ (x y shift mask : ℕ) (plan : List ℕ) (count : ℕ) (plan′ : List ℕ) where
+-- rows whose words and shifts are the same
+rows-same : (plan plan′ : List ℕ) (from count x y shift : ℕ) → ((i j : ℕ) → i < count → j < 3 → getD plan′ (4 * i + (260 + j)) 0 ≡ getD plan (4 * i + (260 + j)) 0)
+    → noRow plan′ from count x y shift ≡ noRow plan from count x y shift
+unfolding noRow isRowOf
+rows-same plan plan′ from count x y shift h =
+    below-same count (λ g. not (leb from g && isRowOf plan′ x y shift g)) (λ g. not (leb from g && isRowOf plan x y shift g))
+    (λ g l. rw (h g 0 l (omega arith), h g 1 l (omega arith), h g 2 l (omega arith)))
+
+one-more-row : (plan plan′ : List ℕ) (from count x y shift : ℕ) → from ≤ count → RowOf plan′ x y shift count
+    → ((i j : ℕ) → i < count → j < 3 → getD plan′ (4 * i + (260 + j)) 0 ≡ getD plan (4 * i + (260 + j)) 0) → (a b c : ℕ)
+    → noRow plan′ from (count + 1) a b c ≡ not (sameKey x y shift a b c) && noRow plan from count a b c
+unfolding noRow isRowOf below
+one-more-row plan plan′ from count x y shift k row h a b c =
+    rw (add-one, le-leb from count k, row .first, row .second, row .by)
+    (ap (λ (t : Bool). not (sameKey x y shift a b c) && t) (rows-same plan plan′ from count a b c h))
+
+module _ (x y shift mask : ℕ) (plan : List ℕ) (from count : ℕ) (plan′ : List ℕ) where
   -- to a row that is there: its mask has the new bit too
-  module _ (g at : ℕ) (row : RowOf plan x y shift g) (low : g < count) (place : at ≡ 4 * g + 263) (room : at < length plan)
+  module _ (g at : ℕ) (there : isRowOf plan x y shift g ≡ true) (past : from ≤ g) (low : g < count) (place : at ≡ 4 * g + 263) (room : at < length plan)
       (stored : plan′ ≡ set plan at (bitOr mask (getD plan at 0))) where
+    row : RowOf plan x y shift g
+    row = row-has plan x y shift g there
+
+    no-other : noRow plan from count x y shift ≡ false
+    no-other = row-there plan x y shift from count g past low there
+
     kept : (i : ℕ) → i ≢ 4 * g + 263 → getD plan′ i 0 ≡ getD plan i 0
     kept i h = ap (λ (p : List ℕ). getD p i 0) stored ∙ getD-set-other plan at i (bitOr mask (getD plan at 0)) 0 (λ e. h (omega arith))
 
-    pub added-there : Added x y shift mask plan count plan′ count
+    pub added-there : Added x y shift mask plan from count plan′ count
     added-there =
         record {
-          few = omega arith;
+          counted = rw no-other (omega arith);
+          rows = λ k a b c.
+              rows-same plan plan′ from count a b c (λ i j l m. kept (4 * i + (260 + j)) (λ e. omega arith))
+              ∙ same a b c (sameKey x y shift a b c) refl;
           tests = λ window. below-sharper (groupTest window x y shift mask) g (equalTest plan window) (equalTest plan′ window) (sharper window) (other window) count low;
           others = λ i h. kept i (λ e. omega arith);
         }
       where
+        same : (a b c : ℕ) (t : Bool) → sameKey x y shift a b c ≡ t → noRow plan from count a b c ≡ not t && noRow plan from count a b c
+        same a b c false e = refl
+        same a b c true e =
+            let s = key-same x y shift a b c e in
+            rw (← s .first, ← s .second, ← s .by) no-other
+
         row′ : RowOf plan′ x y shift g
         row′ =
             record {
@@ -139,15 +187,17 @@ module _ (x y shift mask : ℕ) (plan : List ℕ) (count : ℕ) (plan′ : List 
             equal-same plan plan′ window i (kept (4 * i + 260) (λ e. omega arith)) (kept (4 * i + 261) (λ e. omega arith)) (kept (4 * i + 262) (λ e. omega arith)) (kept (4 * i + 263) (λ e. omega arith))
 
   -- in one row more
-  module _ (at : ℕ) (place : at ≡ 4 * count + 260) (room : at + 3 < length plan) (stored : plan′ ≡ setFour plan at x y shift mask) where
+  module _ (at : ℕ) (none : noRow plan from count x y shift ≡ true) (place : at ≡ 4 * count + 260) (room : at + 3 < length plan)
+      (stored : plan′ ≡ setFour plan at x y shift mask) where
     read : (i v : ℕ) → getD (setFour plan (4 * count + 260) x y shift mask) i 0 ≡ v → getD plan′ i 0 ≡ v
     read i v e = ap (λ (p : List ℕ). getD p i 0) stored ∙ ap (λ (n : ℕ). getD (setFour plan n x y shift mask) i 0) place ∙ e
 
-    pub added-new : Added x y shift mask plan count plan′ (count + 1)
+    pub added-new : Added x y shift mask plan from count plan′ (count + 1)
     unfolding below
     added-new =
         record {
-          few = omega arith;
+          counted = rw none;
+          rows = λ k. one-more-row plan plan′ from count x y shift k row (λ i j l m. before i j l (omega arith));
           tests = tests;
           others = λ i h. read i (getD plan i 0) (four-other plan (4 * count + 260) x y shift mask i (inl (omega arith)));
         }
@@ -176,6 +226,11 @@ module _ (x y shift mask : ℕ) (plan : List ℕ) (count : ℕ) (plan′ : List 
             (ap₂ _&&_ (equal-by plan′ window count x y shift mask row last)
             (below-same count (equalTest plan′ window) (equalTest plan window)
             (λ i h. equal-same plan plan′ window i (before i 0 h (omega arith)) (before i 1 h (omega arith)) (before i 2 h (omega arith)) (before i 3 h (omega arith)))))
+
+-- one row more at the most
+pub added-few : (x y shift mask : ℕ) (plan : List ℕ) (from count : ℕ) (plan′ : List ℕ) (count′ : ℕ) → Added x y shift mask plan from count plan′ count′
+    → count′ ≤ count + 1
+added-few x y shift mask plan from count plan′ count′ more = omega (arith, more .counted, one-most (noRow plan from count x y shift))
 
 -- ---- places covered
 
@@ -206,10 +261,10 @@ module _ (links : List ℕ) (i : ℕ) (plan : List ℕ) (count : ℕ) where
         (λ window. rw (own, eq-eqb (sourceBit window (suc (suc i))) (sourceBit window (suc (suc i))) refl) (or-right (not (not (fixedPlace links i))) true refl)) k
 
     -- any other has the test of its group
-    pub covers-more : (x y shift mask : ℕ) (plan′ : List ℕ) (count′ : ℕ) → 2 ≤ r → Groups i r x y shift mask → Added x y shift mask plan count plan′ count′
+    pub covers-more : (x y shift mask from : ℕ) (plan′ : List ℕ) (count′ : ℕ) → 2 ≤ r → Groups i r x y shift mask → Added x y shift mask plan from count plan′ count′
         → Covers links i (i + 1) plan count plan′ count′
     unfolding fixedPlace agreesAt below
-    covers-more x y shift mask plan′ count′ h group more low base k =
+    covers-more x y shift mask from plan′ count′ h group more low base k =
         record {
           tests = λ window. more .tests window ∙ rw add-one (ap₂ _&&_ (sym (one window)) (k .tests window));
           others = λ j l. more .others j l ∙ k .others j l;
@@ -220,8 +275,8 @@ module _ (links : List ℕ) (i : ℕ) (plan : List ℕ) (count : ℕ) where
 
 -- all of them
 pub covers-all : (links : List ℕ) (k : ℕ) (plan plan′ : List ℕ) (count : ℕ) → count ≤ 16 * k - 1 → Covers links 0 (16 * k) plan 0 plan′ count
-    → PutsEqual links k plan plan′ count
-unfolding below
-covers-all links k plan plan′ count few h small long low =
+    → Counts (linked links) 0 (16 * k) 0 count → PutsEqual links k plan plan′ count
+unfolding below tally equalRows
+covers-all links k plan plan′ count few h counts small long low =
     let all = h low plan (record { tests = λ window. refl; others = λ i j. refl }) in
-    record { few = omega arith; tests = all .tests; others = all .others }
+    record { few = omega arith; rows = counts refl; tests = all .tests; others = all .others }

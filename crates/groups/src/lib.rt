@@ -1,11 +1,11 @@
 // The equal rows of a plan (document 02, (ii)): for each pair of words and each shift one mask of the bits that are to be the same. Place i
 // is bit 15 - i % 16 of word i / 16.
 ghost use mathlib.Core.Path.{_≡_};
-ghost use mathlib.Core.Bool.{true};
 ghost use Prim.Native.Nat.{_+_, _-_, _*_, _^_, _≤_, _<_};
 ghost use lib.ListN.{length};
 ghost use Rattle.groups.specs.inner.Places.{PutsEqual};
-ghost use Rattle.groups.specs.inner.Groups.{Groups, RowOf, Added, Covers};
+ghost use Rattle.groups.specs.inner.Counts.{linked};
+ghost use Rattle.groups.specs.inner.Groups.{GroupOf, isRowOf, lastRow, Added, Covers, PutsPlace, Counts};
 
 // An equal row: word x, word y, by how many bits y is shifted upwards, and the mask of the bits that are then the same.
 struct Group {
@@ -31,7 +31,7 @@ fn upward(x: u16, y: u16, shift: u16, q: u16) -> Group
 // The equal row of place i and its representative r, a lower place. The words are turned so that the shift is upwards.
 fn group_of(i: u16, r: u16) -> Group
     requires { ⌜ 2 ≤ r ⌝ }
-    ensures { λ g. ⌜ Groups i r (g .x) (g .y) (g .shift) (g .mask) ⌝ }
+    ensures { λ g. ⌜ GroupOf i r (g .x) (g .y) (g .shift) (g .mask) ⌝ }
 {
     let j = r - 2;
     let q = i % 16;
@@ -45,7 +45,7 @@ fn group_of(i: u16, r: u16) -> Group
 // Whether equal row g is one of words x and y at a shift. Rows of one word differ mostly in their shift.
 fn row_of(plan: &[u16], g: u16, x: u16, y: u16, shift: u16) -> bool
     requires { ⌜ 4 * g + 263 < length (now plan) ⌝ }
-    ensures { λ r. ⌜ (r ≡ true → RowOf (now (plan .entry)) x y shift g) ⌝ }
+    ensures { λ r. ⌜ r ≡ isRowOf (now (plan .entry)) x y shift g ⌝ }
 {
     let at = 4 * numbers::wide(g) + 260;
     if plan[at + 2] != shift {
@@ -60,7 +60,7 @@ fn row_of(plan: &[u16], g: u16, x: u16, y: u16, shift: u16) -> bool
 // The last equal row of words x and y at a shift, of rows from .. count; count if there is none.
 fn find_group(plan: &[u16], from: u16, count: u16, x: u16, y: u16, shift: u16) -> u16
     requires { ⌜ 4 * count + 263 < length (now plan) ⌝ }
-    ensures { λ g. ⌜ (g ≤ count) × (g < count → RowOf (now (plan .entry)) x y shift g) ⌝ }
+    ensures { λ g. ⌜ g ≡ lastRow (now (plan .entry)) x y shift from count count ⌝ }
 {
     let mut g = count;
     while from < g {
@@ -77,7 +77,7 @@ fn find_group(plan: &[u16], from: u16, count: u16, x: u16, y: u16, shift: u16) -
 fn add_group(plan: &mut [u16], from: u16, count: u16, group: Group) -> u16
     requires { ⌜ count < 1023 ⌝ }
     requires { ⌜ 4352 ≤ length (now plan) ⌝ }
-    ensures { λ n. ⌜ Added (group .x) (group .y) (group .shift) (group .mask) (now (plan .entry)) count (now (plan .exit)) n ⌝ }
+    ensures { λ n. ⌜ Added (group .x) (group .y) (group .shift) (group .mask) (now (plan .entry)) from count (now (plan .exit)) n ⌝ }
 {
     let g = find_group(plan, from, count, group.x, group.y, group.shift);
     let at = 4 * numbers::wide(g) + 260;
@@ -96,6 +96,7 @@ fn put_place(links: &[u16], i: u16, from: u16, count: u16, plan: &mut [u16]) -> 
     requires { ⌜ count ≤ i - 1 ⌝ }
     requires { ⌜ 4352 ≤ length (now plan) ⌝ }
     ensures { λ n. ⌜ (n ≤ i) × Covers (now (links .entry)) i (i + 1) (now (plan .entry)) count (now (plan .exit)) n ⌝ }
+    ensures rows { λ n. ⌜ PutsPlace (linked (now (links .entry))) i (now (plan .entry)) from count (now (plan .exit)) n ⌝ }
 {
     let r = numbers::load(links, numbers::wide(i) + 2);
     if r < 2 {
@@ -113,6 +114,7 @@ fn put_word(links: &[u16], v: u16, count: u16, plan: &mut [u16]) -> u16
     requires { ⌜ count ≤ 16 * v - 1 ⌝ }
     requires { ⌜ 4352 ≤ length (now plan) ⌝ }
     ensures { λ n. ⌜ (n ≤ 16 * v + 15) × Covers (now (links .entry)) (16 * v) (16 * v + 16) (now (plan .entry)) count (now (plan .exit)) n ⌝ }
+    ensures rows { λ n. ⌜ Counts (linked (now (links .entry))) (16 * v) (16 * v + 16) count n ⌝ }
 {
     let end = 16 * v + 16;
     let mut n = count;

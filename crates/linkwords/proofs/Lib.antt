@@ -1,1 +1,2 @@
 pub mod RowsHeld
+pub mod Calls

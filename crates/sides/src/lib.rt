@@ -78,7 +78,7 @@ pub fn skip(at: Reader) -> Reader
 }
 
 // Writes the normal form of a row that is brought to the width of another to the beginning of a buffer: a fill of zeros, and the row's own
-// form behind it. How many pieces it has.
+// form behind it.
 fn side_form(
     table: &[u16],
     widths: &[u16],
@@ -86,13 +86,13 @@ fn side_form(
     row: usize,
     other: usize,
     form: &mut [u16],
-) -> usize
+)
     ensures { λ _. ⌜ WritesSide (now (table .entry)) (now (widths .entry)) (now (variables .entry)) row other (now (form .entry)) (now (form .exit)) ⌝ }
 {
     let own = numbers::load(widths, row);
     let lacking = numbers::difference(numbers::load(widths, other), own);
     let zeros = appender::put_fill(form, 0, 0, lacking);
-    appender::put_form(table, widths, variables, row, form, zeros)
+    appender::put_form(table, widths, variables, row, form, zeros);
 }
 
 // Writes the normal forms of the filled sides of row r. How many bit pairs it has: none, if it is no equation.

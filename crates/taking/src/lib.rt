@@ -1,10 +1,8 @@
 // The equations of a table taken one after the other (document 01, "The solver's answer"). The bit pairs of each are read from the normal
 // forms of its sides, where these were written (crate sides); each pair joins the classes of its two bits (classes), until two different
 // fixed bits meet.
-ghost use mathlib.Core.Path.{_≡_};
-ghost use mathlib.Core.Bool.{true};
 ghost use lib.ListN.{length};
-ghost use Rattle.taking.specs.inner.Equations.{Alike, TakesEquations, LeavesForms};
+ghost use Rattle.taking.specs.inner.Equations.{TellsAlike, TakesEquations, LeavesForms};
 use sides::Reader;
 
 // How far the equations were taken: to the row at which two different fixed bits met, or to the row at which taking was to end; and the ties
@@ -20,7 +18,7 @@ const STRIDE: usize = 8;
 // Whether the next eight pairs of two readers link alike: the two sources of each link to the same one, so that the pair says nothing. Asked
 // only within a piece of each form, both of them parts of variables.
 fn alike(links: &[u16], a: Reader, b: Reader) -> bool
-    ensures { λ r. ⌜ (r ≡ true → Alike (now (links .entry)) a b) ⌝ }
+    ensures { λ r. ⌜ TellsAlike (now (links .entry)) a b r ⌝ }
 {
     if a.left < sides::STRIDE {
         return false;

@@ -97,7 +97,7 @@ module _ (k : ℕ) where
       unfolding notTerm
       terms-same r x = rw (alike-kinds s t alike x)
 
-      names-same : (r : ℕ) (row : Row) → misnamed s r row ≡ misnamed t r row
+      pub names-same : (r : ℕ) (row : Row) → misnamed s r row ≡ misnamed t r row
       unfolding misnamed
       names-same r row = rw (terms-same r (row .a), terms-same r (row .b))
 

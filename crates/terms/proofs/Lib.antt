@@ -25,5 +25,6 @@ pub mod Alike
 pub mod LeavingOff
 pub mod Counting
 pub mod Revising
+pub mod LineNumbers
 pub mod NextEquation
 pub mod Stopping

@@ -6,7 +6,7 @@ use Prim.Native.Nat.{ℕ, _<_, _≤_}
 use lib.ListN.{length}
 use Rattle.terms.specs.declared.Row.{Row}
 use Rattle.terms.specs.declared.Fault.the-variants.{Accepted}
-use Rattle.terms.specs.Table.{rowsOf, rowNumbers, rowAt, countKind, valueOf, evened, satisfies, silentRow, leavingOff, ofLine, counting}
+use Rattle.terms.specs.Table.{rowsOf, rowNumbers, rowAt, widthsOf, countKind, valueOf, evened, satisfies, silentRow, leavingOff, ofLine, counting}
 use Rattle.terms.specs.Faults.{firstFault}
 use Rattle.terms.specs.Acceptance.{Exactly}
 
@@ -91,3 +91,20 @@ TakesItsPlace t e p =
 -- (g) The equations that a table is refused 17 for are all of them: an accepted table has at most 64, counting or not.
 abbrev pub FewEquations : List ℕ → Type 0
 FewEquations table = countKind 4 (rowsOf table) ≤ 64
+
+-- Two rows are the same, but for the line number if they are equations; and tables of as many numbers, all of whose rows are so.
+pub record SameButLine (s r : Row) : Type 0 where
+  pub kind-is : s .kind ≡ r .kind
+  pub a-is : s .a ≡ r .a
+  pub b-is : s .b ≡ r .b
+  pub c-is : (r .kind ≡ 4 → ⊥) → s .c ≡ r .c
+
+pub record OtherLines (other table : List ℕ) : Type 0 where
+  pub as-many : length other ≡ length table
+  pub each : (r : ℕ) → r < length (rowsOf table) → SameButLine (rowAt (rowsOf other) r) (rowAt (rowsOf table) r)
+
+-- (i) No rule asks for a line number: with others, whatever they are, a table is accepted where it was, and else has the fault that it had; its rows
+-- have the widths that they had.
+pub record LinesFree (other table : List ℕ) : Type 0 where
+  pub same-fault : firstFault other ≡ firstFault table
+  pub same-widths : widthsOf (rowsOf other) ≡ widthsOf (rowsOf table)

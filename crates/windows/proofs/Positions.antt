@@ -16,20 +16,25 @@ use Rattle.terms.specs.declared.Fault.the-variants.{Accepted}
 use Rattle.terms.specs.Assignments.{Assignment}
 use Rattle.terms.specs.Calls.{stopAt}
 use Rattle.terms.specs.Faults.{isAccepted, firstFault}
-use Rattle.terms.specs.Table.{rowsOf, bitsOf, countKind, satisfies}
+use Rattle.terms.specs.Table.{rowsOf, rowNumbers, bitsOf, countKind, counting, satisfies}
 use Rattle.terms.proofs.AcceptedTable.{fault-none}
+use Rattle.terms.proofs.Alike.{alike-count}
 use Rattle.terms.proofs.Assignments.{every-at}
+use Rattle.terms.proofs.Counting.{counting-alike, counting-accepted}
+use Rattle.terms.proofs.Revising.{counting-satisfies}
+use Rattle.terms.proofs.RowNumbers.{rows-written}
 use Rattle.laws.specs.Lists.{countUp, member}
 use Rattle.laws.proofs.Buffers.{overwrite-first}
 use Rattle.laws.proofs.Bools.{and-parts, and-both, or-right}
 use Rattle.laws.proofs.Numbers.{lt-or-le}
 use Rattle.answers.specs.Answer.{variableWidths}
 use Rattle.answers.specs.Solve.{valid, unsatisfiable}
+use Rattle.answers.proofs.Revised.{alike-variables}
 use Rattle.answers.proofs.Variables.{widths-count}
 use Rattle.windows.specs.Words.{wordsBits, sixteens}
 use Rattle.windows.proofs.Sixteens.{sixteens-of, sixteens-at, window-bits}
 use Rattle.windows.specs.Call.{meetsFront, startsFrom, positionsOf, breaks41, breaks42, positionsRecord, positionsAfter}
-use Rattle.windows.specs.Positions.{Found, Rising, Counted, EachSixteen, Refused, Ends, SamePatterns, Overlap}
+use Rattle.windows.specs.Positions.{Found, Rising, Counted, EachSixteen, Refused, Ends, SamePatterns, Overlap, SamePositions}
 use Rattle.windows.proofs.Starts.{starts-are, starts-rise, starts-once, starts-none, starts-all, ending-inside}
 
 -- (a) Which they are.
@@ -173,3 +178,33 @@ positions-overlap t one words more =
         meets-there t (run ++ more) (omega (arith, length-append run more))
         ∙ ap (λ (p : List ℕ). satisfies t (wordsBits p)) (take-append-le (countKind 0 t) run more l)
         ∙ sym (meets-there t run l)
+
+-- (h) Leaving off the revised equations changes no position: what is asked of a table are its variables and the patterns that meet it.
+pub positions-counting : (table : List ℕ) → firstFault table ≡ Accepted → (words : List ℕ) → SamePositions table words
+positions-counting table accepted words =
+    record {
+      same-starts = starts;
+      same-record = recorded;
+      same-list = λ list. unfold positionsAfter in (rw (recorded, read, starts));
+    }
+  where
+    t : List Row
+    t = rowsOf table
+
+    variables : countKind 0 (counting t) ≡ countKind 0 t
+    variables = alike-count 4 0 (counting t) t (counting-alike t)
+
+    meets : meetsFront (counting t) ≡ meetsFront t
+    meets = fun-ext (λ rest. unfold meetsFront in (rw (variables, counting-satisfies t (wordsBits (take (countKind 0 t) rest)))))
+
+    starts : positionsOf (counting t) words ≡ positionsOf t words
+    starts = unfold positionsOf in (ap (λ (f : List ℕ → Bool). startsFrom f 0 words) meets)
+
+    read : rowsOf (rowNumbers (counting t)) ≡ counting t
+    read = rows-written (counting t)
+
+    refused : breaks41 (counting t) ≡ breaks41 t
+    refused = unfold breaks41 in (rw (variables, alike-variables (counting t) t (counting-alike t)))
+
+    recorded : positionsRecord (rowNumbers (counting t)) words ≡ positionsRecord table words
+    recorded = unfold positionsRecord in (rw (read, refused, starts, counting-accepted table accepted, accepted))

@@ -4,7 +4,7 @@ use mathlib.Core.List.{List, [], _∷_, _++_}
 use Prim.Native.Nat.{ℕ, zero, suc, _+_, _-_, _*_, _/_, _%_, _^_, _<_}
 use native.Mathlib.Omega.{arith}
 use native.Mathlib.Nat.{zero-div}
-use lib.ListN.{length, getD, List·getD-append}
+use lib.ListN.{length, getD, length-append, List·getD-append}
 use lib.Seq.{getD-append-add}
 use Rattle.laws.specs.Binary.{binary}
 use Rattle.laws.proofs.Binary.{binary-length, binary-at}
@@ -15,7 +15,7 @@ use Rattle.windows.specs.Words.{wordsBits}
 pub words-length : (window : List ℕ) → length (wordsBits window) ≡ 16 * length window
 unfolding wordsBits binary
 words-length [] = refl
-words-length (w ∷ ws) = omega (arith, words-length ws)
+words-length (w ∷ ws) = simp length-append (omega (arith, words-length ws))
 
 -- Place 16 v + q is bit 15 - q of word v; past the last word it is 0.
 pub words-at : (window : List ℕ) (v q : ℕ) → q < 16 → getD (wordsBits window) (16 * v + q) 0 ≡ getD window v 0 / 2 ^ (15 - q) % 2

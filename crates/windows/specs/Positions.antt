@@ -12,7 +12,8 @@ use Rattle.terms.specs.Assignments.{Assignment}
 use Rattle.terms.specs.Acceptance.{Exactly}
 use Rattle.terms.specs.Calls.{refusal, completed, faultRecord}
 use Rattle.terms.specs.Faults.{firstFault}
-use Rattle.terms.specs.Table.{rowsOf, bitsOf, countKind, satisfies}
+use Rattle.terms.specs.Table.{rowsOf, rowNumbers, rowAt, bitsOf, countKind, counting, valueOf, satisfies}
+use Rattle.laws.specs.Binary.{binary}
 use Rattle.laws.specs.Lists.{countUp, member, distinct}
 use Rattle.answers.specs.Answer.{variableWidths}
 use Rattle.answers.specs.Solve.{valid, unsatisfiable}
@@ -70,3 +71,17 @@ endingBy k n (i ∷ starts) = cond (leb (i + k) n) (i ∷ endingBy k n starts) (
 
 abbrev pub Overlap : List Row → List ℕ → List ℕ → Type 0
 Overlap t words more = endingBy (countKind 0 t) (length words) (positionsOf t (words ++ more)) ≡ positionsOf t words
+
+-- (h) A table and the table with its revised equations left off have the same positions in every run, and the calls that are lent the one or the other
+-- have the same record and the same list.
+pub record SamePositions (table words : List ℕ) : Type 0 where
+  pub same-starts : positionsOf (counting (rowsOf table)) words ≡ positionsOf (rowsOf table) words
+  pub same-record : positionsRecord (rowNumbers (counting (rowsOf table))) words ≡ positionsRecord table words
+  pub same-list : (list : List ℕ) → positionsAfter (rowNumbers (counting (rowsOf table))) words list ≡ positionsAfter table words list
+
+-- (i) The first word of a window is variable 0: in the window that starts at word i, the value of variable j is word i + j, by its 16 bits.
+-- Row r is variable j if j variables stand before it.
+abbrev pub WordOfVariable : List Row → List ℕ → ℕ → Type 0
+WordOfVariable t words i =
+    (r j : ℕ) → r < length t → rowAt t r .kind ≡ 0 → countKind 0 (take r t) ≡ j
+    → valueOf t (wordsBits (take (countKind 0 t) (drop i words))) r ≡ binary 16 (getD words (i + j) 0)

@@ -1,8 +1,8 @@
 -- Fixed bits as a mask and a value: one bit more behind those that are there. Assumes nothing.
 use mathlib.Core.Path.{_≡_, refl, sym, _∙_, ap, ap₂, subst}
-use mathlib.Core.Bool.{Bool, true, _&&_, cond, and-assoc}
+use mathlib.Core.Bool.{Bool, true, not, _&&_, cond, and-assoc}
 use mathlib.Core.List.{List}
-use mathlib.Core.Logic.{_⊎_, inl, inr}
+use mathlib.Core.Logic.{_⊎_, inl, inr, _≢_}
 use Prim.Native.Nat.{ℕ, zero, suc, _+_, _-_, _*_, _/_, _%_, _^_, _≤_, _<_, min}
 use native.Mathlib.Omega.{arith}
 use native.Mathlib.Nat.{div-one}
@@ -13,12 +13,14 @@ use lib.ListN.{length, getD}
 use lib.Pow.{pow-mono}
 use borrow.Author.Tests.{eqb-true, eq-eqb, ne-eqb, le-ltb}
 use Rattle.laws.specs.Buffers.{setFour}
-use Rattle.laws.specs.Lists.{below}
+use Rattle.laws.specs.Lists.{below, tally}
 use Rattle.laws.proofs.Binary.{bit-half}
-use Rattle.laws.proofs.Bools.{same-test, and-first, and-second, and-both}
+use Rattle.laws.proofs.Bools.{same-test, and-first, and-second, and-both, one-most}
 use Rattle.laws.specs.Bools.{implies}
 use Rattle.groups.specs.inner.Places.{sourceBit, fixedPlace, agreesAt}
+use Rattle.groups.specs.inner.Counts.{linked}
 use Rattle.groups.proofs.Rows.{four-other, four-first, four-second, four-third, below-same, place-bit}
+use Rattle.words.specs.inner.Sizes.{hasFixed, fixedRows}
 use Rattle.words.specs.inner.Plan.{fixedTest, fixedBit, FixedBits, FixedRowPut, FixedPut}
 
 -- two numbers by their halves and their last bits
@@ -29,6 +31,14 @@ digits-same x y a b l m =
     (λ h. let e = eqb-true a b (and-first (eqb a b) (eqb x y) h) in
     let f = eqb-true x y (and-second (eqb a b) (eqb x y) h) in
     eq-eqb (x * 2 + a) (2 * y + b) (omega arith))
+
+digits-none : (y b : ℕ) → eqb (2 * y + b) 0 ≡ eqb b 0 && eqb y 0
+digits-none y b =
+    same-test (eqb (2 * y + b) 0) (eqb b 0 && eqb y 0)
+    (λ h. let e = eqb-true (2 * y + b) 0 h in and-both (eqb b 0) (eqb y 0) (eq-eqb b 0 (omega arith)) (eq-eqb y 0 (omega arith)))
+    (λ h. let e = eqb-true b 0 (and-first (eqb b 0) (eqb y 0) h) in
+    let f = eqb-true y 0 (and-second (eqb b 0) (eqb y 0) h) in
+    eq-eqb (2 * y + b) 0 (omega arith))
 
 -- what a link says of a bit: mask and value bits
 link-says : (x link : ℕ) → x ≤ 1
@@ -47,15 +57,22 @@ one-of zero = omega arith
 one-of (suc zero) = omega arith
 one-of (suc (suc k)) = rw (ne-eqb (suc (suc k)) 0 (λ z. omega arith), ne-eqb (suc (suc k)) 1 (λ z. omega arith)) (omega arith)
 
--- the state after q bits: the mask and the value say of a word's q high bits what the links do
+-- a mask's bit is 1 exactly if its place is fixed
+link-free : (link : ℕ) → eqb (cond {A = ℕ} (eqb link 0) 1 0 + cond {A = ℕ} (eqb link 1) 1 0) 0 ≡ not (ltb link 2)
+link-free zero = refl
+link-free (suc zero) = refl
+link-free (suc (suc k)) = rw (le-ltb (suc (suc k)) 2 (omega arith), ne-eqb (suc (suc k)) 0 (λ z. omega arith), ne-eqb (suc (suc k)) 1 (λ z. omega arith))
+
+-- the state after q bits: the mask and the value say of a word's q high bits what the links do, and the mask is 0 if none of them is fixed
 pub record Upto (links : List ℕ) (v q mask value : ℕ) : Type 0 where
   pub room : mask < 2 ^ q
   pub low : value ≤ mask
+  pub none : eqb mask 0 ≡ below q (λ p. not (ltb (linked links (suc (suc (16 * v + p)))) 2))
   pub says : (w : ℕ) → eqb (bitAnd (w / 2 ^ (16 - q)) mask) value ≡ below q (fixedBit links v w)
 
 pub none-yet : (links : List ℕ) (v : ℕ) → Upto links v 0 0 0
 unfolding below
-none-yet links v = record { room = omega arith; low = omega arith; says = λ w. ap (λ (n : ℕ). eqb n 0) (and-zero-r (w / 2 ^ 16)) }
+none-yet links v = record { room = omega arith; low = omega arith; none = refl; says = λ w. ap (λ (n : ℕ). eqb n 0) (and-zero-r (w / 2 ^ 16)) }
 
 module _ (links : List ℕ) (v q mask value link a b : ℕ) (l : q < 16) (e : link ≡ getD links (suc (suc (16 * v + q))) 0)
     (ea : a ≡ cond (eqb link 0) 1 0) (eb : b ≡ cond (eqb link 1) 1 0) (u : Upto links v q mask value) where
@@ -76,8 +93,14 @@ module _ (links : List ℕ) (v q mask value link a b : ℕ) (l : q < 16) (e : li
       let bit : eqb (min (x % 2) (a + b)) b ≡ implies (ltb link 2) (eqb (x % 2) link) = rw (ea, eb) (link-says (x % 2) link (omega arith)) in
       rw (k′, step, digits-same y value (min (x % 2) (a + b)) b (omega arith) (omega (arith, few)), bit, u .says w, e, add-one)
 
+  none-more : eqb (2 * mask + (a + b)) 0 ≡ below (q + 1) (λ p. not (ltb (linked links (suc (suc (16 * v + p)))) 2))
+  unfolding below
+  none-more =
+      let free : eqb (a + b) 0 ≡ not (ltb link 2) = rw (ea, eb) (link-free link) in
+      digits-none mask (a + b) ∙ rw (add-one, free, u .none, e)
+
   pub bit-more : Upto links v (q + 1) (2 * mask + (a + b)) (2 * value + b)
-  bit-more = record { room = rw add-one (omega (arith, u .room, few)); low = omega (arith, u .low); says = one-more }
+  bit-more = record { room = rw add-one (omega (arith, u .room, few)); low = omega (arith, u .low); none = none-more; says = one-more }
 
 -- after 16 bits the mask and the value fit in 16 bits, and speak of the whole word
 pub room-left : (links : List ℕ) (v q mask value : ℕ) → q ≤ 16 → Upto links v q mask value → (mask < 65536) × (value < 65536)
@@ -86,7 +109,8 @@ room-left links v q mask value l u =
     (omega (arith, u .room), omega (arith, u .room, u .low))
 
 whole : (links : List ℕ) (v mask value : ℕ) → Upto links v 16 mask value → FixedBits links v mask value
-whole links v mask value u = record { low = u .low; says = λ w. ap (λ (x : ℕ). eqb (bitAnd x mask) value) (sym (div-one w)) ∙ u .says w }
+unfolding hasFixed
+whole links v mask value u = record { low = u .low; some = ap not (sym (u .none)); says = λ w. ap (λ (x : ℕ). eqb (bitAnd x mask) value) (sym (div-one w)) ∙ u .says w }
 
 pub all-bits : (links : List ℕ) (v q mask value mask′ value′ : ℕ) → q ≤ 16 → 16 ≤ q → Upto links v q mask value → mask′ ≡ mask % 65536 → value′ ≡ value % 65536
     → FixedBits links v mask′ value′
@@ -110,6 +134,13 @@ module _ (links : List ℕ) (v n : ℕ) (plan : List ℕ) (mask value : ℕ) (b 
         ap (λ (t : Bool). t && below n (fixedTest plan window)) p;
     others = λ i l. refl;
   }
+
+  -- how many there are then
+  pub counted-none : mask ≡ 0 → n ≡ n + cond (hasFixed (linked links) v) 1 0
+  counted-none e = rw (b .some, eq-eqb mask 0 e) (omega arith)
+
+  pub counted-one : mask ≢ 0 → n + 1 ≡ n + cond (hasFixed (linked links) v) 1 0
+  counted-one h = rw (b .some, ne-eqb mask 0 h)
 
   module _ (l : n < 64) (h : 260 ≤ length plan) where
     abbrev next : List ℕ
@@ -172,13 +203,15 @@ bit-agrees links window v q l =
     rw (place-bit window (16 * v + q), a, b) (link-bit window (getD window v 0 / 2 ^ (15 - q) % 2) (getD links (suc (suc (16 * v + q))) 0))
 
 pub rows-none : (links plan : List ℕ) → FixedPut links 0 plan plan 0
-unfolding below
-rows-none links plan = record { few = omega arith; tests = λ window. refl; others = λ i l. refl }
+unfolding below fixedRows tally
+rows-none links plan = record { few = omega arith; rows = refl; tests = λ window. refl; others = λ i l. refl }
 
-pub rows-more : (links plan plan₁ plan₂ : List ℕ) (v n m : ℕ) → FixedPut links v plan plan₁ n → FixedRowPut links v n plan₁ plan₂ m → m ≤ n + 1
-    → FixedPut links (v + 1) plan plan₂ m
+pub rows-more : (links plan plan₁ plan₂ : List ℕ) (v n m : ℕ) → FixedPut links v plan plan₁ n → FixedRowPut links v n plan₁ plan₂ m
+    → m ≡ n + cond (hasFixed (linked links) v) 1 0 → FixedPut links (v + 1) plan plan₂ m
+unfolding fixedRows tally
 rows-more links plan plan₁ plan₂ v n m f r l = record {
-  few = omega (arith, f .few);
+  few = omega (arith, f .few, one-most (hasFixed (linked links) v));
+  rows = rw add-one (omega (arith, f .rows));
   tests = λ window.
       let says : ℕ → Bool = λ i. implies (fixedPlace links i) (agreesAt links window i) in
       let e : 16 * (v + 1) ≡ 16 * v + 16 = omega arith in

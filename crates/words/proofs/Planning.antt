@@ -14,6 +14,8 @@ use Rattle.laws.proofs.Buffers.{four-length}
 use Rattle.laws.specs.Bools.{implies}
 use Rattle.groups.specs.inner.Places.{fixedPlace, agreesAt, equalTest, EqualPut, PutsEqual}
 use Rattle.groups.proofs.Rows.{below-same, four-other, four-first, four-second, four-third}
+use Rattle.groups.specs.inner.Counts.{linked, equalRows}
+use Rattle.words.specs.inner.Sizes.{fixedRows, Sized}
 use Rattle.words.specs.inner.Plan.{fixedTest, meetsPlan, FixedPut, PutsFixed, PutsRows, PutsNever}
 use Rattle.words.proofs.Testing.{plan-met}
 
@@ -84,17 +86,30 @@ module _ (links : List ℕ) (k : ℕ) (plan plan₁ plan₂ : List ℕ) (fixed e
       ∙ ap₂ _&&_ (fixed-kept window ∙ F .tests window) (equal-kept window ∙ E .tests window)
       ∙ below-split (16 * k) (fixedPlace links) (agreesAt links window)
 
+  rows-sized : Sized plan₃ (fixedRows (linked links) k) (equalRows (linked links) k)
+  rows-sized =
+      record {
+        fixed-rows = counted-first plan₂ fixed equal (omega arith) ∙ F .rows;
+        equal-rows = counted-second plan₂ fixed equal (omega arith) ∙ E .rows;
+        fixed-few = omega (arith, F .rows, F .few);
+        equal-few = omega (arith, E .rows, E .few);
+      }
+
 -- as the code makes it
 pub planned : (links : List ℕ) (k : ℕ) (plan plan₁ plan₂ plan₃ plan₄ : List ℕ) (fixed equal f : ℕ)
     → PutsFixed links k plan plan₁ fixed → PutsEqual links k plan₁ plan₂ equal → length plan₁ ≡ length plan → length plan₂ ≡ length plan₁
     → f ≡ fixed % 65536 → plan₃ ≡ set plan₂ 0 f → plan₄ ≡ set plan₃ 1 equal → PutsRows links k plan plan₄
-planned links k plan plan₁ plan₂ plan₃ plan₄ fixed equal f F E n₁ n₂ m e₃ e₄ l h low window =
+planned links k plan plan₁ plan₂ plan₃ plan₄ fixed equal f F E n₁ n₂ m e₃ e₄ l h low =
     let F′ : FixedPut links k plan plan₁ fixed = F l (omega arith) in
     let E′ : EqualPut links k plan₁ plan₂ equal = E l (omega arith) low in
     let z : f ≡ fixed = omega (arith, F′ .few) in
     let w : plan₄ ≡ set (set plan₂ 0 fixed) 1 equal =
     e₄ ∙ ap (λ (x : List ℕ). set x 1 equal) (e₃ ∙ ap (set plan₂ 0) z) in
-    rw w (rows-put links k plan plan₁ plan₂ fixed equal l (omega arith) F′ E′ window)
+    rw w
+    (record {
+      meets = rows-put links k plan plan₁ plan₂ fixed equal l (omega arith) F′ E′;
+      sized = rows-sized links k plan plan₁ plan₂ fixed equal l (omega arith) F′ E′;
+    })
 
 -- the plan that no window meets
 module _ (plan : List ℕ) (h : 4352 ≤ length plan) where
@@ -104,16 +119,25 @@ module _ (plan : List ℕ) (h : 4352 ≤ length plan) where
   abbrev plan″ : List ℕ
   plan″ = setFour (setFour plan 0 1 0 0 0) 4 0 0 1 0
 
+  first-is : getD plan″ 0 0 ≡ 1
+  first-is = four-other plan′ 4 0 0 1 0 0 (inl (omega arith)) ∙ four-first plan 0 1 0 0 0 (omega arith)
+
+  second-is : getD plan″ 1 0 ≡ 0
+  second-is = four-other plan′ 4 0 0 1 0 1 (inl (omega arith)) ∙ four-second plan 0 1 0 0 0 (omega arith)
+
   never-met : (window : List ℕ) → meetsPlan plan″ window ≡ false
   unfolding below fixedTest
   never-met window =
       let n : length plan′ ≡ length plan = four-length plan 0 1 0 0 0 in
-      let a : getD plan″ 0 0 ≡ 1 = four-other plan′ 4 0 0 1 0 0 (inl (omega arith)) ∙ four-first plan 0 1 0 0 0 (omega arith) in
-      let b : getD plan″ 1 0 ≡ 0 = four-other plan′ 4 0 0 1 0 1 (inl (omega arith)) ∙ four-second plan 0 1 0 0 0 (omega arith) in
       let m : getD plan″ 5 0 ≡ 0 = four-second plan′ 4 0 0 1 0 (omega arith) in
       let v : getD plan″ 6 0 ≡ 1 = four-third plan′ 4 0 0 1 0 (omega arith) in
       plan-met plan″ window (rw (four-length plan′ 4 0 0 1 0, n) h)
-      ∙ rw (a, m, v, and-zero-r (getD window (getD plan″ 4 0) 0))
+      ∙ rw (first-is, m, v, and-zero-r (getD window (getD plan″ 4 0) 0))
 
 pub never-put : (plan plan₁ plan₂ : List ℕ) → plan₁ ≡ setFour plan 0 1 0 0 0 → plan₂ ≡ setFour plan₁ 4 0 0 1 0 → PutsNever plan plan₂
-never-put plan plan₁ plan₂ e₁ e₂ h window = rw (e₂, e₁) (never-met plan h window)
+never-put plan plan₁ plan₂ e₁ e₂ h =
+    rw (e₂, e₁)
+    (record {
+      meets = never-met plan h;
+      sized = record { fixed-rows = first-is plan h; equal-rows = second-is plan h; fixed-few = omega arith; equal-few = omega arith };
+    })

@@ -1,12 +1,15 @@
 // The word test (document 02, (ii)): a table of 16-bit variables is turned into a plan once, and each window of words is then tested
 // against the plan with a few word operations. Place i is bit 15 - i % 16 of word i / 16.
 ghost use mathlib.Core.Path.{_≡_};
+ghost use mathlib.Core.Bool.{cond};
 ghost use Prim.Native.Nat.{_+_, _≤_, _<_, min};
 ghost use lib.ListN.{length, getD};
 ghost use Rattle.laws.specs.Lists.{below};
 ghost use Rattle.groups.specs.inner.Places.{equalTest};
+ghost use Rattle.groups.specs.inner.Counts.{linked};
 ghost use Rattle.terms.specs.Table.{rowsOf};
 ghost use Rattle.words.specs.inner.Windows.{windowOf};
+ghost use Rattle.words.specs.inner.Sizes.{hasFixed};
 ghost use Rattle.words.specs.inner.Plan.{fixedTest, meetsPlan, FixedBits, FixedRowPut, PutsFixed, PutsRows, PutsNever, Plans, Prepares};
 
 // How many numbers a plan has: row 0, and room for 64 fixed rows and 1,023 equal rows.
@@ -115,7 +118,7 @@ fn put_fixed_row(links: &[u16], v: usize, n: usize, plan: &mut [u16]) -> usize
     requires { ⌜ v < 64 ⌝ }
     requires { ⌜ n < 64 ⌝ }
     ensures { λ r. ⌜ (260 ≤ length (now (plan .entry)) → FixedRowPut (now (links .entry)) v n (now (plan .entry)) (now (plan .exit)) r) ⌝ }
-    ensures few { λ r. ⌜ r ≤ n + 1 ⌝ }
+    ensures counted { λ r. ⌜ r ≡ n + cond (hasFixed (linked (now (links .entry))) v) 1 0 ⌝ }
 {
     let row = fixed_bits(links, v);
     let mask = row.mask;

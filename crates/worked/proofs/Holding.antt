@@ -1,23 +1,21 @@
 -- What is enough for a case to hold: of an accepted table its record and its answer's rows, of a refused one its fault, of a normal form
 -- its pieces. How many patterns meet a table follows from its record. Assumes nothing.
-use mathlib.Core.Path.{_≡_, refl, sym, _∙_, ap}
+use mathlib.Core.Path.{_≡_, refl, sym, _∙_, ap, subst}
 use mathlib.Core.Bool.{Bool, true, false, not, cond}
 use mathlib.Core.List.{List, []}
 use Prim.Native.Nat.{ℕ, _-_, _^_}
 use native.Mathlib.Omega.{arith}
 use lib.Dec.{eqb}
 use lib.ListN.{length}
-use borrow.Author.Tests.{le-ltb, ne-eqb}
+use borrow.Author.Tests.{le-ltb}
 use Rattle.terms.specs.declared.Record.{Record}
 use Rattle.terms.specs.declared.Fault.the-variants.{Accepted}
 use Rattle.terms.specs.Assignments.{Assignment, every, count}
-use Rattle.terms.specs.Calls.{completed, faultNumber, faultRecord, stopAt}
+use Rattle.terms.specs.Calls.{completed, faultRecord, stopAt}
 use Rattle.laws.specs.Buffers.{overwrite}
 use Rattle.terms.specs.Faults.{firstFault, isAccepted, absent}
 use Rattle.terms.specs.Table.{rowsOf, bitsOf, widthOf, satisfies}
-use Rattle.terms.proofs.AcceptedTable.{fault-high}
 use Rattle.terms.proofs.Assignments.{every-at, every-of}
-use Rattle.terms.specs.Value.{valueRecord}
 use Rattle.forms.specs.declared.Piece.{Piece}
 use Rattle.forms.specs.Call.{formRecord, formAfter}
 use Rattle.forms.specs.Form.{formOf, numbersOf}
@@ -25,6 +23,8 @@ use Rattle.answers.specs.Answer.{answerNumbers, freeBits}
 use Rattle.answers.specs.Solve.{valid, unsatisfiable, alwaysRecord, solvedRecord, solvedRows, answerRecord, solveRecord, answerAfter}
 use Rattle.answers.proofs.Demands.{demand-3, solved-sum}
 use Rattle.answers.proofs.Lent.{call-record}
+use Rattle.calls.specs.Calls.{RefusedByEach}
+use Rattle.calls.proofs.Refusals.{refused-by-each}
 use Rattle.worked.specs.Cases.{Solved, Refused, Form, Holds}
 
 -- what a call leaves: the new numbers for one outcome, else what was there
@@ -93,20 +93,7 @@ module _ (table : List ℕ) where
 
     -- A refused table: its fault.
     pub refused-case : isAccepted (firstFault table) ≡ false → faultRecord (firstFault table) ≡ found → Holds (Refused table found)
-    unfolding answerAfter solveRecord valueRecord formRecord stopAt overwrite
-    refused-case h is = (
-      λ old work room memory.
-          let r : solveRecord table (length old) (length work) ≡ found =
-          rw (le-ltb (length old) 24576 room, le-ltb (length work) 16384 memory, h) is in
-          (r, rw (r, not-2) refl),
-      λ r pattern room. rw h is,
-      λ r room. rw h is,
-    )
-      where
-        not-2 : eqb (found .outcome) 2 ≡ false
-        not-2 =
-            ap (λ (r : Record). eqb (r .outcome) 2) (sym is)
-            ∙ ne-eqb (faultNumber (firstFault table)) 2 (λ e. omega (arith, e, fault-high (firstFault table) h))
+    refused-case h is = subst (RefusedByEach table) is (refused-by-each table h)
 
   -- A normal form: the row's pieces and its width.
   pub form-case : firstFault table ≡ Accepted → (r : ℕ) → absent (rowsOf table) r ≡ false

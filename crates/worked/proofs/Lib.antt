@@ -8,6 +8,20 @@ pub mod AnyWidth
 pub mod WidthBounds
 pub mod NoneLeft
 pub mod Labels
+pub mod LaidRows
+pub mod LaidAnswer
+pub mod LaidPatterns
+pub mod LaidCases
+pub mod PatternWords
+pub mod ShortSidesAnyWidth
+pub mod ShortSidesWithin
+pub mod NeverAt
+pub mod ShortSidesNever
+pub mod ShortSidesEveryWidth
+pub mod RevisedAnyWidth
+pub mod RevisedEveryWidth
+pub mod FirstPlacesAnyWidth
+pub mod FirstPlacesEveryWidth
 pub mod Overlaps
 pub mod OverlapRows
 pub mod OverlapNumbers
@@ -20,3 +34,5 @@ pub mod Spellings
 pub mod ShortSides
 pub mod FirstPlaces
 pub mod Revised
+pub mod WholePieces
+pub mod WrongSolvers

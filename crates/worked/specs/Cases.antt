@@ -10,11 +10,11 @@ use Rattle.terms.specs.declared.Record.{Record}
 use Rattle.terms.specs.Assignments.{count}
 use Rattle.laws.specs.Buffers.{overwrite}
 use Rattle.terms.specs.Table.{rowsOf, bitsOf, satisfies}
-use Rattle.terms.specs.Value.{valueRecord}
 use Rattle.forms.specs.Call.{formRecord, formAfter}
 use Rattle.sheets.specs.Call.{sheetRecord, tableAfter}
 use Rattle.sheets.specs.Program.{programText}
 use Rattle.answers.specs.Solve.{solveRecord, answerAfter}
+use Rattle.calls.specs.Calls.{RefusedByEach}
 
 -- A case, by its kind.
 pub data Case : Type 0 where
@@ -36,15 +36,12 @@ Solves table found answer =
     (old work : List ℕ) → 24576 ≤ length old → 16384 ≤ length work
     → (solveRecord table (length old) (length work) ≡ found) × (answerAfter table old (length work) ≡ overwrite answer old)
 
--- What it means that a case holds. A refused table is refused by each call that takes one. A normal form, or a table that is read, stands
--- at the beginning of what is lent for it, with room for 4,096 numbers or for 512 rows.
+-- What it means that a case holds. A refused table is refused by each call that takes one, and nothing that is lent changes. A normal form,
+-- or a table that is read, stands at the beginning of what is lent for it, with room for 4,096 numbers or for 512 rows.
 abbrev pub Holds : Case → Type 0
 Holds (Solved table found answer patterns) =
     Solves table found answer × (count (bitsOf (rowsOf table)) (satisfies (rowsOf table)) ≡ patterns)
-Holds (Refused table found) =
-    Solves table found []
-    × ((r : ℕ) (pattern : List ℕ) (room : ℕ) → valueRecord table r pattern room ≡ found)
-    × ((r room : ℕ) → formRecord table r room ≡ found)
+Holds (Refused table found) = RefusedByEach table found
 Holds (Form table r found form) =
     (old : List ℕ) → 4096 ≤ length old → (formRecord table r (length old) ≡ found) × (formAfter table r old ≡ overwrite form old)
 Holds (Sheet sheet found table) =

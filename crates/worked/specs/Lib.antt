@@ -3,5 +3,9 @@ pub mod EveryWidth
 pub mod FromSheet
 pub mod Spellings
 pub mod ShortSides
+pub mod ShortSidesEveryWidth
 pub mod FirstPlaces
+pub mod FirstPlacesEveryWidth
 pub mod Revised
+pub mod WrongSolvers
+pub mod RevisedEveryWidth

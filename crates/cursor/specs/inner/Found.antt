@@ -1,10 +1,9 @@
 -- What each case of the cursor's enums means, in the words of the definitions of sheets/specs/Text.antt: the cursor behind what was found is
 -- its place.
-use mathlib.Core.Path.{_≡_}
 use mathlib.Core.List.{List}
 use Prim.Native.Nat.{ℕ}
 use Rattle.sheets.specs.declared.Order.{Order}
-use Rattle.sheets.specs.Text.{NumberFound, NameFound, NamesFound, LineFound, fieldAt, rowOfValues, lineAt}
+use Rattle.sheets.specs.Text.{NumberFound, NameFound, NamesFound, LineFound, decimalAt, endedBy, rowOfValues, withNumber}
 use Rattle.sheets.specs.Text as text
 use Rattle.cursor.specs.declared.Number.{Number}
 use Rattle.cursor.specs.declared.Number.the-variants.{Value, NoNumber}
@@ -42,12 +41,14 @@ abbrev pub fourFound : Order → Four → LineFound
 fourFound order (Found v₁ v₂ v₃ v₄ c) = text.Values (rowOfValues order v₁ v₂ v₃ v₄) (c .at)
 fourFound order NoFour = text.NoLine
 
--- A value that was found is the one there, with the byte behind it; where none was found, nothing is said.
-abbrev pub FieldFound : Number → List ℕ → ℕ → ℕ → Type 0
-FieldFound (Value v c) bytes at byte = fieldAt bytes at byte ≡ text.Value v (c .at)
-FieldFound NoNumber bytes at byte = Unit {0}
+-- A decimal number and the byte behind it.
+unfoldable pub decimalFieldAt : List ℕ → ℕ → ℕ → NumberFound
+decimalFieldAt bytes at byte = endedBy bytes byte (decimalAt bytes at)
 
--- Four values that were found are those of the line there; where none were found, nothing is said.
-abbrev pub FourFound : Four → List ℕ → ℕ → Type 0
-FourFound (Found v₁ v₂ v₃ v₄ c) bytes at = (order : Order) → lineAt bytes order at ≡ text.Values (rowOfValues order v₁ v₂ v₃ v₄) (c .at)
-FourFound NoFour bytes at = Unit {0}
+-- A line of values, all of them in decimal.
+unfoldable pub decimalLineAt : List ℕ → Order → ℕ → LineFound
+decimalLineAt bytes order at =
+    withNumber (decimalFieldAt bytes at 32) λ v₁ at₁.
+    withNumber (decimalFieldAt bytes at₁ 32) λ v₂ at₂.
+    withNumber (decimalFieldAt bytes at₂ 32) λ v₃ at₃.
+    withNumber (decimalFieldAt bytes at₃ 10) λ v₄ at₄. text.Values (rowOfValues order v₁ v₂ v₃ v₄) at₄

@@ -7,6 +7,7 @@ use borrow.Author.Needs.{needs}
 use Rattle.sheets.specs.Print.{field}
 use Rattle.sheets.proofs.Lengths.{field-few, field-more}
 use Rattle.lines.proofs.Pushing.{whole-line, push-both}
+use Rattle.details.specs.inner.Printing.{fourLine}
 use Rattle.details.proofs.four_values.Statement.{statement}
 use Rattle.details.proofs.four_values.Tie as tie
 
@@ -32,6 +33,7 @@ put-number-requires-4 : tie.Need-put-number-requires-4
 put-number-requires-4 c κs = search needs
 
 returns : tie.Need-returns
+unfolding fourLine
 returns c =
     whole-line _ _ _
     (four-few _ _ _ _)

@@ -2,6 +2,7 @@
 use native.Mathlib.Omega.{arith}
 use mathlib.Core.Path.{refl}
 use borrow.Author.Needs.{needs}
+use Rattle.groups.proofs.Keys.{found-row, found-none}
 use Rattle.groups.proofs.Groups.{added-there, added-new}
 use Rattle.groups.proofs.add_group.Statement.{statement}
 use Rattle.groups.proofs.add_group.Tie as tie
@@ -42,7 +43,8 @@ same-length c = search needs
 returns : tie.Need-returns
 returns c =
     let f = c .before .before .before .before .find-group in
-    added-there _ _ _ _ _ _ _ (f .result) _ (f .ensures .1 (c .before .before .if1 .taken)) (c .before .before .if1 .taken) (omega arith) (omega arith) refl
+    let row = found-row _ _ _ _ _ _ (f .result) (f .ensures) (c .before .before .if1 .taken) in
+    added-there _ _ _ _ _ _ _ _ (f .result) _ (row .1) (row .0) (c .before .before .if1 .taken) (omega arith) (omega arith) refl
 
 store-four-requires : tie.Need-store-four-requires
 store-four-requires c κs = search needs
@@ -54,7 +56,11 @@ same-length-2 : tie.Need-same-length-2
 same-length-2 c = search needs
 
 returns-2 : tie.Need-returns-2
-returns-2 c = added-new _ _ _ _ _ _ _ _ (omega arith) (omega arith) (c .before .before .store-four .ensures)
+returns-2 c =
+    let e = c .before .before .before .before in
+    let f = e .before .before .find-group in
+    let none = found-none _ _ _ _ _ _ (f .result) (f .ensures) (e .if1 .left) in
+    added-new _ _ _ _ _ _ _ _ _ (none .1) (omega (arith, none .0)) (omega (arith, none .0)) (c .before .before .store-four .ensures)
 
 pub add-group-spec : {M : Type 1} → statement M
 add-group-spec =

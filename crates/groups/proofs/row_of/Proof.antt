@@ -1,11 +1,7 @@
 -- `row_of` meets its contract: each of the three numbers was compared. Assumes nothing.
-use mathlib.Core.Path.{refl}
-use mathlib.Core.Bool.{false}
 use denote.Ref.{now}
-use borrow.Author.Tests.{eqb-true}
 use borrow.Author.Needs.{needs}
-use Rattle.laws.proofs.Bools.{clash}
-use Rattle.groups.proofs.Groups.{row-read}
+use Rattle.groups.proofs.Keys.{other-shift, other-second, first-tells}
 use Rattle.groups.proofs.row_of.Statement.{statement}
 use Rattle.groups.proofs.row_of.Tie as tie
 
@@ -28,7 +24,10 @@ shared-slice-read-if1 : tie.Need-shared-slice-read-if1
 shared-slice-read-if1 c = search needs
 
 returns : tie.Need-returns
-returns c e = clash false e refl
+returns c =
+    let w = c .before .before .wide in
+    let s = c .before .before .before .before in
+    other-shift (now (s .args .plan)) (s .args .x) (s .args .y) (s .args .shift) (s .args .g) (w .result) (w .ensures .0) (c .if1 .taken)
 
 add-if2 : tie.Need-add-if2
 add-if2 c = search needs
@@ -40,7 +39,10 @@ shared-slice-read-if2 : tie.Need-shared-slice-read-if2
 shared-slice-read-if2 c = search needs
 
 returns-2 : tie.Need-returns-2
-returns-2 c e = clash false e refl
+returns-2 c =
+    let s = c .before .before .before .before .before .before in
+    let w = c .before .before .before .before .wide in
+    other-second (now (s .args .plan)) (s .args .x) (s .args .y) (s .args .shift) (s .args .g) (w .result) (w .ensures .0) (c .if2 .taken)
 
 mul-result : tie.Need-mul-result
 mul-result c = search needs
@@ -49,10 +51,10 @@ shared-slice-read-result : tie.Need-shared-slice-read-result
 shared-slice-read-result c = search needs
 
 returns-3 : tie.Need-returns-3
-returns-3 c e =
+returns-3 c =
     let s = c .before .before .before .before .before .before .before in
     let w = c .before .before .before .before .before .wide in
-    row-read (now (s .args .plan)) (s .args .x) (s .args .y) (s .args .shift) (s .args .g) (w .result) (w .ensures .0) (eqb-true _ _ e) (c .before .if2 .left) (c .before .before .before .if1 .left)
+    first-tells (now (s .args .plan)) (s .args .x) (s .args .y) (s .args .shift) (s .args .g) (w .result) (w .ensures .0) (c .before .if2 .left) (c .before .before .before .if1 .left)
 
 pub row-of-spec : {M : Type 1} → statement M
 row-of-spec =

@@ -9,6 +9,7 @@ use lib.Dec.{eqb, ltb}
 use lib.ListN.{length, getD}
 use Rattle.laws.specs.Lists.{below}
 use Rattle.laws.specs.Bools.{implies}
+use Rattle.groups.specs.inner.Counts.{linked, equalRows}
 
 -- The bit of a source in a window: 0 and 1 are the constants, i + 2 is place i, which is bit 15 - i % 16 of word i / 16.
 unfoldable pub sourceBit : List ℕ → ℕ → ℕ
@@ -33,10 +34,11 @@ equalTest plan window g =
     (getD plan (4 * g + 263) 0))
     0
 
--- The equal rows of k words: so many, and they say of a window what the links say of its places that are not fixed. What stands before
--- them stays.
+-- The equal rows of k words: they say of a window what the links say of its places that are not fixed, and are one for each two words and
+-- shift. What stands before them stays.
 pub record EqualPut (links : List ℕ) (k : ℕ) (plan plan′ : List ℕ) (count : ℕ) : Type 0 where
   pub few : count ≤ 1023
+  pub rows : count ≡ equalRows (linked links) k
   pub tests : (window : List ℕ) → below count (equalTest plan′ window) ≡ below (16 * k) (λ i. implies (not (fixedPlace links i)) (agreesAt links window i))
   pub others : (i : ℕ) → i < 260 → getD plan′ i 0 ≡ getD plan i 0
 

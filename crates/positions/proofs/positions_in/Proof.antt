@@ -56,7 +56,7 @@ returns-3 c =
     let start = c .before .before .before .before .before .before .before .before .before .before .before .before .before .before .before .before .before in
     let k = c .before .before .before .before .before .before .before .before .before .before .before .window-of .ensures in
     let some = c .before .before .before .before .before .before .before .before .before .before .if1 .left in
-    let tells = c .before .before .before .before .before .before .before .prepare .ensures (start .pre .0) (start .pre .1) (window-there _ _ k some .0) (omega arith) in
+    let tells = c .before .before .before .before .before .before .before .prepare .ensures (start .pre .0) (start .pre .1) (window-there _ _ k some .0) (omega arith) .0 in
     let all = c .before .before .before .find-starts .ensures in
     found-all _ _ _ (is-good _ (start .pre .0)) _ k some _ tells (omega (arith, c .before .before .before .before .before .before .before .before .before .if2 .left)) _ _ _ (all .0 .0) (all .1) (c .complete .ensures)
 

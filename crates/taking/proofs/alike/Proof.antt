@@ -6,21 +6,21 @@ use native.Mathlib.Omega.{arith}
 use lib.ListN.{getD, take, drop}
 use denote.Ref.{now}
 use mathlib.Core.List.{List}
-use Rattle.taking.proofs.Passing.{not-told, alike-more, alike-all}
+use Rattle.taking.proofs.Passing.{Counted, not-alike, none-counted, one-more, alike-told}
 use Rattle.taking.proofs.alike.Statement.{statement}
 use Rattle.taking.proofs.alike.Tie as tie
 
 abbrev Inv-loop : tie.InvT-loop
-Inv-loop links s t x y same₀ i₀ same i = (i ≤ 8) × (same ≤ i) × (same ≡ i → (j : ℕ) → j < i → getD x j 0 ≡ getD y j 0)
+Inv-loop links s t x y same₀ i₀ same i = (i ≤ 8) × Counted x y same i
 
 abbrev μ-loop : tie.MeasureT-loop
 μ-loop links s t x y same₀ i₀ same i = 8 - i
 
 returns : tie.Need-returns Inv-loop μ-loop
-returns c = not-told
+returns c = not-alike _ _ _ λ al. omega (arith, al .left-long, c .if1 .taken)
 
 returns-2 : tie.Need-returns-2 Inv-loop μ-loop
-returns-2 c = not-told
+returns-2 c = not-alike _ _ _ λ al. omega (arith, al .right-long, c .if2 .taken)
 
 wide-requires : tie.Need-wide-requires Inv-loop μ-loop
 wide-requires c κs = search needs
@@ -32,19 +32,19 @@ add-if3 : tie.Need-add-if3 Inv-loop μ-loop
 add-if3 c = search needs
 
 returns-3 : tie.Need-returns-3 Inv-loop μ-loop
-returns-3 c = not-told
+returns-3 c = not-alike _ _ _ λ al. omega (arith, al .left-there, c .if3 .taken, c .before .before .wide .ensures .0)
 
 add-if4 : tie.Need-add-if4 Inv-loop μ-loop
 add-if4 c = search needs
 
 returns-4 : tie.Need-returns-4 Inv-loop μ-loop
-returns-4 c = not-told
+returns-4 c = not-alike _ _ _ λ al. omega (arith, al .right-there, c .if4 .taken, c .before .before .wide2 .ensures .0)
 
 returns-5 : tie.Need-returns-5 Inv-loop μ-loop
-returns-5 c = not-told
+returns-5 c = not-alike _ _ _ λ al. c .if5 .taken (al .left-rises)
 
 returns-6 : tie.Need-returns-6 Inv-loop μ-loop
-returns-6 c = not-told
+returns-6 c = not-alike _ _ _ λ al. c .if6 .taken (al .right-rises)
 
 add-x : tie.Need-add-x Inv-loop μ-loop
 add-x c = search needs
@@ -77,7 +77,7 @@ part-y-end : tie.Need-part-y-end Inv-loop μ-loop
 part-y-end c = search needs
 
 loop-holds : tie.Need-loop-holds Inv-loop μ-loop
-loop-holds c = (omega arith, omega arith, λ e j h. absurd (omega arith))
+loop-holds c = (omega arith, none-counted _ _)
 
 mul-one-if : tie.Need-mul-one-if Inv-loop μ-loop
 mul-one-if c = search needs
@@ -109,13 +109,21 @@ loop-again c =
     let s = c .before .before .before .before .before .before .before .before .before .before .before .before .before .before .wide .result in
     let t = c .before .before .before .before .before .before .before .before .before .before .before .before .before .wide2 .result in
     let part : ℕ → List ℕ = λ from. take (from + 8 - from) (drop from (now (c .before .before .before .before .before .before .before .before .before .before .before .before .before .before .before .before .before .before .before .before .args .links))) in
-    let m = alike-more (part s) (part t) _ _ _ (l .inv .1) (l .inv .2) (c .one-if .ensures .0) in
-    (omega arith, m .0, m .1)
+    (omega arith, one-more (part s) (part t) _ _ _ (l .inv .1) (c .one-if .ensures .0))
 
 returns-7 : tie.Need-returns-7 Inv-loop μ-loop
 returns-7 c =
     let l = c .before .loop in
-    alike-all _ _ _ _ _ _ _ (c .before .before .before .before .before .before .before .before .before .before .before .wide .ensures .0) (c .before .before .before .before .before .before .before .before .before .before .wide2 .ensures .0) (omega (arith, c .before .before .before .before .before .before .before .before .before .before .before .before .before .before .if1 .left)) (omega (arith, c .before .before .before .before .before .before .before .before .before .before .before .before .if2 .left)) (omega (arith, c .before .before .before .before .before .before .if5 .left)) (omega (arith, c .before .before .before .before .if6 .left)) (c .loop-test .left) (l .inv .0) (l .inv .2)
+    alike-told _ _ _ _ _ _ _
+    (c .before .before .before .before .before .before .before .before .before .before .before .wide .ensures .0)
+    (c .before .before .before .before .before .before .before .before .before .before .wide2 .ensures .0)
+    (omega (arith, c .before .before .before .before .before .before .before .before .before .before .before .before .before .before .if1 .left))
+    (omega (arith, c .before .before .before .before .before .before .before .before .before .before .before .before .if2 .left))
+    (omega (arith, c .before .before .before .before .before .before .before .before .before .if3 .left))
+    (omega (arith, c .before .before .before .before .before .before .before .before .if4 .left))
+    (omega (arith, c .before .before .before .before .before .before .if5 .left))
+    (omega (arith, c .before .before .before .before .if6 .left))
+    (c .loop-test .left) (l .inv .0) (l .inv .1)
 
 pub alike-spec : {M : Type 1} → statement M
 alike-spec =

@@ -145,7 +145,7 @@ loop-again : tie.Need-loop-again Inv-loop μ-loop Inv-solve μ-solve
 loop-again c =
     let l = c .before .before .before .before .before .before .before .loop in
     let k = c .before .before .before .before .before .before .loop-test .taken in
-    let al = c .before .before .before .before .alike .ensures (c .before .before .before .if1 .taken) in
+    let al = c .before .before .before .before .alike .ensures .only-alike (c .before .before .before .if1 .taken) in
     let on : SidesRead (rowsOf (now (c .before .before .before .before .before .before .before .before .before .before .before .before .before .before .before .before .before .before .before .before .before .before .before .before .before .before .before .before .before .before .before .args .table))) (c .before .before .before .before .before .before .before .before .before .before .before .before .before .before .before .before .before .before .before .before .before .solve .r) (now (c .before .before .before .before .before .before .before .before .before .before .before .before .before .before .before .before .before .before .before .before .before .before .before .before .before .before .before .before .before .before .before .args .lows)) (c .before .before .before .before .before .before .before .before .before .before .before .before .before .before .before .before .before .put-sides .last .1 .1 .1 .1 .0) (c .before .before .before .before .before .before .before .before .before .before .before .before .before .before .before .before .before .put-sides .last .1 .1 .1 .1 .1 .0) (c .before .before .before .before .before .before .before .before .before .before .before .before .lesser2 .result) → Stands (now (c .before .before .before .before .before .before .before .before .before .before .before .before .before .before .before .before .before .before .before .before .before .before .before .before .before .before .before .before .before .before .before .args .lows)) (c .before .before .before .before .before .before .before .before .before .before .before .before .before .before .before .before .before .put-sides .last .1 .1 .1 .1 .0) (c .lesser3 .result) (c .before .before .skip .result) × Stands (now (c .before .before .before .before .before .before .before .before .before .before .before .before .before .before .before .before .before .before .before .before .before .before .before .before .before .before .before .before .before .before .before .args .lows)) (c .before .before .before .before .before .before .before .before .before .before .before .before .before .before .before .before .before .put-sides .last .1 .1 .1 .1 .1 .0) (c .lesser3 .result) (c .before .skip2 .result) =
     λ s. eight-stand _ _ _ _ _ _ s (l .k) k (l .a) (l .b) (l .inv .3 s .0) (l .inv .3 s .1) (l .links) al _ (c .lesser3 .ensures .0) _ _ (c .before .before .skip .ensures) (c .before .skip2 .ensures) in (
       c .lesser3 .ensures .1,

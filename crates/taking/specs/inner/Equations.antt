@@ -1,5 +1,6 @@
 -- What the inner functions promise of the equations of a table, taken one after the other.
 use mathlib.Core.Path.{_≡_}
+use mathlib.Core.Bool.{Bool, true}
 use mathlib.Core.List.{List}
 use Prim.Native.Nat.{ℕ, zero, suc, _+_, _-_, _≤_, _<_, min}
 use lib.ListN.{length, getD, take, drop}
@@ -27,13 +28,20 @@ pub record EquationsTaken (t : List Row) (c : List ℕ) (from to : ℕ) (es : Li
   pub held : row ≡ to → Holding t links
   pub classes-are : row ≡ to → rootsOf links ≡ runAll c es
 
--- The next eight sources of two readers, each in a part of a variable that goes on so far, link alike: their pairs say nothing.
+-- The next eight sources of two readers, each in a part of a variable that goes on so far, are there and link alike: their pairs say nothing.
 pub record Alike (links : List ℕ) (a b : Reader) : Type 0 where
   pub left-long : 8 ≤ a .left
   pub right-long : 8 ≤ b .left
+  pub left-there : a .source + 8 ≤ length links
+  pub right-there : b .source + 8 ≤ length links
   pub left-rises : a .step ≡ 1
   pub right-rises : b .step ≡ 1
   pub same : (i : ℕ) → i < 8 → getD links (a .source + i) 0 ≡ getD links (b .source + i) 0
+
+-- A test tells whether they do.
+pub record TellsAlike (links : List ℕ) (a b : Reader) (r : Bool) : Type 0 where
+  pub only-alike : r ≡ true → Alike links a b
+  pub all-alike : Alike links a b → r ≡ true
 
 -- What taking the equations of these rows promises, from the classes that the links hold and with room for the forms of two sides.
 abbrev pub TakesEquations : List ℕ → List ℕ → List ℕ → List ℕ → ℕ → ℕ → ℕ → ℕ → List ℕ → List ℕ → ℕ → ℕ → Type 0

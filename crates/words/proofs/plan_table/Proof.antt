@@ -3,7 +3,7 @@ use Prim.Native.Nat.{ℕ}
 use native.Mathlib.Omega.{arith}
 use lib.ListN.{length-replicate}
 use denote.Ref.{now}
-use Rattle.words.proofs.Satisfying.{tells-never, tells-rows}
+use Rattle.words.proofs.Satisfying.{planned-never, planned-rows}
 use borrow.Author.Needs.{needs}
 use Rattle.words.proofs.plan_table.Statement.{statement}
 use Rattle.words.proofs.plan_table.Tie as tie
@@ -33,7 +33,7 @@ returns c =
     λ placed linked k sixteen room.
     let i = c .before .before .before .before in
     let d = i .before .before .before .before in
-    tells-never _ _ _ _ 0 (now (d .before .before .before .before .before .before .before .before .args .plan)) _ (placed .numbered .accepted) (d .table-classes .ensures placed (omega (arith, length-replicate {A = ℕ} 4096 0)) linked) sixteen room (i .if1 .taken) (c .before .before .put-never .ensures)
+    planned-never _ _ _ _ 0 (now (d .before .before .before .before .before .before .before .before .args .plan)) _ (placed .numbered .accepted) (d .table-classes .ensures placed (omega (arith, length-replicate {A = ℕ} 4096 0)) linked) sixteen room (i .if1 .taken) (c .before .before .put-never .ensures)
 
 put-rows-requires : tie.Need-put-rows-requires
 put-rows-requires c κs = search needs
@@ -49,7 +49,7 @@ returns-2 c =
     λ placed linked k sixteen room.
     let i = c .before .before .before .before .before in
     let d = i .before .before .before .before in
-    tells-rows _ _ _ _ _ (now (d .before .before .before .before .before .before .before .before .args .plan)) _ (placed .numbered .accepted) (d .table-classes .ensures placed (omega (arith, length-replicate {A = ℕ} 4096 0)) linked) sixteen room (i .if1 .left) k (c .before .before .put-rows .ensures)
+    planned-rows _ _ _ _ _ (now (d .before .before .before .before .before .before .before .before .args .plan)) _ (placed .numbered .accepted) (d .table-classes .ensures placed (omega (arith, length-replicate {A = ℕ} 4096 0)) linked) sixteen room (i .if1 .left) k (c .before .before .put-rows .ensures)
 
 pub plan-table-spec : {M : Type 1} → statement M
 plan-table-spec =

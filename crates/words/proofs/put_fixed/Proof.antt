@@ -4,6 +4,9 @@ use Prim.Native.Nat.{ℕ, _-_, _≤_}
 use native.Mathlib.Omega.{arith}
 use lib.ListN.{length}
 use denote.Ref.{now}
+use Rattle.laws.proofs.Bools.{one-most}
+use Rattle.groups.specs.inner.Counts.{linked}
+use Rattle.words.specs.inner.Sizes.{hasFixed}
 use Rattle.words.specs.inner.Plan.{FixedPut}
 use Rattle.words.proofs.FixedRows.{rows-none, rows-more}
 use Rattle.words.proofs.put_fixed.Statement.{statement}
@@ -39,7 +42,7 @@ loop-again c =
     let i = d .loop .inv in (
       omega arith,
       (
-        omega (arith, i .1 .0, r .ensures .1),
+        omega (arith, i .1 .0, r .ensures .1, one-most (hasFixed (linked (now (a .links))) (d .loop .v))),
         (
           r .kept .1 .1 .1 .0 ∙ i .1 .1 .0,
           λ h. rows-more (now (a .links)) (now (a .plan)) (d .loop .plan) _ (d .loop .v) (d .loop .n) (r .result) (i .1 .1 .1 h) (r .ensures .0 (omega (arith, i .1 .1 .0))) (r .ensures .1),

@@ -1,7 +1,8 @@
 -- `put_fixed_row` meets its contract: a row behind those that are there, or none. Assumes nothing.
+use mathlib.Core.Path.{_≡_}
 use native.Mathlib.Omega.{arith}
 use denote.Ref.{now}
-use Rattle.words.proofs.FixedRows.{row-none, row-stored}
+use Rattle.words.proofs.FixedRows.{row-none, row-stored, counted-none, counted-one}
 use borrow.Author.Needs.{needs}
 use Rattle.words.proofs.put_fixed_row.Statement.{statement}
 use Rattle.words.proofs.put_fixed_row.Tie as tie
@@ -18,7 +19,10 @@ returns : tie.Need-returns
 returns c =
     let f = c .before in
     let a = f .before .before .before .args in
-    (λ h. row-none (now (a .links)) (a .v) (a .n) (now (a .plan)) (f .fixed-bits .result .mask) (f .fixed-bits .result .value) (f .fixed-bits .ensures) (c .if1 .taken), omega arith)
+    let none : f .fixed-bits .result .mask ≡ 0 = omega arith in (
+      λ h. row-none (now (a .links)) (a .v) (a .n) (now (a .plan)) (f .fixed-bits .result .mask) (f .fixed-bits .result .value) (f .fixed-bits .ensures) none,
+      counted-none (now (a .links)) (a .v) (a .n) (now (a .plan)) (f .fixed-bits .result .mask) (f .fixed-bits .result .value) (f .fixed-bits .ensures) none,
+    )
 
 mul-store-four : tie.Need-mul-store-four
 mul-store-four c = search needs
@@ -46,7 +50,7 @@ returns-2 c =
     let a = f .before .before .before .args in (
       row-stored (now (a .links)) (a .v) (a .n) (now (a .plan)) _ (f .fixed-bits .result .mask) (f .fixed-bits .result .value) (w .narrow .result) (f .fixed-bits .ensures)
           (omega arith) (omega arith) (w .narrow .ensures) (s .store-four .ensures),
-      omega arith,
+      counted-one (now (a .links)) (a .v) (a .n) (now (a .plan)) (f .fixed-bits .result .mask) (f .fixed-bits .result .value) (f .fixed-bits .ensures) (λ e. omega arith),
     )
 
 pub put-fixed-row-spec : {M : Type 1} → statement M

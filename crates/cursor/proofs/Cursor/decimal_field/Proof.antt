@@ -1,8 +1,6 @@
 -- `decimal_field` meets its contract. Assumes nothing.
 use Rattle.sheets.proofs.Fields.{seen-within}
-use Rattle.sheets.proofs.Spelled.{number-decimal}
-use Rattle.sheets.specs.Text.{fieldAt}
-use Rattle.cursor.specs.inner.Found.{numberFound}
+use Rattle.cursor.specs.inner.Found.{numberFound, decimalFieldAt}
 use native.Mathlib.Omega.{arith}
 use mathlib.Core.Path.{sym, _∙_, ap}
 use borrow.Author.Needs.{needs}
@@ -19,20 +17,22 @@ enum-told : tie.Need-enum-told
 enum-told c = search needs
 
 returns : tie.Need-returns
-returns c = search needs
+unfolding decimalFieldAt
+returns c = rw (sym (c .before .before .decimal .ensures) ∙ ap numberFound (c .enum-told .given .1))
 
 sees-byte-requires : tie.Need-sees-byte-requires
 sees-byte-requires c κs = search needs
 
-add-t9 : tie.Need-add-t9
-add-t9 c = omega (arith, seen-within _ _ _ (sym (c .before .sees-byte .ensures) ∙ c .if1 .taken))
+add-past : tie.Need-add-past
+add-past c = omega (arith, seen-within _ _ _ (sym (c .before .sees-byte .ensures) ∙ c .if1 .taken))
 
 returns-2 : tie.Need-returns-2
-unfolding fieldAt
-returns-2 c = rw (number-decimal _ _ _ _ (sym (c .before .before .before .before .before .decimal .ensures) ∙ ap numberFound (c .before .before .before .v .given .1)), sym (c .before .sees-byte .ensures) ∙ c .if1 .taken)
+unfolding decimalFieldAt
+returns-2 c = rw (sym (c .before .before .before .before .before .decimal .ensures) ∙ ap numberFound (c .before .before .before .v .given .1), sym (c .before .sees-byte .ensures) ∙ c .if1 .taken)
 
 returns-3 : tie.Need-returns-3
-returns-3 c = search needs
+unfolding decimalFieldAt
+returns-3 c = rw (sym (c .before .before .before .before .before .decimal .ensures) ∙ ap numberFound (c .before .before .before .v .given .1), sym (c .before .sees-byte .ensures) ∙ c .if1 .left)
 
 pub decimal-field-spec : {M : Type 1} → statement M
 decimal-field-spec =
@@ -43,6 +43,6 @@ decimal-field-spec =
     enum-told
     returns
     sees-byte-requires
-    add-t9
+    add-past
     returns-2
     returns-3)

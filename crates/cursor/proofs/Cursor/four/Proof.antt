@@ -1,22 +1,11 @@
--- `four` meets its contract. Assumes nothing.
-use mathlib.Core.Path.{_≡_, sym}
-use mathlib.Core.List.{List}
-use Prim.Native.Nat.{ℕ}
-use Rattle.sheets.specs.declared.Order.{Order}
-use Rattle.sheets.specs.Text.{lineAt}
-use Rattle.cursor.specs.inner.Found.{fourFound, FourFound}
-use Rattle.cursor.specs.declared.Cursor.{Cursor}
-use Rattle.cursor.specs.declared.Four.{Four}
-use Rattle.cursor.specs.declared.Four.the-variants.{Found}
+-- `four` meets its contract: a line found in decimal is the line. Assumes nothing.
+use mathlib.Core.Path.{sym, _∙_, ap}
+use Rattle.cursor.specs.inner.Found.{fourFound}
+use Rattle.cursor.proofs.Decimals.{decimal-line}
 use denote.Ref.{now}
 use borrow.Author.Needs.{needs}
 use Rattle.cursor.proofs.Cursor.four.Statement.{statement}
 use Rattle.cursor.proofs.Cursor.four.Tie as tie
-
--- four values that were found are those of the line there
-found-there : (bytes : List ℕ) (at : ℕ) {x : Four} {v₁ v₂ v₃ v₄ : ℕ} {to : Cursor} → x ≡ Found v₁ v₂ v₃ v₄ to → FourFound x bytes at
-    → (order : Order) → lineAt bytes order at ≡ fourFound order (Found v₁ v₂ v₃ v₄ to)
-found-there bytes at e f = rw e at f
 
 decimal-four-requires : tie.Need-decimal-four-requires
 decimal-four-requires c κs = search needs
@@ -36,7 +25,8 @@ returns c = search needs
 returns-2 : tie.Need-returns-2
 returns-2 c order =
     let a = c .before .before .before .before .before .args in
-    sym (found-there (now (a .text)) (a .self .at) (c .before .v1 .given .1) (c .before .before .before .decimal-four .ensures) order)
+    let found = ap (fourFound order) (sym (c .before .v1 .given .1)) ∙ c .before .before .before .decimal-four .ensures order in
+    sym (decimal-line (now (a .text)) order (a .self .at) _ _ (sym found))
 
 pub four-spec : {M : Type 1} → statement M
 four-spec =

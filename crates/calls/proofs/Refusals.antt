@@ -1,0 +1,112 @@
+-- Refusals of every call (document 01, "Where a call stops"): a refusal's record has no number but its own and a row, and what is lent stays
+-- as it was; a refused table is refused by each call that takes one. Assumes nothing.
+use mathlib.Core.Path.{_≡_, refl, sym, ap, ap₂, subst}
+use mathlib.Core.Bool.{Bool, true, false}
+use mathlib.Core.List.{List, [], _∷_}
+use Prim.Native.Nat.{ℕ, _≤_}
+use native.Mathlib.Omega.{arith}
+use lib.ListN.{length}
+use borrow.Author.Tests.{ne-eqb, le-ltb}
+use Rattle.terms.specs.declared.Record.{Record}
+use Rattle.terms.specs.Table.{rowNumbers}
+use Rattle.terms.specs.Faults.{firstFault, isAccepted}
+use Rattle.terms.specs.Calls.{refusal, faultRecord, stopAt}
+use Rattle.terms.specs.Value.{valueRecord, valueAfter}
+use Rattle.terms.proofs.AcceptedTable.{fault-high}
+use Rattle.forms.specs.Call.{formRecord, formAfter}
+use Rattle.sheets.specs.Call.{sheetRecord, tableAfter}
+use Rattle.answers.specs.Solve.{solveRecord, answerAfter, workAfter}
+use Rattle.assignments.specs.Call.{patternRecord, patternAfter}
+use Rattle.windows.specs.Call.{positionsRecord, positionsAfter}
+use Rattle.calls.specs.Calls.{Call, lw-value, lw-normal-form, lw-read-sheet, lw-solve, lw-make-pattern, lw-marker-positions, lw-value-rows, lw-normal-form-rows, lw-solve-rows, program, recordOf, lentTo, leftBy, RefusedWith, Takes, RefusedByEach}
+use Rattle.calls.proofs.Outcomes.{of-every-record}
+
+-- ---- what is lent stays as it was
+value-left : (table : List ℕ) (row : ℕ) (pattern value : List ℕ) → 3 ≤ valueRecord table row pattern (length value) .outcome
+    → valueAfter table row pattern value ≡ value
+unfolding valueAfter
+value-left table row pattern value l = rw (ne-eqb (valueRecord table row pattern (length value) .outcome) 0 (omega arith)) refl
+
+form-left : (table : List ℕ) (row : ℕ) (form : List ℕ) → 3 ≤ formRecord table row (length form) .outcome → formAfter table row form ≡ form
+unfolding formAfter
+form-left table row form l = rw (ne-eqb (formRecord table row (length form) .outcome) 0 (omega arith)) refl
+
+table-left : (sheet table : List ℕ) → 3 ≤ sheetRecord sheet (length table) .outcome → tableAfter sheet table ≡ table
+unfolding tableAfter
+table-left sheet table l = rw (ne-eqb (sheetRecord sheet (length table) .outcome) 0 (omega arith)) refl
+
+answer-left : (table answer : List ℕ) (room : ℕ) → 3 ≤ solveRecord table (length answer) room .outcome → answerAfter table answer room ≡ answer
+unfolding answerAfter
+answer-left table answer room l = rw (ne-eqb (solveRecord table (length answer) room .outcome) 2 (omega arith)) refl
+
+work-left : (table : List ℕ) (room : ℕ) (work : List ℕ) → 3 ≤ solveRecord table room (length work) .outcome → workAfter table room work ≡ work
+unfolding workAfter
+work-left table room work l = rw (le-ltb (solveRecord table room (length work) .outcome) 3 l) refl
+
+pattern-left : (answer fresh pattern : List ℕ) → 3 ≤ patternRecord answer fresh (length pattern) .outcome → patternAfter answer fresh pattern ≡ pattern
+unfolding patternAfter
+pattern-left answer fresh pattern l = rw (ne-eqb (patternRecord answer fresh (length pattern) .outcome) 0 (omega arith)) refl
+
+list-left : (table words list : List ℕ) → 3 ≤ positionsRecord table words .outcome → positionsAfter table words list ≡ list
+unfolding positionsAfter
+list-left table words list l = rw (ne-eqb (positionsRecord table words .outcome) 0 (omega arith)) refl
+
+one : {x y : List ℕ} → x ≡ y → x ∷ [] ≡ y ∷ []
+one e = ap (λ (z : List ℕ). z ∷ []) e
+
+two : {x y x′ y′ : List ℕ} → x ≡ y → x′ ≡ y′ → x ∷ x′ ∷ [] ≡ y ∷ y′ ∷ []
+two e e′ = ap₂ (λ (z z′ : List ℕ). z ∷ z′ ∷ []) e e′
+
+left-by : (c : Call) → 3 ≤ recordOf c .outcome → leftBy c ≡ lentTo c
+left-by (lw-value table row pattern value) l = one (value-left table row pattern value l)
+left-by (lw-normal-form table row form) l = one (form-left table row form l)
+left-by (lw-read-sheet sheet table) l = one (table-left sheet table l)
+left-by (lw-solve table answer work) l = two (answer-left table answer (length work) l) (work-left table (length answer) work l)
+left-by (lw-make-pattern answer fresh pattern) l = one (pattern-left answer fresh pattern l)
+left-by (lw-marker-positions table words list) l = one (list-left table words list l)
+left-by (lw-value-rows rows row pattern value) l = one (value-left (rowNumbers rows) row pattern value l)
+left-by (lw-normal-form-rows rows row form) l = one (form-left (rowNumbers rows) row form l)
+left-by (lw-solve-rows rows answer work) l = two (answer-left (rowNumbers rows) answer (length work) l) (work-left (rowNumbers rows) (length answer) work l)
+left-by (program text) l = refl
+
+-- Every call: an outcome above 2 is that of a refusal.
+pub refusals : (c : Call) → 3 ≤ recordOf c .outcome → RefusedWith (recordOf c) c
+refusals c l =
+    let told = of-every-record (λ r. 3 ≤ r .outcome → (10 ≤ r .outcome) × (r ≡ refusal (r .outcome) (r .row))) (λ r m n. absurd (omega arith)) (λ n row m h k. (m, refl)) c l in
+    record { record-is = refl; high = told .0; alone = told .1; left = left-by c l }
+
+-- ---- a refused table
+module _ (t : List ℕ) (h : isAccepted (firstFault t) ≡ false) where
+  by-value : (row : ℕ) (pattern : List ℕ) (room : ℕ) → valueRecord t row pattern room ≡ faultRecord (firstFault t)
+  unfolding valueRecord stopAt
+  by-value row pattern room = rw h refl
+
+  by-form : (row room : ℕ) → formRecord t row room ≡ faultRecord (firstFault t)
+  unfolding formRecord stopAt
+  by-form row room = rw h refl
+
+  by-solve : (answer work : List ℕ) → 24576 ≤ length answer → 16384 ≤ length work → solveRecord t (length answer) (length work) ≡ faultRecord (firstFault t)
+  unfolding solveRecord stopAt
+  by-solve answer work room memory = rw (le-ltb (length answer) 24576 room, le-ltb (length work) 16384 memory, h) refl
+
+  by-positions : (words : List ℕ) → positionsRecord t words ≡ faultRecord (firstFault t)
+  unfolding positionsRecord stopAt
+  by-positions words = rw h refl
+
+  by-each : (c : Call) → Takes t c → recordOf c ≡ faultRecord (firstFault t)
+  by-each (lw-value table row pattern value) e = rw e (by-value row pattern (length value))
+  by-each (lw-normal-form table row form) e = rw e (by-form row (length form))
+  by-each (lw-read-sheet sheet table) e = absurd e
+  by-each (lw-solve table answer work) e = rw (e .0) (by-solve answer work (e .1) (e .2))
+  by-each (lw-make-pattern answer fresh pattern) e = absurd e
+  by-each (lw-marker-positions table words list) e = rw e (by-positions words)
+  by-each (lw-value-rows rows row pattern value) e = rw e (by-value row pattern (length value))
+  by-each (lw-normal-form-rows rows row form) e = rw e (by-form row (length form))
+  by-each (lw-solve-rows rows answer work) e = rw (e .0) (by-solve answer work (e .1) (e .2))
+  by-each (program text) e = absurd e
+
+  -- Each call that takes the table is refused with the record of its first fault.
+  pub refused-by-each : RefusedByEach t (faultRecord (firstFault t))
+  refused-by-each c e =
+      subst (λ (found : Record). RefusedWith found c) (by-each c e)
+      (refusals c (omega (arith, ap (λ (r : Record). r .outcome) (by-each c e), fault-high (firstFault t) h)))
