@@ -10,8 +10,10 @@ ghost use Rattle.answers.specs.Solve.{solveRecord, answerAfter, workAfter};
 ghost use Rattle.answers.specs.RightSide.{rightSideStart, rightSideLength};
 ghost use Rattle.assignments.specs.Call.{patternRecord, patternAfter};
 ghost use Rattle.windows.specs.Call.{positionsRecord, positionsAfter};
+ghost use Rattle.jobs.specs.Call.{openRecord, openJob, openWork, stepRecord, stepJob, stepWork, jobAnswerRecord, jobAnswerAfter};
 ghost use Rattle.result_sheets.specs.Page.{pageText};
 use answers::Part;
+use jobs::Job;
 use result_sheets::Page;
 use terms::Record;
 use terms::Row;
@@ -129,4 +131,49 @@ pub extern "C" fn lw_solve_rows(rows: &[Row], answer: &mut [u16], work: &mut [u1
     let mut flat = [0u16; rows::AREA];
     let used = rows::flatten(rows, &mut flat[..]);
     solver::solve(&flat[..used], answer, work)
+}
+
+// A job kept open: its two numbers are lent as a struct. These functions take the struct apart, make the call on numbers, and store the
+// two back; they are proved by a walk of their code, by hand.
+
+// Opens a job on a table.
+#[no_mangle]
+pub extern "C" fn lw_job_open(table: &[u16], job: &mut Job, work: &mut [u16]) -> Record
+    ensures record { λ r. ⌜ r ≡ openRecord (now (table .entry)) (length (now (work .entry))) ⌝ }
+    ensures next { λ _. ⌜ now (job .exit) .next ≡ openJob (now (table .entry)) (now (job .entry) .next) (now (job .entry) .ties) (length (now (work .entry))) .next ⌝ }
+    ensures ties { λ _. ⌜ now (job .exit) .ties ≡ openJob (now (table .entry)) (now (job .entry) .next) (now (job .entry) .ties) (length (now (work .entry))) .ties ⌝ }
+    ensures work { λ _. ⌜ now (work .exit) ≡ openWork (now (table .entry)) (now (work .entry)) ⌝ }
+{
+    let s = stepper::open_at(table, job.next, job.ties, work);
+    job.next = s.next;
+    job.ties = s.ties;
+    s.found
+}
+
+// Takes the next equation of a job.
+#[no_mangle]
+pub extern "C" fn lw_job_step(table: &[u16], job: &mut Job, work: &mut [u16]) -> Record
+    ensures record { λ r. ⌜ r ≡ stepRecord (now (table .entry)) (now (job .entry) .next) (now (job .entry) .ties) (now (work .entry)) ⌝ }
+    ensures next { λ _. ⌜ now (job .exit) .next ≡ stepJob (now (table .entry)) (now (job .entry) .next) (now (job .entry) .ties) (now (work .entry)) .next ⌝ }
+    ensures ties { λ _. ⌜ now (job .exit) .ties ≡ stepJob (now (table .entry)) (now (job .entry) .next) (now (job .entry) .ties) (now (work .entry)) .ties ⌝ }
+    ensures work { λ _. ⌜ now (work .exit) ≡ stepWork (now (table .entry)) (now (job .entry) .next) (now (job .entry) .ties) (now (work .entry)) ⌝ }
+{
+    let s = stepper::step_at(table, job.next, job.ties, work);
+    job.next = s.next;
+    job.ties = s.ties;
+    s.found
+}
+
+// The answer so far of a job.
+#[no_mangle]
+pub extern "C" fn lw_job_answer(
+    table: &[u16],
+    job: &Job,
+    work: &[u16],
+    answer: &mut [u16],
+) -> Record
+    ensures record { λ r. ⌜ r ≡ jobAnswerRecord (now (table .entry)) (now (job .entry) .next) (now (job .entry) .ties) (now (work .entry)) (length (now (answer .entry))) ⌝ }
+    ensures answer { λ _. ⌜ now (answer .exit) ≡ jobAnswerAfter (now (table .entry)) (now (job .entry) .next) (now (job .entry) .ties) (now (work .entry)) (now (answer .entry)) ⌝ }
+{
+    stepper::answer_at(table, job.next, job.ties, work, answer)
 }
