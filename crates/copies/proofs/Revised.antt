@@ -40,22 +40,22 @@ module _ (line : ℕ) (row : Row) where
   unfolding ofLine
   equation-line k = rw (eq-eqb (row .kind) 4 k) refl
 
-module _ (line : ℕ) (table : List ℕ) (r : ℕ) where
+-- the search for a row that passes a test: what is left to look through, from row r on
+module _ (f : Row → Bool) (table : List ℕ) (r : ℕ) where
   here : r < length table / 4 → drop r (rowsOf table) ≡ rowAt (rowsOf table) r ∷ drop (suc r) (rowsOf table)
   here l = drop-row (rowsOf table) r (omega (arith, l, rows-length table))
 
-  pub line-here : r < length table / 4 → true ≡ ofLine line (rowAt (rowsOf table) r) → true ≡ someRow (ofLine line) (drop r (rowsOf table))
+  pub some-here : r < length table / 4 → true ≡ f (rowAt (rowsOf table) r) → true ≡ someRow f (drop r (rowsOf table))
   unfolding someRow
-  line-here l h = rw (here l, sym h) refl
+  some-here l h = rw (here l, sym h) refl
 
-  pub line-passed : r < length table / 4 → false ≡ ofLine line (rowAt (rowsOf table) r)
-      → someRow (ofLine line) (drop (r + 1) (rowsOf table)) ≡ someRow (ofLine line) (drop r (rowsOf table))
+  pub some-passed : r < length table / 4 → false ≡ f (rowAt (rowsOf table) r) → someRow f (drop (r + 1) (rowsOf table)) ≡ someRow f (drop r (rowsOf table))
   unfolding someRow
-  line-passed l h = rw (add-one r, here l, sym h) refl
+  some-passed l h = rw (add-one r, here l, sym h) refl
 
-  pub line-end : length table / 4 ≤ r → false ≡ someRow (ofLine line) (drop r (rowsOf table))
+  pub some-end : length table / 4 ≤ r → false ≡ someRow f (drop r (rowsOf table))
   unfolding someRow
-  line-end l = rw (drop-past (rowsOf table) r (omega (arith, l, rows-length table))) refl
+  some-end l = rw (drop-past (rowsOf table) r (omega (arith, l, rows-length table))) refl
 
 -- an equation stands in the table
 equation-inside : (t : List Row) (r : ℕ) → rowAt t r .kind ≡ 4 → r < length t

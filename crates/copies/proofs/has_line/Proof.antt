@@ -4,7 +4,7 @@ use Prim.Native.Nat.{_-_}
 use native.Mathlib.Omega.{arith}
 use lib.ListN.{drop}
 use Rattle.terms.specs.Table.{rowsOf, someRow, ofLine}
-use Rattle.copies.proofs.Revised.{line-here, line-passed, line-end}
+use Rattle.copies.proofs.Revised.{some-here, some-passed, some-end}
 use Rattle.copies.proofs.has_line.Statement.{statement}
 use Rattle.copies.proofs.has_line.Tie as tie
 
@@ -25,7 +25,7 @@ of-line-requires c κs = tt
 
 returns : tie.Need-returns Inv-loop μ-loop
 returns c =
-    line-here _ _ _ (c .before .before .before .loop-test .taken)
+    some-here (ofLine _) _ _ (c .before .before .before .loop-test .taken)
     (sym (c .if1 .taken) ∙ c .before .of-line .ensures ∙ ap (ofLine _) (c .before .before .row-at .ensures))
     ∙ c .before .before .before .before .loop .inv
 
@@ -37,12 +37,12 @@ loop-less c = omega (arith, c .before .before .before .loop-test .taken)
 
 loop-again : tie.Need-loop-again Inv-loop μ-loop
 loop-again c =
-    line-passed _ _ _ (c .before .before .before .loop-test .taken)
+    some-passed (ofLine _) _ _ (c .before .before .before .loop-test .taken)
     (sym (c .if1 .left) ∙ c .before .of-line .ensures ∙ ap (ofLine _) (c .before .before .row-at .ensures))
     ∙ c .before .before .before .before .loop .inv
 
 returns-2 : tie.Need-returns-2 Inv-loop μ-loop
-returns-2 c = line-end _ _ _ (c .loop-test .left) ∙ c .before .loop .inv
+returns-2 c = some-end (ofLine _) _ _ (c .loop-test .left) ∙ c .before .loop .inv
 
 pub has-line-spec : {M : Type 1} → statement M
 has-line-spec =

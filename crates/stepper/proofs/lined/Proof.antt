@@ -5,7 +5,7 @@ use native.Mathlib.Omega.{arith}
 use lib.ListN.{drop}
 use Rattle.terms.specs.Table.{rowsOf, someRow}
 use Rattle.jobs.specs.Call.{hasLine, breaks43}
-use Rattle.stepper.proofs.LineNumbers.{line-here, line-passed, line-end}
+use Rattle.copies.proofs.Revised.{some-here, some-passed, some-end}
 use Rattle.stepper.proofs.lined.Statement.{statement}
 use Rattle.stepper.proofs.lined.Tie as tie
 
@@ -27,7 +27,7 @@ has-line-requires c κs = tt
 
 returns : tie.Need-returns Inv-loop μ-loop
 returns c =
-    line-here _ _ (c .before .before .before .loop-test .taken)
+    some-here hasLine _ _ (c .before .before .before .loop-test .taken)
     (sym (c .if1 .taken) ∙ c .before .has-line .ensures ∙ ap hasLine (c .before .before .row-at .ensures))
     ∙ c .before .before .before .before .loop .inv
 
@@ -39,12 +39,12 @@ loop-less c = omega (arith, c .before .before .before .loop-test .taken)
 
 loop-again : tie.Need-loop-again Inv-loop μ-loop
 loop-again c =
-    line-passed _ _ (c .before .before .before .loop-test .taken)
+    some-passed hasLine _ _ (c .before .before .before .loop-test .taken)
     (sym (c .if1 .left) ∙ c .before .has-line .ensures ∙ ap hasLine (c .before .before .row-at .ensures))
     ∙ c .before .before .before .before .loop .inv
 
 returns-2 : tie.Need-returns-2 Inv-loop μ-loop
-returns-2 c = line-end _ _ (c .loop-test .left) ∙ c .before .loop .inv
+returns-2 c = some-end hasLine _ _ (c .loop-test .left) ∙ c .before .loop .inv
 
 pub lined-spec : {M : Type 1} → statement M
 lined-spec =
