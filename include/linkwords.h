@@ -354,7 +354,7 @@
   Each pointer is to as many elements as its length says, aligned for their
   type. The buffers of one call must not overlap. A pointer may be NULL where
   its length is 0. Nothing else is asked of the arguments: a call refuses what
-  it cannot work on. A job is the one argument without a length: it points to one
+  it cannot work on. A job is the one pointer without a length: it is to one
   lw_job, is never NULL, and overlaps no buffer.
 
   No state is kept from one call to the next, and no memory is allocated. All
