@@ -878,17 +878,9 @@ static void test_large(void)
 static void test_limits(void)
 {
     static course c;
-    table t = {.len = 0};
+    table t;
 
-    add(&t, FILL(0, 1));
-    add(&t, FILL(1, 1));
-    add(&t, JOIN(0, 1));
-    for (size_t i = 2; i < 11; i++)
-        add(&t, JOIN(i, i));
-    for (size_t v = 0; v < 4; v++)
-        add(&t, VARIABLE(1024));
-    for (size_t v = 0; v < 4; v++)
-        add(&t, EQUATION(12 + v, 11));
+    make_fixed_bits(&t);
     add(&t, CUT(15, 0, 0));
     add(&t, EQUATION(0, 20));
     check(find_states(&c, ALL(t)) && c.count == 6, HERE, "%zu states", c.count);
