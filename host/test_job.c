@@ -141,8 +141,8 @@ static void poke(size_t k, size_t at, uint16_t number)
 static void put_rubbish(guarded *g, size_t count)
 {
     static uint16_t rubbish[2 * ANSWER_LEAST];
-    for (size_t i = 0; rubbish[0] == 0 && i < COUNT(rubbish); i++)
-        rubbish[i] = (uint16_t)(random_number() | 1);
+    for (size_t i = COUNT(rubbish); rubbish[0] == 0 && i != 0; i--)
+        rubbish[i - 1] = (uint16_t)(random_number() | 1);
     guard_put(g, rubbish + below(ANSWER_LEAST), count * sizeof *rubbish);
 }
 
