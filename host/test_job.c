@@ -59,7 +59,8 @@ static size_t equation_from(const course *c, size_t row)
 /* All states of the table's job; false if it is refused. */
 static bool find_states(course *c, const uint16_t *numbers, size_t len)
 {
-    memcpy(c->t.numbers, numbers, len * sizeof *numbers);
+    if (len != 0)
+        memcpy(c->t.numbers, numbers, len * sizeof *numbers);
     c->t.len = len;
     c->count = 0;
     if (ref_check(ALL(c->t), &c->facts).outcome != 0)
@@ -557,25 +558,28 @@ static void test_null(void)
 
 /* Damaged jobs. */
 
-/* The row of some equation; the number of rows if there is none. */
-static size_t some_equation(const course *c)
+static void try_next(const course *c, const state *s, size_t k, uint32_t next)
 {
-    size_t r = equation_from(c, below(c->facts.rows + 1));
-    return r < c->facts.rows ? r : equation_from(c, 0);
+    if (next == s->job.next)
+        return;
+    put_job(next, s->job.ties);
+    try_job(HERE, "another next row", c, k);
 }
 
+/* Each other row and the next two numbers, of a long table a few; numbers that are no row; and other ties. */
 static void damage_numbers(const course *c, const state *s, size_t k)
 {
     uint32_t next = s->job.next, ties = s->job.ties, rows = (uint32_t)c->facts.rows, any = (uint32_t)random_number();
-    const uint32_t others[] = {(uint32_t)below(rows + 1), (uint32_t)some_equation(c), next + 1, next - 1, rows, rows + 1,
-                               NEVER, one_in(2) ? NEVER - 1 : NEVER + 1, next + 65536, next + 0x80000000, any, UINT32_MAX};
+    const uint32_t others[] = {next + 1, next - 1, rows, NEVER, one_in(2) ? NEVER - 1 : NEVER + 1, next + 65536,
+                               next + 0x80000000, any, UINT32_MAX};
     const uint32_t other_ties[] = {ties + 1, ties - 1, 0, ties + 65536, ties + 0x80000000, any, UINT32_MAX};
 
+    for (uint32_t r = 0; r <= rows + 1; r++)
+        if (rows <= 32 || one_in(rows / 8))
+            try_next(c, s, k, r);
     for (size_t i = 0; i < COUNT(others); i++)
-        if (others[i] != next) {
-            put_job(others[i], ties);
-            try_job(HERE, "another next row", c, k);
-        }
+        if (others[i] > rows + 1 || rows > 32)
+            try_next(c, s, k, others[i]);
     for (size_t i = 0; i < COUNT(other_ties); i++)
         if (other_ties[i] != ties) {
             put_job(next, other_ties[i]);
@@ -664,19 +668,18 @@ static void damage_groups(const course *c, const state *s, size_t k)
     put_state(c, s, k);
 }
 
-/* This state's area with another's job, next row or ties. */
+/* This state's area with another's job, or with its ties; and the other's next row is among those above. */
 static void damage_states(const course *c, const state *s, size_t k)
 {
-    const lw_job other = c->states[below(c->count)].job;
-
-    if (other.next == s->job.next)
-        return;
-    put_job(other.next, other.ties);
-    try_job(HERE, "another state's job", c, k);
-    put_job(s->job.next, other.ties);
-    try_job(HERE, "another state's ties", c, k);
-    put_job(other.next, s->job.ties);
-    try_job(HERE, "another state's next row", c, k);
+    for (size_t i = 0; i < c->count; i++) {
+        const lw_job other = c->states[i].job;
+        if (other.ties == s->job.ties || (c->count > 16 && !one_in(8)))
+            continue;
+        put_job(other.next, other.ties);
+        try_job(HERE, "another state's job", c, k);
+        put_job(s->job.next, other.ties);
+        try_job(HERE, "another state's ties", c, k);
+    }
     put_job(s->job.next, s->job.ties);
 }
 
