@@ -252,12 +252,10 @@ static bool print_all_steps(void)
 
 int main(int argc, char **argv)
 {
-    size_t rounds = argc > 1 ? strtoul(argv[1], NULL, 10) : 301;
+    size_t rounds = rounds_asked(argc, argv);
 
-    if (rounds < 1 || rounds > MAX_ROUNDS) {
-        fprintf(stderr, "rounds are 1 to %d\n", MAX_ROUNDS);
+    if (rounds == 0)
         return 2;
-    }
     for (size_t k = 0; k < SUBJECTS; k++)
         if (!prepare_job(&subjects[k]))
             return 2;

@@ -241,7 +241,7 @@ static void run_job(where at, const course *c, size_t k)
 
     make_buffers();
     put_rubbish(&lent_work[k], lengths[k]);
-    put_job((uint32_t)random_number(), (uint32_t)random_number());
+    put_job((uint32_t)(one_in(2) ? random_number() : below(c->facts.rows + 2)), (uint32_t)random_number());
     call(at, "opened", OPEN, c, k, s->record, s);
     for (;; s++) {
         put_rubbish(&lent_answer, ANSWER_LEAST);

@@ -268,14 +268,14 @@
   The work area tells what holds each variable bit. These are counted as in a
   pattern, variable 0 first, its high bit being place 0, over all variables of
   the table, also those behind the next row. A bit that the equations taken have
-  fixed is held by the fixed bit: the number at its place is LW_HELD_FIXED (4096)
-  plus 0 or 1. All other bits that they tie to each other are held by the lowest
-  place among them, and its number stands at each of them; a bit that is tied to
-  nothing is held by itself. Behind the last variable bit each number of the work
-  area is 0, up to its length.
+  fixed is held by the fixed bit: the number at its place is LW_HELD_FIXED
+  (4096) plus 0 or 1. All other bits that they tie to each other are held by the
+  lowest place among them, and its number stands at each of them; a bit that is
+  tied to nothing is held by itself. Behind the last variable bit each number of
+  the work area is 0, up to its length.
 
   If an equation leaves no pattern, the next row becomes LW_JOB_NEVER (1000),
-  which is no row, and nothing else changes: the ties and the work area stay what
+  which is no row, and nothing else changes: the ties and the work area stay as
   they were before it, also where the first bit pairs of that equation would be
   ties. From then on nothing changes any more.
 
@@ -355,7 +355,7 @@
   type. The buffers of one call must not overlap. A pointer may be NULL where
   its length is 0. Nothing else is asked of the arguments: a call refuses what
   it cannot work on. A job is the one pointer without a length: it is to one
-  lw_job, is never NULL, and overlaps no buffer.
+  lw_job, is not NULL, and overlaps no buffer.
 
   No state is kept from one call to the next, and no memory is allocated. All
   calls are reentrant, and threads may call at the same time as long as no
