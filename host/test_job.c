@@ -107,12 +107,13 @@ static lw_record make_call(call_kind which, const uint16_t *numbers, size_t len,
 }
 
 /* The buffers that are lent, used again from call to call: a work area of each length. */
-static guarded lent_job, lent_work[AREAS], lent_answer;
+static guarded lent_table, lent_job, lent_work[AREAS], lent_answer;
 
 static void make_buffers(void)
 {
     if (lent_job.block != NULL)
         return;
+    lent_table = guard(NULL, LW_TABLE_NUMBERS * sizeof(uint16_t));
     lent_job = guard(NULL, sizeof(lw_job));
     lent_answer = guard(NULL, ANSWER_LEAST * sizeof(uint16_t));
     for (size_t k = 0; k < AREAS; k++)
@@ -121,6 +122,7 @@ static void make_buffers(void)
 
 static void put_job(uint32_t next, uint32_t ties)
 {
+    make_buffers();
     guard_put(&lent_job, &(lw_job){next, ties}, sizeof(lw_job));
 }
 
@@ -156,21 +158,25 @@ static void call(where at, const char *name, call_kind which, const course *c, s
                  const state *leaves)
 {
     unsigned long failed = checks_failed;
+    const uint16_t *numbers = guarded_buffer(&lent_table);
+    guarded *work = &lent_work[k];
     lw_job before;
 
+    guard_put(&lent_table, c->t.numbers, c->t.len * sizeof *numbers);
     memcpy(&before, guarded_buffer(&lent_job), sizeof before);
     if (which == BOTH)
-        check_record(at, "step", make_call(STEP, ALL(c->t), &lent_job, &lent_work[k], lengths[k], NULL, 0), want);
-    lw_record got = make_call(which, ALL(c->t), &lent_job, &lent_work[k], lengths[k], &lent_answer, ANSWER_LEAST);
+        check_record(at, "step", make_call(STEP, numbers, c->t.len, &lent_job, work, lengths[k], NULL, 0), want);
+    lw_record got = make_call(which, numbers, c->t.len, &lent_job, work, lengths[k], &lent_answer, ANSWER_LEAST);
     if (leaves != NULL && which != ANSWER) {
         guard_expect(&lent_job, &leaves->job, sizeof leaves->job);
-        guard_expect(&lent_work[k], area_of(c, leaves), lengths[k] * sizeof(uint16_t));
+        guard_expect(work, area_of(c, leaves), lengths[k] * sizeof(uint16_t));
     } else if (leaves != NULL && want.outcome == 2) {
         guard_expect(&lent_answer, leaves->answer, 6 * want.pieces * sizeof(uint16_t));
     }
     check_record(at, call_names[which], got, want);
+    guard_compare(&lent_table, at, "table");
     guard_compare(&lent_job, at, "job");
-    guard_compare(&lent_work[k], at, "work area");
+    guard_compare(work, at, "work area");
     if (which >= ANSWER)
         guard_compare(&lent_answer, at, "answer");
     if (checks_failed != failed && failed == 0) {
@@ -239,9 +245,8 @@ static void run_job(where at, const course *c, size_t k)
 {
     const state *s = c->states, *last = s + c->count - 1;
 
-    make_buffers();
-    put_rubbish(&lent_work[k], lengths[k]);
     put_job((uint32_t)(one_in(2) ? random_number() : below(c->facts.rows + 2)), (uint32_t)random_number());
+    put_rubbish(&lent_work[k], lengths[k]);
     call(at, "opened", OPEN, c, k, s->record, s);
     for (;; s++) {
         put_rubbish(&lent_answer, ANSWER_LEAST);
