@@ -477,6 +477,13 @@ static void test_table_refusals(void)
     refuse_table(HERE, TABLE(VARIABLE(1), LINE(0, 0, 5), CUT(0, 1, 0)), 16, 2);
 }
 
+static void no_lines(table *t)
+{
+    for (size_t i = 0; i < t->len; i += 4)
+        if (t->numbers[i] == LW_EQUATION)
+            t->numbers[i + 3] = 0;
+}
+
 /* 43 before 44 and 45: a job that is none, one at its end, and one that would be good without line numbers. */
 static void refuse_revised(where at, const uint16_t *numbers, size_t len)
 {
@@ -485,9 +492,7 @@ static void refuse_revised(where at, const uint16_t *numbers, size_t len)
 
     refuse_calls(at, numbers, len, (lw_job){7, 4000000000}, NULL, want);
     memcpy(t.numbers, numbers, len * sizeof *numbers);
-    for (size_t i = 0; i < len; i += 4)
-        if (t.numbers[i] == LW_EQUATION)
-            t.numbers[i + 3] = 0;
+    no_lines(&t);
     if (!check(find_states(&worked, ALL(t)), at, "refused"))
         return;
     for (size_t i = 0; i < worked.count; i++)
@@ -840,13 +845,6 @@ static void test_small(unsigned long tables)
 
 /* Large tables. */
 
-static void no_lines(draft *d)
-{
-    for (size_t r = 0; r < d->rows; r++)
-        if (d->t.numbers[4 * r] == LW_EQUATION)
-            d->t.numbers[4 * r + 3] = 0;
-}
-
 /* A large job on its way over one work area, with few damages at some of its states. */
 static void run_large(where at, const course *c, size_t k)
 {
@@ -864,7 +862,7 @@ static void test_large(void)
     found_good = found_bad = 0;
     for (unsigned long i = 0; i < LARGE_TABLES; i++) {
         make_large(&p);
-        no_lines(&p.d);
+        no_lines(&p.d.t);
         if (!check(find_states(&c, ALL(p.d.t)), HERE, "large table %lu: refused", i))
             continue;
         run_large(HERE, &c, i % AREAS);
