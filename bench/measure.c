@@ -29,6 +29,15 @@ double median(samples *s)
     return quartile(s, 2);
 }
 
+size_t rounds_asked(int argc, char **argv)
+{
+    size_t rounds = argc > 1 ? strtoul(argv[1], NULL, 10) : 301;
+    if (rounds >= 1 && rounds <= MAX_ROUNDS)
+        return rounds;
+    fprintf(stderr, "rounds are 1 to %d\n", MAX_ROUNDS);
+    return 0;
+}
+
 /* Tables. */
 
 static uint16_t answer[LW_ANSWER_NUMBERS], work[LW_WORK_NUMBERS];

@@ -64,6 +64,9 @@ typedef struct {
     samples page, plain;
 } page_subject;
 
+/* The program's first argument, or 301; 0, and it is told, if it is no number of rounds. */
+size_t rounds_asked(int argc, char **argv);
+
 /* Makes the table and lays out its pairs. Whether lw_solve's answer is that of the plain solver. */
 bool prepare(subject *in);
 

@@ -297,13 +297,9 @@ static bool print_analyses(void)
 
 int main(int argc, char **argv)
 {
-    size_t rounds = argc > 1 ? strtoul(argv[1], NULL, 10) : 301;
+    size_t rounds = rounds_asked(argc, argv);
 
-    if (rounds < 1 || rounds > MAX_ROUNDS) {
-        fprintf(stderr, "rounds are 1 to %d\n", MAX_ROUNDS);
-        return 2;
-    }
-    if (!prepare_all())
+    if (rounds == 0 || !prepare_all())
         return 2;
     for (size_t i = 0; i < rounds; i++)
         for (size_t k = 0; k < LAYOUTS; k++) {

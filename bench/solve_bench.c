@@ -180,13 +180,11 @@ static bool write_points(void)
 
 int main(int argc, char **argv)
 {
-    size_t rounds = argc > 1 ? strtoul(argv[1], NULL, 10) : 301;
+    size_t rounds = rounds_asked(argc, argv);
     bool z3 = z3_found();
 
-    if (rounds < 1 || rounds > MAX_ROUNDS) {
-        fprintf(stderr, "rounds are 1 to %d\n", MAX_ROUNDS);
+    if (rounds == 0)
         return 2;
-    }
     if (!prepare_all()) {
         fprintf(stderr, "the tables are not what they should be\n");
         return 2;

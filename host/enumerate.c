@@ -12,7 +12,7 @@
 #include <stdbool.h>
 #include <string.h>
 
-enum { VARIABLE = 0, FILL = 1, JOIN = 2, CUT = 3, EQUATION = 4, VALUE = 5, EQUATIONS = 64 };
+enum { VARIABLE = 0, FILL = 1, JOIN = 2, CUT = 3, EQUATION = 4, VALUE = 5, EQUATIONS = 64, HELD_FIXED = 4096 };
 enum { BLOCKS = 1 << (ENUM_BITS - 6) };
 
 /* What the patterns tell of a table. */
@@ -241,39 +241,57 @@ static uint32_t ties_of(const findings *f, size_t first, size_t last)
     return ties;
 }
 
-void enumerate(const uint16_t *table, const ref_table *facts, enumeration *found)
+/* The table with the equations from row limit on left off. */
+static void find(const uint16_t *table, const ref_table *facts, size_t limit, findings *f, enumeration *found)
 {
-    static findings f;
     size_t variables = 0, none_left = 0;
 
-    memset(&f, 0, sizeof f);
+    memset(f, 0, sizeof *f);
     memset(found, 0, sizeof *found);
-    f.bits = facts->bits;
-    f.blocks = f.bits < 6 ? 1 : (size_t)1 << (f.bits - 6);
+    f->bits = facts->bits;
+    f->blocks = f->bits < 6 ? 1 : (size_t)1 << (f->bits - 6);
     for (size_t r = 0; r < facts->rows; r++)
         if (table[4 * r] == VARIABLE) {
             for (size_t i = 0; i < facts->width[r]; i++)
-                f.variable[facts->place[r] + i] = variables;
+                f->variable[facts->place[r] + i] = variables;
             variables++;
-        } else if (ref_counts(table, facts, r)) {
-            f.counts[r] = true;
-            f.row[f.equations++] = r;
+        } else if (r < limit && ref_counts(table, facts, r)) {
+            f->counts[r] = true;
+            f->row[f->equations++] = r;
         }
 
-    for (size_t block = 0; block < f.blocks; block++) {
-        read_block(table, facts, block, &f);
-        found->met += ones(f.meeting[block]);
+    for (size_t block = 0; block < f->blocks; block++) {
+        read_block(table, facts, block, f);
+        found->met += ones(f->meeting[block]);
     }
 
-    while (none_left < f.equations && f.left[none_left])
+    while (none_left < f->equations && f->left[none_left])
         none_left++;
-    if (none_left < f.equations) {
-        found->record = (lw_record){.outcome = 1, .ties = ties_of(&f, 0, none_left), .row = (uint32_t)f.row[none_left]};
-        found->row_ties = ties_of(&f, none_left, none_left + 1);
-    } else if (found->met == (size_t)1 << f.bits) {
-        found->record = (lw_record){.outcome = 0, .free = (uint32_t)f.bits};
+    if (none_left < f->equations) {
+        found->record = (lw_record){.outcome = 1, .ties = ties_of(f, 0, none_left), .row = (uint32_t)f->row[none_left]};
+        found->row_ties = ties_of(f, none_left, none_left + 1);
+    } else if (found->met == (size_t)1 << f->bits) {
+        found->record = (lw_record){.outcome = 0, .free = (uint32_t)f->bits};
     } else {
-        found->record = (lw_record){.outcome = 2, .ties = ties_of(&f, 0, f.equations)};
-        make_answer(&f, found);
+        found->record = (lw_record){.outcome = 2, .ties = ties_of(f, 0, f->equations)};
+        make_answer(f, found);
+    }
+}
+
+static findings work;
+
+void enumerate(const uint16_t *table, const ref_table *facts, enumeration *found)
+{
+    find(table, facts, facts->rows, &work, found);
+}
+
+void enumerate_to(const uint16_t *table, const ref_table *facts, size_t limit, enumeration *found)
+{
+    find(table, facts, limit, &work, found);
+    for (size_t i = 0; i < work.bits && found->met != 0; i++) {
+        size_t lowest = 0; /* place that equals it: the last one tried is itself */
+        while (!equal(&work, lowest, i))
+            lowest++;
+        found->held[i] = fixed_at(&work, i, false) ? HELD_FIXED : fixed_at(&work, i, true) ? HELD_FIXED + 1 : (uint16_t)lowest;
     }
 }

@@ -20,9 +20,18 @@ typedef struct {
     lw_record record;                /* what lw_solve yields */
     uint32_t row_ties;               /* for outcome 1: that row's ties, the pair that leaves no pattern too */
     uint16_t answer[6 * ENUM_BITS];  /* for outcome 2: the answer table, 6 * record.pieces numbers */
+    uint16_t held[ENUM_BITS];        /* by enumerate_to, for outcomes 0 and 2: what holds each place, as in a job */
 } enumeration;
 
 /* Enumerates an accepted table of at most ENUM_BITS variable bits; facts are those of ref_check. Not reentrant. */
 void enumerate(const uint16_t *table, const ref_table *facts, enumeration *found);
+
+/*
+  The same with the equations from row limit on left off, of a table without line
+  numbers; and of each place what holds it: 4096 plus the bit that it has in every
+  pattern that meets the rest, or else the lowest place that equals it in all of
+  them.
+*/
+void enumerate_to(const uint16_t *table, const ref_table *facts, size_t limit, enumeration *found);
 
 #endif /* ENUMERATE_H */

@@ -49,17 +49,33 @@ static inline void guard_expect(guarded *g, const void *content, size_t size)
         memcpy(g->kept + ZONE, content, size);
 }
 
-/* Compares the whole block, says where it differs first, and frees it. */
-static inline void guard_check(guarded *g, where at, const char *name)
+/* Puts bytes at the start of the buffer, before a call. */
+static inline void guard_put(guarded *g, const void *content, size_t size)
+{
+    if (size != 0)
+        memcpy(g->block + ZONE, content, size);
+    guard_expect(g, content, size);
+}
+
+/* Compares the whole block, and says where it differs first; then it is what was expected, for a next call. */
+static inline void guard_compare(guarded *g, where at, const char *name)
 {
     size_t i = 0;
-    while (i < g->size && g->block[i] == g->kept[i])
-        i++;
-    if (i == g->size)
+    if (memcmp(g->block, g->kept, g->size) == 0) {
         check(true, at, "%s", name);
-    else
-        check(false, at, "%s: byte %ld of %zu is %u, expected %u", name, (long)i - ZONE,
-              g->size - 2 * ZONE, g->block[i], g->kept[i]);
+        return;
+    }
+    while (g->block[i] == g->kept[i])
+        i++;
+    check(false, at, "%s: byte %ld of %zu is %u, expected %u", name, (long)i - ZONE, g->size - 2 * ZONE, g->block[i],
+          g->kept[i]);
+    memcpy(g->block, g->kept, g->size);
+}
+
+/* Compares the whole block, and frees it. */
+static inline void guard_check(guarded *g, where at, const char *name)
+{
+    guard_compare(g, at, name);
     free(g->block);
     free(g->kept);
 }

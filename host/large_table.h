@@ -14,6 +14,21 @@
 
 #include "random_table.h"
 
+/* Four words of 1024 bits, rows 12 to 15, each equal to row 11, the bits 0 1 0 1 ..: 4096 fixed bits. */
+static inline void make_fixed_bits(table *t)
+{
+    t->len = 0;
+    add(t, FILL(0, 1));
+    add(t, FILL(1, 1));
+    add(t, JOIN(0, 1));
+    for (size_t i = 2; i < 11; i++)
+        add(t, JOIN(i, i));
+    for (size_t v = 0; v < 4; v++)
+        add(t, VARIABLE(1024));
+    for (size_t v = 0; v < 4; v++)
+        add(t, EQUATION(12 + v, 11));
+}
+
 /*
   A table in the making, with the value of each row under one pattern, the
   hidden one: the first width bytes of value[r] are the bits of row r, high bit

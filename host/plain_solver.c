@@ -162,10 +162,12 @@ static bool take_top(uint16_t *parent, const uint16_t *side, size_t count, uint3
     return true;
 }
 
-lw_record plain_solve(const uint16_t *table, const ref_table *facts, uint16_t *answer)
+/* The table with the equations from row limit on left off. For outcome 2, class_of has the class of each place. */
+static lw_record solve_to(const uint16_t *table, const ref_table *facts, size_t limit, uint16_t *answer,
+                          uint16_t class_of[PLAIN_BITS])
 {
     static uint16_t sources[REF_ROWS][REF_WIDTH];
-    static uint16_t parent[PLAIN_SOURCES], class_of[PLAIN_BITS];
+    static uint16_t parent[PLAIN_SOURCES];
     static uint8_t variable[PLAIN_BITS];
     uint32_t ties = 0;
     uint8_t variables = 0;
@@ -176,7 +178,7 @@ lw_record plain_solve(const uint16_t *table, const ref_table *facts, uint16_t *a
         const uint16_t *n = table + 4 * r;
         uint32_t before = ties;
         size_t left_over = 0, right_over = 0; /* the bits by which a side is wider */
-        bool counts = ref_counts(table, facts, r);
+        bool counts = r < limit && ref_counts(table, facts, r);
         if (n[0] == VARIABLE)
             memset(variable + facts->place[r], variables++, facts->width[r]);
         if (counts) {
@@ -200,6 +202,24 @@ lw_record plain_solve(const uint16_t *table, const ref_table *facts, uint16_t *a
     for (size_t i = 0; i < facts->bits; i++)
         class_of[i] = lowest(parent, (uint16_t)(i + PLAIN_FIXED));
     make_answer(class_of, variable, facts->bits, answer, &record);
+    return record;
+}
+
+static uint16_t classes[PLAIN_BITS];
+
+lw_record plain_solve(const uint16_t *table, const ref_table *facts, uint16_t *answer)
+{
+    return solve_to(table, facts, facts->rows, answer, classes);
+}
+
+lw_record plain_solve_to(const uint16_t *table, const ref_table *facts, size_t limit, uint16_t *answer, uint16_t *held)
+{
+    lw_record record = solve_to(table, facts, limit, answer, classes);
+    for (size_t i = 0; i < facts->bits && record.outcome != 1; i++)
+        if (record.outcome == 0)
+            held[i] = (uint16_t)i; /* no tie: each place holds itself */
+        else
+            held[i] = (uint16_t)(classes[i] < PLAIN_FIXED ? PLAIN_BITS + classes[i] : classes[i] - PLAIN_FIXED);
     return record;
 }
 

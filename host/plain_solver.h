@@ -49,4 +49,12 @@ size_t plain_ties(const uint16_t *left, const uint16_t *right, size_t count, uin
 */
 lw_record plain_solve(const uint16_t *table, const ref_table *facts, uint16_t *answer);
 
+/*
+  The same with the equations from row limit on left off, of a table without line
+  numbers. For outcomes 0 and 2, held[i] is what holds place i, as in a job: 4096
+  plus the fixed bit of its class, or else the lowest place of its class. There
+  must be room for as many numbers as there are variable bits.
+*/
+lw_record plain_solve_to(const uint16_t *table, const ref_table *facts, size_t limit, uint16_t *answer, uint16_t *held);
+
 #endif /* PLAIN_SOLVER_H */

@@ -827,16 +827,7 @@ static void test_limits(void)
     table t;
 
     /* Four words of 1024 fixed bits 0 1 0 1 ..: 4096 fills, and the answer table of 24576 numbers is full. */
-    t.len = 0;
-    add(&t, FILL(0, 1));
-    add(&t, FILL(1, 1));
-    add(&t, JOIN(0, 1));
-    for (size_t i = 2; i < 11; i++)
-        add(&t, JOIN(i, i));
-    for (size_t v = 0; v < 4; v++)
-        add(&t, VARIABLE(1024));
-    for (size_t v = 0; v < 4; v++)
-        add(&t, EQUATION(12 + v, 11));
+    make_fixed_bits(&t);
     for (uint16_t i = 0; i < 4096; i++)
         memcpy(answer + 4 * i, (const uint16_t[]){i / 1024, i % 2, 1, 0}, 8);
     ACCEPT(ALL(t), SOLVED(4096, 0, 0, 4096), answer, COUNT(answer));

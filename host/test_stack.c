@@ -33,6 +33,7 @@ typedef struct {
     size_t sheet_len;
     uint16_t answer[LW_ANSWER_NUMBERS], work[LW_WORK_NUMBERS];
     size_t answer_len, work_len, rows_in_use, variable;
+    lw_job job;
     lw_record record;
     size_t number; /* of a page */
     uint8_t fresh[LW_MAX_VARIABLE_BITS];
@@ -212,6 +213,17 @@ static void unequal_marker(call *c, size_t width)
     add(c, LW_EQUATION, c->table_len / 4 - 1, 0, 0);
 }
 
+/* The table's job is opened, and takes all equations but so many. */
+static void taken_but(call *c, size_t left)
+{
+    size_t equations = 0;
+    for (size_t i = 0; i < c->table_len; i += 4)
+        equations += c->table[i] == LW_EQUATION;
+    lw_job_open(c->table, c->table_len, &c->job, c->work, c->work_len);
+    for (; equations > left; equations--)
+        lw_job_step(c->table, c->table_len, &c->job, c->work, c->work_len);
+}
+
 /* Answer tables, and fresh bits that are all 0. */
 
 static void answer_row(call *c, size_t variable, size_t kind, size_t width, size_t fresh, size_t home, size_t high)
@@ -327,6 +339,7 @@ LESS(sheet_len)
 LESS(answer_len)
 LESS(fresh_len)
 LESS(pattern_len)
+LAST(last_held, uint16_t, work, c->work_len - 1)
 LAST(last_bit, uint8_t, pattern, c->pattern_len - 1)
 LAST(last_fresh_bit, uint8_t, fresh, c->fresh_len - 1)
 LAST(last_fresh, uint16_t, answer, c->answer_len - 3)
@@ -389,6 +402,46 @@ static const test solves[] = {
     NOT_WHOLE_ROWS,
     BAD_CUT,
     BAD_MARKER,
+};
+/* Jobs with so many equations left: a step takes the last one, an answer finds none. Both have the record of a solve. */
+#define JOBS(left)                                                                                                      \
+    {"512 rows, chained cuts", {CUTS, {shift, 1024}, {taken_but, left}}, LW_SOLVED, 1},                                 \
+    {"joins chained on the left", {{variable, 1}, {left_joins, 0}, {shift, 508}, {taken_but, left}}, LW_ALWAYS, 1},     \
+    {"joins chained on the right", {{variable, 1}, {right_joins, 0}, {shift, 508}, {taken_but, left}}, LW_ALWAYS, 1},   \
+    {"cuts and joins in turn", {{variable, 1}, {cuts_and_joins, 0}, {shift, 255}, {taken_but, left}}, LW_ALWAYS, 1},    \
+    {"chained cuts of a marker", {{marker, 16}, {cuts, 16}, {shift, 16}, {taken_but, left}}, LW_NEVER, 0},              \
+    {"joins of a word's bit", {{variable, 16}, {left_joins, 1}, {search, 508}, {taken_but, left}}, LW_ALWAYS, 32},      \
+    {"joins of a marker's bit", {{marker, 16}, {right_joins, 1}, {search, 508}, {taken_but, left}}, LW_ALWAYS, 16},     \
+    {"sides of unequal width", {{marker, 1}, {left_joins, 0}, {uneven_shift, 508}, {taken_but, left}}, LW_NEVER, 0},    \
+    {"64 equations of 1024 bits", {{words, 64}, {taken_but, left}}, LW_SOLVED, 1024},                                   \
+    {"never at the last of 64 equations", {{words, 63}, {unequal_fills, 1}, {taken_but, left}}, LW_NEVER, 0},           \
+    {"refused 10", {{words, 64}, {taken_but, left}, {less_work_len, 1}}, LW_REFUSED_MEMORY, 0},                         \
+    NOT_WHOLE_ROWS,                                                                                                     \
+    BAD_CUT,                                                                                                            \
+    BAD_MARKER,                                                                                                         \
+    {"refused 43", {{words, 64}, {taken_but, left}, {line_numbers, 64}}, LW_REFUSED_REVISED, 0},                        \
+    {"refused 44, the last number", {{words, 64}, {taken_but, left}, {last_held, 1}}, LW_REFUSED_JOB, 0}
+
+static const test opens[] = {
+    {"one variable", {{variable, 1024}}, LW_ALWAYS, 1024},
+    {"512 rows, chained cuts", {CUTS, {shift, 1024}}, LW_ALWAYS, 1024},
+    {"512 rows, joins chained on the left", {{variable, 1}, {left_joins, 0}, {shift, 508}}, LW_ALWAYS, 1},
+    {"512 rows, joins chained on the right", {{variable, 1}, {right_joins, 0}, {shift, 508}}, LW_ALWAYS, 1},
+    {"64 equations of 1024 bits", {{words, 64}}, LW_ALWAYS, 4096},
+    {"refused 10", {{words, 64}, {less_work_len, 1}}, LW_REFUSED_MEMORY, 0},
+    NOT_WHOLE_ROWS,
+    BAD_CUT,
+    BAD_MARKER,
+    {"refused 43", {{words, 64}, {line_numbers, 64}}, LW_REFUSED_REVISED, 0},
+};
+static const test job_steps[] = {
+    JOBS(1),
+    {"after a never", {{words, 63}, {unequal_fills, 1}, {taken_but, 0}}, LW_NEVER, 0},
+    {"refused 45", {{words, 64}, {taken_but, 0}}, LW_REFUSED_STEP, 0},
+};
+static const test job_answers[] = {
+    JOBS(0),
+    {"before the last of 64 equations", {{words, 64}, {taken_but, 1}}, LW_SOLVED, 1024},
 };
 /* Runs of words that are all 0. */
 static const test searches[] = {
@@ -510,6 +563,7 @@ static void note_page_bytes(call *c, lw_page_bytes page)
 #define VALUE c->row, c->pattern, c->pattern_len, c->value, sizeof c->value
 #define FORM  c->row, c->form, LW_FORM_NUMBERS
 #define SOLVE c->answer, LW_ANSWER_NUMBERS, c->work, c->work_len
+#define JOB   &c->job, c->work, c->work_len
 
 RUN(lw_value, record, TABLE, VALUE)
 RUN(lw_normal_form, record, TABLE, FORM)
@@ -519,6 +573,9 @@ RUN(lw_right_side, part, c->answer, LW_ANSWER_NUMBERS, c->rows_in_use, c->variab
 RUN(lw_make_pattern, record, c->answer, c->answer_len, c->fresh, c->fresh_len, c->pattern, c->pattern_len)
 RUN(lw_marker_positions, record, TABLE, c->words, c->words_len, c->list, COUNT(c->list))
 RUN(lw_page, page_bytes, c->record, c->answer, c->answer_len, c->number)
+RUN(lw_job_open, record, TABLE, JOB)
+RUN(lw_job_step, record, TABLE, JOB)
+RUN(lw_job_answer, record, TABLE, JOB, c->answer, LW_ANSWER_NUMBERS)
 RUN(lw_value_rows, record, ROWS, VALUE)
 RUN(lw_normal_form_rows, record, ROWS, FORM)
 RUN(lw_solve_rows, record, ROWS, SOLVE)
@@ -539,6 +596,9 @@ static const struct {
     {"lw_make_pattern", run_lw_make_pattern, LW_STACK_MAKE_PATTERN, patterns, COUNT(patterns)},
     {"lw_marker_positions", run_lw_marker_positions, LW_STACK_MARKER_POSITIONS, searches, COUNT(searches)},
     {"lw_page", run_lw_page, LW_STACK_PAGE, pages, COUNT(pages)},
+    {"lw_job_open", run_lw_job_open, LW_STACK_JOB_OPEN, opens, COUNT(opens)},
+    {"lw_job_step", run_lw_job_step, LW_STACK_JOB_STEP, job_steps, COUNT(job_steps)},
+    {"lw_job_answer", run_lw_job_answer, LW_STACK_JOB_ANSWER, job_answers, COUNT(job_answers)},
     {"lw_value_rows", run_lw_value_rows, LW_STACK_VALUE_ROWS, tables, COUNT(tables)},
     {"lw_normal_form_rows", run_lw_normal_form_rows, LW_STACK_NORMAL_FORM_ROWS, tables, COUNT(tables) - 1},
     {"lw_solve_rows", run_lw_solve_rows, LW_STACK_SOLVE_ROWS, solves, COUNT(solves)},

@@ -10,7 +10,8 @@
   every, no or some choice of the variables' bits meets them all, and for some
   it describes these choices. Another makes such a choice from the description,
   one finds the places of a long run of words at which the words meet them, and
-  one prints the description on pages for a line printer.
+  one prints the description on pages for a line printer. A job takes the
+  equations one by one, and tells after each what is still allowed.
 
   The library is proved: for every input each call yields the record and the
   buffer contents that this header names, and it always returns. It is linked
@@ -249,6 +250,63 @@
               0         2         2         1
 
 
+                                   Jobs
+
+  A job takes the equations of a table one by one, in the order of their rows.
+  After each, and at any moment between, the answer so far is to be had: that of
+  the table with the equations left off that are not yet taken, in which rows
+  keep their numbers. No equation of a job's table may have a line number.
+
+  The caller keeps the job and lends it to each call: a struct of two numbers,
+  next and ties, and a work area. Both are to be read at any time, and are only
+  to be changed by the calls.
+
+  The next row is the row of the lowest equation that is not yet taken, or the
+  number of rows if none is left; in a table of no rows it is 0. The ties are
+  those of all equations taken, counted as lw_solve counts them.
+
+  The work area tells what holds each variable bit. These are counted as in a
+  pattern, variable 0 first, its high bit being place 0, over all variables of
+  the table, also those behind the next row. A bit that the equations taken have
+  fixed is held by the fixed bit: the number at its place is LW_HELD_FIXED
+  (4096) plus 0 or 1. All other bits that they tie to each other are held by the
+  lowest place among them, and its number stands at each of them; a bit that is
+  tied to nothing is held by itself. Behind the last variable bit each number of
+  the work area is 0, up to its length.
+
+  If an equation leaves no pattern, the next row becomes LW_JOB_NEVER (1000),
+  which is no row, and nothing else changes: the ties and the work area stay as
+  they were before it, also where the first bit pairs of that equation would be
+  ties. From then on nothing changes any more.
+
+  A call believes no job: it reads the equations taken anew, and refuses what no
+  number of steps from the opening of this table, over a work area of this
+  length, would leave. What another table left is accepted exactly if this one
+  leaves it too. So steps take longer the more equations are taken.
+
+  In this table x and y are words of one bit, and there are three equations:
+
+     0 1 0 0     row 0: x
+     0 1 0 0     row 1: y
+     1 0 1 0     row 2: a zero
+     1 1 1 0     row 3: a one
+     4 0 1 0     row 4: x is y
+     4 1 2 0     row 5: y is 0
+     4 0 3 0     row 6: x is 1
+
+  Its job: the record that each call yields, and then next and ties, and the
+  work area, of which the numbers that follow are 0.
+
+     lw_job_open   0 0 0 2 0 0        4  0       0    1  0  ..
+     lw_job_step   2 2 1 1 1 0        5  1       0    0  0  ..
+     lw_job_step   2 2 0 0 2 0        6  2    4096 4096  0  ..
+     lw_job_step   1 0 0 0 2 6     1000  2    4096 4096  0  ..
+     lw_job_step   1 0 0 0 2 6     1000  2    4096 4096  0  ..
+
+  After the first step both bits are held by place 0, and the answer so far is
+  0 2 1 0 0 0, 1 2 1 0 0 0: x and y are one fresh piece.
+
+
                          Refusals of a term table
 
   A call that works on a table tests all of it, also rows that it does not need.
@@ -296,7 +354,8 @@
   Each pointer is to as many elements as its length says, aligned for their
   type. The buffers of one call must not overlap. A pointer may be NULL where
   its length is 0. Nothing else is asked of the arguments: a call refuses what
-  it cannot work on.
+  it cannot work on. A job is the one pointer without a length: it is to one
+  lw_job, is not NULL, and overlaps no buffer.
 
   No state is kept from one call to the next, and no memory is allocated. All
   calls are reentrant, and threads may call at the same time as long as no
@@ -321,8 +380,8 @@ extern "C" {
   The version of the library, as text and as a number that grows from version to
   version: major * 1000000 + minor * 1000 + patch.
 */
-#define LW_VERSION_TEXT "0.20.0"
-#define LW_VERSION      20000
+#define LW_VERSION_TEXT "0.21.0"
+#define LW_VERSION      21000
 
 /* constants */
 
@@ -346,8 +405,8 @@ extern "C" {
 #define LW_ANSWER_ROW_NUMBERS   6 /* of an answer table's row: variable, kind, width, fresh, home, high */
 #define LW_FORM_NUMBERS      4096 /* least output of a normal form */
 #define LW_TABLE_NUMBERS     2048 /* least output of a sheet's reading */
-#define LW_ANSWER_NUMBERS   24576 /* least answer table of a solve */
-#define LW_WORK_NUMBERS     16384 /* least work area of a solve */
+#define LW_ANSWER_NUMBERS   24576 /* least answer table of a solve, and of a job's answer */
+#define LW_WORK_NUMBERS     16384 /* least work area of a solve, and of a job */
 #define LW_MAX_SHEET        16384 /* bytes of a sheet */
 #define LW_MAX_ROWS           512
 #define LW_MAX_WIDTH         1024
@@ -359,7 +418,11 @@ extern "C" {
 #define LW_PAGE_LINES          60
 #define LW_PAGE_PIECES         59 /* lines of a page below the names */
 
-/* Outcomes of an accepted call: of lw_solve the last three, of the others the first. */
+/* Numbers of a job: the next row after a never, and what the fixed bit 0 has in the work area; 1 has one more. */
+#define LW_JOB_NEVER  1000
+#define LW_HELD_FIXED 4096
+
+/* Outcomes of an accepted call: of lw_solve and of a job's calls the last three, of the others the first. */
 #define LW_ACCEPTED 0
 #define LW_ALWAYS   0 /* every pattern meets the table */
 #define LW_NEVER    1 /* no pattern does */
@@ -387,6 +450,9 @@ extern "C" {
 #define LW_REFUSED_VALUE     40 /* a marker's width above 16, or its value 2 to the width or more */
 #define LW_REFUSED_WINDOW    41 /* no variable, or one that has not 16 bits */
 #define LW_REFUSED_RUN       42 /* run over 1048576 words */
+#define LW_REFUSED_REVISED   43 /* an equation of a job's table has a line number */
+#define LW_REFUSED_JOB       44 /* no number of steps leaves this job and this work area */
+#define LW_REFUSED_STEP      45 /* a step with no equation left */
 
 /*
   Stack: the most bytes that a call was seen to use, on tables made for that; it
@@ -401,6 +467,9 @@ extern "C" {
 #define LW_STACK_MAKE_PATTERN      16576
 #define LW_STACK_MARKER_POSITIONS 172544
 #define LW_STACK_PAGE               2688
+#define LW_STACK_JOB_OPEN         218816
+#define LW_STACK_JOB_STEP         218816
+#define LW_STACK_JOB_ANSWER       218816
 #define LW_STACK_VALUE_ROWS        47616
 #define LW_STACK_NORMAL_FORM_ROWS 145600
 #define LW_STACK_SOLVE_ROWS       198976
@@ -420,6 +489,12 @@ typedef struct {
     uint32_t ties;    /* a number of bit pairs */
     uint32_t row;     /* of a refusal: its place, mostly a row of the table; of LW_NEVER: an equation's row */
 } lw_record;
+
+/* What a job keeps beside its work area (see Jobs). */
+typedef struct {
+    uint32_t next; /* the next row, the number of rows, or LW_JOB_NEVER */
+    uint32_t ties; /* of the equations taken */
+} lw_job;
 
 /* A part of the caller's answer table: its first number, and how many they are. */
 typedef struct {
@@ -706,7 +781,8 @@ lw_record lw_marker_positions(const uint16_t *table, size_t table_len,
 
      The table is analysed once, and then a start takes a few operations on
      words: one for each word that has fixed bits, and one for each two words
-     and each shift between tied bits of them, up to the first that fails.
+     (or one word) and each shift at which a bit of the one stands to the lowest
+     bit that it is tied to, in the other; up to the first that fails.
 
      The table and the run are only read. Neither may overlap list.
 */
@@ -740,6 +816,115 @@ lw_page_bytes lw_page(lw_record record, const uint16_t *answer, size_t answer_le
      Of the record only outcome, and with LW_SOLVED pieces, are used. Nothing is
      asked of any number: none is tested, and each is printed as it is. There is
      no refusal. The answer table is only read.
+*/
+
+/* calls of a job */
+
+lw_record lw_job_open(const uint16_t *table, size_t table_len,
+                      lw_job *job, uint16_t *work, size_t work_len);
+/*
+     Opens a job of the table: no equation is taken. What job and work hold
+     before does not matter.
+
+     If the call is accepted, outcome is LW_ALWAYS, free is the number of the
+     table's variable bits, and all other fields are 0, whatever the equations
+     are. job->next is then the row of the first equation, or the number of rows
+     if there is none, and job->ties is 0. Each place of work is held by itself:
+     its numbers are 0, 1, 2 and so on, one for each variable bit, and 0 behind
+     the last, all work_len of them, also those past the 16384th.
+
+     Otherwise outcome is the first refusal that applies, in the order below,
+     and nothing is written to job nor to work.
+
+     outcome                 cause                               field row
+     10 LW_REFUSED_MEMORY    work_len is below LW_WORK_NUMBERS   0
+                             (16384), however small the table is
+     11 to 17, 40            the table is refused: see Refusals  512, or
+                             of a term table above               that row
+     43 LW_REFUSED_REVISED   an equation has a line number above 0
+                             0, also if it revises none
+
+     The table is only read. No two of table, job and work may overlap.
+*/
+
+lw_record lw_job_step(const uint16_t *table, size_t table_len,
+                      lw_job *job, uint16_t *work, size_t work_len);
+/*
+     Takes the equation of the next row, with all of its bit pairs.
+
+     If the call is accepted, it yields the record that lw_solve yields of the
+     table with all equations behind that row left off, while rows keep their
+     numbers: LW_ALWAYS as long as there is no tie, LW_SOLVED with pieces, fresh,
+     free and ties, though no answer table is written, or LW_NEVER.
+
+     After LW_ALWAYS and LW_SOLVED, job->next is the row of the next equation, or
+     the number of rows if none is left, job->ties is the number of ties of all
+     equations taken, and work has what holds each variable bit (see Jobs).
+
+     With LW_NEVER, row is the row of the equation that leaves no pattern, and
+     ties is job->ties. job->next becomes LW_JOB_NEVER, and job->ties and work
+     stay as they were. A step of a job whose next row is LW_JOB_NEVER yields the
+     same record again and changes nothing; it is not refused 45.
+
+     Otherwise outcome is the first refusal that applies, in the order below,
+     and nothing is written to job nor to work.
+
+     outcome                 cause                               field row
+     10 LW_REFUSED_MEMORY    work_len is below LW_WORK_NUMBERS   0
+                             (16384), however small the table is
+     11 to 17, 40            the table is refused: see Refusals  512, or
+                             of a term table above               that row
+     43 LW_REFUSED_REVISED   an equation has a line number above 0
+                             0, also if it revises none
+     44 LW_REFUSED_JOB       lw_job_open of this table and any   0
+                             number of steps, over a work area
+                             of this length, leave another job
+                             or work area: next is the row of no
+                             equation and not the number of
+                             rows, or is behind the row of a
+                             never, or is LW_JOB_NEVER where
+                             there is none; ties or a number of
+                             work, up to its length, are not
+                             those of that next row
+     45 LW_REFUSED_STEP      no equation is left: next is the    0
+                             number of rows
+
+     The table is only read: all equations taken, and the next one. No two of
+     table, job and work may overlap.
+*/
+
+lw_record lw_job_answer(const uint16_t *table, size_t table_len,
+                        const lw_job *job, const uint16_t *work, size_t work_len,
+                        uint16_t *answer, size_t answer_len);
+/*
+     Writes the answer so far as an answer table.
+
+     If the call is accepted, it yields the record that lw_solve yields of the
+     table with the equations from the next row on left off, while rows keep
+     their numbers: that of the step that led here, or of the opening. If
+     job->next is LW_JOB_NEVER, it is the record of the never.
+
+     For LW_SOLVED the first 6 * pieces numbers of answer are then the rows of
+     the answer table (see Solved systems), as lw_solve writes them; the numbers
+     of answer that follow keep their content. For LW_ALWAYS and LW_NEVER nothing
+     is written to answer. Unlike lw_solve the call leaves the work area as it is.
+
+     Otherwise outcome is the first refusal that applies, in the order below,
+     and nothing is written to answer. There is no 45: a job whose equations are
+     all taken has an answer.
+
+     outcome                 cause                               field row
+     10 LW_REFUSED_MEMORY    work_len is below LW_WORK_NUMBERS   0
+                             (16384), or answer_len is below
+                             LW_ANSWER_NUMBERS (24576), however
+                             small the table is
+     11 to 17, 40            the table is refused: see Refusals  512, or
+                             of a term table above               that row
+     43 LW_REFUSED_REVISED   as for lw_job_step                  0
+     44 LW_REFUSED_JOB       as for lw_job_step                  0
+
+     The table, of which all equations taken are read, the job and the work area
+     are only read. No two of table, job, work and answer may overlap.
 */
 
 /* calls on row records */
