@@ -4,7 +4,7 @@ use mathlib.Core.Path.{_≡_, refl}
 use mathlib.Core.Bool.{Bool, true, false, cond}
 use mathlib.Core.List.{List, [], _∷_}
 use mathlib.Core.Logic.{_≢_}
-use Prim.Native.Nat.{ℕ, _≤_}
+use Prim.Native.Nat.{ℕ, suc, _≤_}
 use native.Mathlib.Omega.{arith}
 use lib.Dec.{eqb, ltb}
 use Rattle.terms.specs.declared.Record.{Record}
@@ -25,7 +25,9 @@ use Rattle.sheets.specs.Program.{textRecord, programRecord}
 use Rattle.answers.specs.Solve.{valid, unsatisfiable, answerRecord, solveRecord}
 use Rattle.assignments.specs.Call.{patternRecord}
 use Rattle.windows.specs.Call.{positionsRecord}
-use Rattle.calls.specs.Calls.{Call, lw-value, lw-normal-form, lw-read-sheet, lw-solve, lw-make-pattern, lw-marker-positions, lw-value-rows, lw-normal-form-rows, lw-solve-rows, program, recordOf}
+use Rattle.jobs.specs.Prefix.{upTo}
+use Rattle.jobs.specs.Call.{openStops, openRecord, stepStops, stepRecord, jobAnswerStops, jobAnswerRecord}
+use Rattle.calls.specs.Calls.{Call, lw-value, lw-normal-form, lw-read-sheet, lw-solve, lw-make-pattern, lw-marker-positions, lw-value-rows, lw-normal-form-rows, lw-solve-rows, lw-job-open, lw-job-step, lw-job-answer, program, recordOf}
 
 -- A property of these records.
 module _ (P : Record → Type 0) (fine : (r : Record) → r .outcome ≤ 2 → P r) (refused : (n row : ℕ) → 10 ≤ n → n ≢ 18 → P (refusal n row)) where
@@ -82,6 +84,29 @@ module _ (P : Record → Type 0) (fine : (r : Record) → r .outcome ≤ 2 → P
   positions table words =
       first _ _ (more (fault (firstFault table)) (more (refused 41 0 (omega arith) (omega arith)) (more (refused 42 0 (omega arith) (omega arith)) none))) (fine _ (omega arith))
 
+  job-open : (table : List ℕ) (room : ℕ) → P (openRecord table room)
+  unfolding openRecord openStops
+  job-open table room =
+      first _ _ (more (refused 10 0 (omega arith) (omega arith)) (more (fault (firstFault table)) (more (refused 43 0 (omega arith) (omega arith)) none)))
+      (answer (upTo 0 (rowsOf table)))
+
+  job-step : (table : List ℕ) (next ties : ℕ) (work : List ℕ) → P (stepRecord table next ties work)
+  unfolding stepRecord stepStops
+  job-step table next ties work =
+      first _ _
+      (more (refused 10 0 (omega arith) (omega arith))
+      (more (fault (firstFault table))
+      (more (refused 43 0 (omega arith) (omega arith)) (more (refused 44 0 (omega arith) (omega arith)) (more (refused 45 0 (omega arith) (omega arith)) none)))))
+      (answer (upTo (suc next) (rowsOf table)))
+
+  job-answer : (table : List ℕ) (next ties : ℕ) (work : List ℕ) (room : ℕ) → P (jobAnswerRecord table next ties work room)
+  unfolding jobAnswerRecord jobAnswerStops
+  job-answer table next ties work room =
+      first _ _
+      (more (refused 10 0 (omega arith) (omega arith))
+      (more (fault (firstFault table)) (more (refused 43 0 (omega arith) (omega arith)) (more (refused 44 0 (omega arith) (omega arith)) none))))
+      (answer (upTo next (rowsOf table)))
+
   found : (sheet : Sheet) → P (refusal (sheetNumber sheet) (sheetRow sheet))
   found TooLong = refused 20 0 (omega arith) (omega arith)
   found WrongNames = refused 21 0 (omega arith) (omega arith)
@@ -110,6 +135,9 @@ module _ (P : Record → Type 0) (fine : (r : Record) → r .outcome ≤ 2 → P
   of-every-record (lw-value-rows rows row pattern lent) = value (rowNumbers rows) row pattern _
   of-every-record (lw-normal-form-rows rows row lent) = form (rowNumbers rows) row _
   of-every-record (lw-solve-rows rows lent work) = solve (rowNumbers rows) _ _
+  of-every-record (lw-job-open table next ties work) = job-open table _
+  of-every-record (lw-job-step table next ties work) = job-step table _ _ _
+  of-every-record (lw-job-answer table next ties work lent) = job-answer table _ _ _ _
   of-every-record (program text) = printed text
 
 -- No call yields 18, nor does the program.

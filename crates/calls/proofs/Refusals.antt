@@ -3,14 +3,16 @@
 use mathlib.Core.Path.{_≡_, refl, sym, ap, ap₂, subst}
 use mathlib.Core.Bool.{Bool, true, false}
 use mathlib.Core.List.{List, [], _∷_}
+use mathlib.Core.Logic.{_≢_}
 use Prim.Native.Nat.{ℕ, _≤_}
 use native.Mathlib.Omega.{arith}
 use lib.ListN.{length}
 use borrow.Author.Tests.{ne-eqb, le-ltb}
 use Rattle.terms.specs.declared.Record.{Record}
+use Rattle.terms.specs.declared.Fault.the-variants.{Accepted}
 use Rattle.terms.specs.Table.{rowNumbers}
 use Rattle.terms.specs.Faults.{firstFault, isAccepted}
-use Rattle.terms.specs.Calls.{refusal, faultRecord, stopAt}
+use Rattle.terms.specs.Calls.{refusal, faultNumber, faultRecord, stopAt}
 use Rattle.terms.specs.Value.{valueRecord, valueAfter}
 use Rattle.terms.proofs.AcceptedTable.{fault-high}
 use Rattle.forms.specs.Call.{formRecord, formAfter}
@@ -18,7 +20,10 @@ use Rattle.sheets.specs.Call.{sheetRecord, tableAfter}
 use Rattle.answers.specs.Solve.{solveRecord, answerAfter, workAfter}
 use Rattle.assignments.specs.Call.{patternRecord, patternAfter}
 use Rattle.windows.specs.Call.{positionsRecord, positionsAfter}
-use Rattle.calls.specs.Calls.{Call, lw-value, lw-normal-form, lw-read-sheet, lw-solve, lw-make-pattern, lw-marker-positions, lw-value-rows, lw-normal-form-rows, lw-solve-rows, program, recordOf, lentTo, leftBy, RefusedWith, Takes, RefusedByEach}
+use Rattle.jobs.specs.Call.{openRecord, stepRecord, jobAnswerRecord, jobAnswerAfter}
+use Rattle.jobs.specs.Course.{Lent, afterOpen, afterStep, stepTold, answerTold, answerLeft}
+use Rattle.jobs.proofs.Refusals.{refuses, untouched}
+use Rattle.calls.specs.Calls.{Call, lw-value, lw-normal-form, lw-read-sheet, lw-solve, lw-make-pattern, lw-marker-positions, lw-value-rows, lw-normal-form-rows, lw-solve-rows, lw-job-open, lw-job-step, lw-job-answer, program, recordOf, lentTo, leftBy, RefusedWith, Takes, RefusedByEach}
 use Rattle.calls.proofs.Outcomes.{of-every-record}
 
 -- ---- what is lent stays as it was
@@ -51,6 +56,28 @@ list-left : (table words list : List ℕ) → 3 ≤ positionsRecord table words 
 unfolding positionsAfter
 list-left table words list l = rw (ne-eqb (positionsRecord table words .outcome) 0 (omega arith)) refl
 
+-- a job and a work area as they are lent; and as lists of numbers
+abbrev lent : ℕ → ℕ → List ℕ → Lent
+lent next ties work = record { job = record { next = next; ties = ties }; work = work }
+
+abbrev numbers : Lent → List (List ℕ)
+numbers x = (x .job .next ∷ x .job .ties ∷ []) ∷ x .work ∷ []
+
+open-left : (table : List ℕ) (next ties : ℕ) (work : List ℕ) → 3 ≤ openRecord table (length work) .outcome
+    → leftBy (lw-job-open table next ties work) ≡ lentTo (lw-job-open table next ties work)
+unfolding afterOpen
+open-left table next ties work l = ap numbers (untouched table (lent next ties work) [] .opening l)
+
+step-left : (table : List ℕ) (next ties : ℕ) (work : List ℕ) → 3 ≤ stepRecord table next ties work .outcome
+    → leftBy (lw-job-step table next ties work) ≡ lentTo (lw-job-step table next ties work)
+unfolding afterStep stepTold
+step-left table next ties work l = ap numbers (untouched table (lent next ties work) [] .step l)
+
+so-far-left : (table : List ℕ) (next ties : ℕ) (work answer : List ℕ) → 3 ≤ jobAnswerRecord table next ties work (length answer) .outcome
+    → jobAnswerAfter table next ties work answer ≡ answer
+unfolding answerTold answerLeft
+so-far-left table next ties work answer l = untouched table (lent next ties work) answer .answer l
+
 one : {x y : List ℕ} → x ≡ y → x ∷ [] ≡ y ∷ []
 one e = ap (λ (z : List ℕ). z ∷ []) e
 
@@ -67,6 +94,9 @@ left-by (lw-marker-positions table words list) l = one (list-left table words li
 left-by (lw-value-rows rows row pattern value) l = one (value-left (rowNumbers rows) row pattern value l)
 left-by (lw-normal-form-rows rows row form) l = one (form-left (rowNumbers rows) row form l)
 left-by (lw-solve-rows rows answer work) l = two (answer-left (rowNumbers rows) answer (length work) l) (work-left (rowNumbers rows) (length answer) work l)
+left-by (lw-job-open table next ties work) l = open-left table next ties work l
+left-by (lw-job-step table next ties work) l = step-left table next ties work l
+left-by (lw-job-answer table next ties work answer) l = one (so-far-left table next ties work answer l)
 left-by (program text) l = refl
 
 -- Every call: an outcome above 2 is that of a refusal.
@@ -93,6 +123,21 @@ module _ (t : List ℕ) (h : isAccepted (firstFault t) ≡ false) where
   unfolding positionsRecord stopAt
   by-positions words = rw h refl
 
+  at-fault : firstFault t ≢ Accepted
+  at-fault e = omega (arith, fault-high (firstFault t) h, ap faultNumber e)
+
+  by-open : (next ties : ℕ) (work : List ℕ) → 16384 ≤ length work → openRecord t (length work) ≡ faultRecord (firstFault t)
+  by-open next ties work memory = refuses t (lent next ties work) 0 .opening memory .of-table at-fault
+
+  by-step : (next ties : ℕ) (work : List ℕ) → 16384 ≤ length work → stepRecord t next ties work ≡ faultRecord (firstFault t)
+  unfolding stepTold
+  by-step next ties work memory = refuses t (lent next ties work) 0 .step memory .of-table at-fault
+
+  by-so-far : (next ties : ℕ) (work answer : List ℕ) → 16384 ≤ length work → 24576 ≤ length answer
+      → jobAnswerRecord t next ties work (length answer) ≡ faultRecord (firstFault t)
+  unfolding answerTold
+  by-so-far next ties work answer memory room = refuses t (lent next ties work) (length answer) .answer memory room .of-table at-fault
+
   by-each : (c : Call) → Takes t c → recordOf c ≡ faultRecord (firstFault t)
   by-each (lw-value table row pattern value) e = rw e (by-value row pattern (length value))
   by-each (lw-normal-form table row form) e = rw e (by-form row (length form))
@@ -103,6 +148,9 @@ module _ (t : List ℕ) (h : isAccepted (firstFault t) ≡ false) where
   by-each (lw-value-rows rows row pattern value) e = rw e (by-value row pattern (length value))
   by-each (lw-normal-form-rows rows row form) e = rw e (by-form row (length form))
   by-each (lw-solve-rows rows answer work) e = rw (e .0) (by-solve answer work (e .1) (e .2))
+  by-each (lw-job-open table next ties work) e = rw (e .0) (by-open next ties work (e .1))
+  by-each (lw-job-step table next ties work) e = rw (e .0) (by-step next ties work (e .1))
+  by-each (lw-job-answer table next ties work answer) e = rw (e .0) (by-so-far next ties work answer (e .1) (e .2))
   by-each (program text) e = absurd e
 
   -- Each call that takes the table is refused with the record of its first fault.

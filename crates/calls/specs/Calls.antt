@@ -16,8 +16,9 @@ use Rattle.sheets.specs.Program.{programRecord}
 use Rattle.answers.specs.Solve.{solveRecord, answerAfter, workAfter}
 use Rattle.assignments.specs.Call.{patternRecord, patternAfter}
 use Rattle.windows.specs.Call.{positionsRecord, positionsAfter}
+use Rattle.jobs.specs.Call.{openRecord, openJob, openWork, stepRecord, stepJob, stepWork, jobAnswerRecord, jobAnswerAfter}
 
--- A call with all that it is lent, in its order; the program with the text that it has read.
+-- A call with all that it is lent, in its order, a job as its two numbers; the program with the text that it has read.
 pub data Call : Type 0 where
   lw-value : (table : List ℕ) (row : ℕ) (pattern value : List ℕ) → Call
   lw-normal-form : (table : List ℕ) (row : ℕ) (form : List ℕ) → Call
@@ -28,6 +29,9 @@ pub data Call : Type 0 where
   lw-value-rows : (rows : List Row) (row : ℕ) (pattern value : List ℕ) → Call
   lw-normal-form-rows : (rows : List Row) (row : ℕ) (form : List ℕ) → Call
   lw-solve-rows : (rows : List Row) (answer work : List ℕ) → Call
+  lw-job-open : (table : List ℕ) (next ties : ℕ) (work : List ℕ) → Call
+  lw-job-step : (table : List ℕ) (next ties : ℕ) (work : List ℕ) → Call
+  lw-job-answer : (table : List ℕ) (next ties : ℕ) (work answer : List ℕ) → Call
   program : (text : List ℕ) → Call
 
 -- The record that it returns, or prints, as its contract says.
@@ -41,9 +45,12 @@ recordOf (lw-marker-positions table words list) = positionsRecord table words
 recordOf (lw-value-rows rows row pattern value) = valueRecord (rowNumbers rows) row pattern (length value)
 recordOf (lw-normal-form-rows rows row form) = formRecord (rowNumbers rows) row (length form)
 recordOf (lw-solve-rows rows answer work) = solveRecord (rowNumbers rows) (length answer) (length work)
+recordOf (lw-job-open table next ties work) = openRecord table (length work)
+recordOf (lw-job-step table next ties work) = stepRecord table next ties work
+recordOf (lw-job-answer table next ties work answer) = jobAnswerRecord table next ties work (length answer)
 recordOf (program text) = programRecord text
 
--- What is lent to be written, before the call.
+-- What is lent to be written, before the call; a job as the list of its two numbers.
 abbrev pub lentTo : Call → List (List ℕ)
 lentTo (lw-value table row pattern value) = value ∷ []
 lentTo (lw-normal-form table row form) = form ∷ []
@@ -54,6 +61,9 @@ lentTo (lw-marker-positions table words list) = list ∷ []
 lentTo (lw-value-rows rows row pattern value) = value ∷ []
 lentTo (lw-normal-form-rows rows row form) = form ∷ []
 lentTo (lw-solve-rows rows answer work) = answer ∷ work ∷ []
+lentTo (lw-job-open table next ties work) = (next ∷ ties ∷ []) ∷ work ∷ []
+lentTo (lw-job-step table next ties work) = (next ∷ ties ∷ []) ∷ work ∷ []
+lentTo (lw-job-answer table next ties work answer) = answer ∷ []
 lentTo (program text) = []
 
 -- The same after the call, as its contract says.
@@ -67,6 +77,11 @@ leftBy (lw-marker-positions table words list) = positionsAfter table words list 
 leftBy (lw-value-rows rows row pattern value) = valueAfter (rowNumbers rows) row pattern value ∷ []
 leftBy (lw-normal-form-rows rows row form) = formAfter (rowNumbers rows) row form ∷ []
 leftBy (lw-solve-rows rows answer work) = answerAfter (rowNumbers rows) answer (length work) ∷ workAfter (rowNumbers rows) (length answer) work ∷ []
+leftBy (lw-job-open table next ties work) =
+    (openJob table next ties (length work) .next ∷ openJob table next ties (length work) .ties ∷ []) ∷ openWork table work ∷ []
+leftBy (lw-job-step table next ties work) =
+    (stepJob table next ties work .next ∷ stepJob table next ties work .ties ∷ []) ∷ stepWork table next ties work ∷ []
+leftBy (lw-job-answer table next ties work answer) = jobAnswerAfter table next ties work answer ∷ []
 leftBy (program text) = []
 
 -- A call is refused with this record and leaves all as it was. The outcome of a call that is not refused is 0, 1 or 2; the number of a refusal
@@ -77,7 +92,8 @@ pub record RefusedWith (found : Record) (c : Call) : Type 0 where
   pub alone : found ≡ refusal (found .outcome) (found .row)
   pub left : leftBy c ≡ lentTo c
 
--- Whether a call takes this term table and comes to look at it: a solve has the room that it asks for before (10). One line for each call.
+-- Whether a call takes this term table and comes to look at it: a solve, or a call of a job, has the room that it asks for before (10). One line
+-- for each call.
 abbrev pub Takes : List ℕ → Call → Type 0
 Takes t (lw-value table row pattern value) = table ≡ t
 Takes t (lw-normal-form table row form) = table ≡ t
@@ -88,6 +104,9 @@ Takes t (lw-marker-positions table words list) = table ≡ t
 Takes t (lw-value-rows rows row pattern value) = rowNumbers rows ≡ t
 Takes t (lw-normal-form-rows rows row form) = rowNumbers rows ≡ t
 Takes t (lw-solve-rows rows answer work) = (rowNumbers rows ≡ t) × (24576 ≤ length answer) × (16384 ≤ length work)
+Takes t (lw-job-open table next ties work) = (table ≡ t) × (16384 ≤ length work)
+Takes t (lw-job-step table next ties work) = (table ≡ t) × (16384 ≤ length work)
+Takes t (lw-job-answer table next ties work answer) = (table ≡ t) × (16384 ≤ length work) × (24576 ≤ length answer)
 Takes t (program text) = ⊥
 
 -- A table is refused with this record by each call that takes one.
