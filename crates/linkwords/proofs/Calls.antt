@@ -16,7 +16,8 @@ use contract.Notation.{Connectives, connectives}
 use denote.Triple.Entry.{Args, Res}
 use denote.Triple.Clauses.{Ended, AtExit, ClausesAt}
 use Rattle.terms.specs.declared.Record.{Record}
-use Rattle.calls.specs.Calls.{Call, lw-value, lw-normal-form, lw-read-sheet, lw-solve, lw-make-pattern, lw-marker-positions, lw-value-rows, lw-normal-form-rows, lw-solve-rows, recordOf, leftBy}
+use Rattle.jobs.specs.declared.Job.{Job}
+use Rattle.calls.specs.Calls.{Call, lw-value, lw-normal-form, lw-read-sheet, lw-solve, lw-make-pattern, lw-marker-positions, lw-value-rows, lw-normal-form-rows, lw-solve-rows, lw-job-open, lw-job-step, lw-job-answer, recordOf, leftBy}
 use Rattle.linkwords.proofs.lw_value as value
 use Rattle.linkwords.proofs.lw_normal_form as normal-form
 use Rattle.linkwords.proofs.lw_read_sheet as read-sheet
@@ -26,6 +27,9 @@ use Rattle.linkwords.proofs.lw_marker_positions as marker-positions
 use Rattle.linkwords.proofs.lw_value_rows as value-rows
 use Rattle.linkwords.proofs.lw_normal_form_rows as normal-form-rows
 use Rattle.linkwords.proofs.lw_solve_rows as solve-rows
+use Rattle.linkwords.proofs.lw_job_open as job-open
+use Rattle.linkwords.proofs.lw_job_step as job-step
+use Rattle.linkwords.proofs.lw_job_answer as job-answer
 
 module _ {M : Type 1} (𝓤 : URA M) (H : Heap 𝓤) (A : Atoms 𝓤) (mem : Memory → SProp 𝓤) (run : Routine → Fun 𝓤) where
   open Connectives (connectives 𝓤) using (⌜_⌝, _∗_, ⊤ₛ)
@@ -40,6 +44,10 @@ module _ {M : Type 1} (𝓤 : URA M) (H : Heap 𝓤) (A : Atoms 𝓤) (mem : Mem
 
   abbrev Two : Call → Record → List ℕ → List ℕ → SProp 𝓤
   Two c r x y = ⌜ r ≡ recordOf c ⌝ ∗ ⌜ x ≡ getD (leftBy c) 0 [] ⌝ ∗ ⌜ y ≡ getD (leftBy c) 1 [] ⌝
+
+  -- the same with a job, of which each number is told, and a buffer
+  abbrev Kept : Call → Record → Job → List ℕ → SProp 𝓤
+  Kept c r j x = ⌜ r ≡ recordOf c ⌝ ∗ ⌜ j .next ≡ getD (getD (leftBy c) 0 []) 0 0 ⌝ ∗ ⌜ j .ties ≡ getD (getD (leftBy c) 0 []) 1 0 ⌝ ∗ ⌜ x ≡ getD (leftBy c) 1 [] ⌝
 
   pub value-says : (κs : Lfts 3) (a : Args value.signature κs)
       → value.clauses 𝓤 H A mem run κs a ≡ Ensures value.ended κs (λ r e. One (lw-value (a .0 .now) (a .1 .0) (a .1 .1 .0 .now) (a .1 .1 .1 .0 .now)) r (e .1 .1 .1 .0 .now))
@@ -76,3 +84,15 @@ module _ {M : Type 1} (𝓤 : URA M) (H : Heap 𝓤) (A : Atoms 𝓤) (mem : Mem
   pub solve-rows-says : (κs : Lfts 3) (a : Args solve-rows.signature κs)
       → solve-rows.clauses 𝓤 H A mem run κs a ≡ Ensures solve-rows.ended κs (λ r e. Two (lw-solve-rows (a .0 .now) (a .1 .0 .now) (a .1 .1 .0 .now)) r (e .1 .0 .now) (e .1 .1 .0 .now))
   solve-rows-says κs a = refl
+
+  pub job-open-says : (κs : Lfts 3) (a : Args job-open.signature κs)
+      → job-open.clauses 𝓤 H A mem run κs a ≡ Ensures job-open.ended κs (λ r e. Kept (lw-job-open (a .0 .now) (a .1 .0 .now .next) (a .1 .0 .now .ties) (a .1 .1 .0 .now)) r (e .1 .0 .now) (e .1 .1 .0 .now))
+  job-open-says κs a = refl
+
+  pub job-step-says : (κs : Lfts 3) (a : Args job-step.signature κs)
+      → job-step.clauses 𝓤 H A mem run κs a ≡ Ensures job-step.ended κs (λ r e. Kept (lw-job-step (a .0 .now) (a .1 .0 .now .next) (a .1 .0 .now .ties) (a .1 .1 .0 .now)) r (e .1 .0 .now) (e .1 .1 .0 .now))
+  job-step-says κs a = refl
+
+  pub job-answer-says : (κs : Lfts 4) (a : Args job-answer.signature κs)
+      → job-answer.clauses 𝓤 H A mem run κs a ≡ Ensures job-answer.ended κs (λ r e. One (lw-job-answer (a .0 .now) (a .1 .0 .now .next) (a .1 .0 .now .ties) (a .1 .1 .0 .now) (a .1 .1 .1 .0 .now)) r (e .1 .1 .1 .0 .now))
+  job-answer-says κs a = refl
