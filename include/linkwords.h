@@ -462,17 +462,17 @@ extern "C" {
 #define LW_STACK_VALUE             43456
 #define LW_STACK_NORMAL_FORM      141440
 #define LW_STACK_READ_SHEET         4352
-#define LW_STACK_SOLVE            194816
+#define LW_STACK_SOLVE            162240
 #define LW_STACK_RIGHT_SIDE           64
 #define LW_STACK_MAKE_PATTERN      16576
-#define LW_STACK_MARKER_POSITIONS 172544
+#define LW_STACK_MARKER_POSITIONS 172800
 #define LW_STACK_PAGE               2688
-#define LW_STACK_JOB_OPEN         218816
-#define LW_STACK_JOB_STEP         218816
-#define LW_STACK_JOB_ANSWER       218816
+#define LW_STACK_JOB_OPEN           2496
+#define LW_STACK_JOB_STEP         170048
+#define LW_STACK_JOB_ANSWER       170240
 #define LW_STACK_VALUE_ROWS        47616
 #define LW_STACK_NORMAL_FORM_ROWS 145600
-#define LW_STACK_SOLVE_ROWS       198976
+#define LW_STACK_SOLVE_ROWS       166400
 
 /* the record */
 
