@@ -34,7 +34,7 @@ use Rattle.jobs.proofs.LineNumbers.{no-lines}
 use Rattle.jobs.proofs.Prefix.{up-next}
 use Rattle.jobs.proofs.PrefixPairs.{ties-next}
 use Rattle.jobs.proofs.States.{first-left}
-use Rattle.stepper.specs.inner.Steps.{placedStops, placedRecord, placedJob, placedWork, StepDone, AnswerDone}
+use Rattle.steps.specs.inner.Steps.{placedStops, placedRecord, placedJob, placedWork, StepDone, AnswerDone}
 
 -- ---- a step
 abbrev pub StepEnds : List ℕ → ℕ → ℕ → List ℕ → Record → ℕ → ℕ → List ℕ → Type 0

@@ -15,9 +15,9 @@ use Rattle.terms.specs.inner.Placed.{Placed}
 use Rattle.terms.proofs.AcceptedTable.{accepted-table}
 use Rattle.terms.proofs.Rows.{rows-length}
 use Rattle.jobs.specs.Call.{breaks43}
-use Rattle.stepper.specs.inner.Jobs.{Ready, StateRead}
-use Rattle.stepper.proofs.Stepping.{whole-taken, taken-as}
-use Rattle.stepper.proofs.Trying.{answer-44, past-end, prefix, never-taken, answered-never, answered-row}
+use Rattle.states.specs.inner.Jobs.{Ready, StateRead}
+use Rattle.steps.proofs.Stepping.{whole-taken, taken-as}
+use Rattle.steps.proofs.Trying.{answer-44, past-end, prefix, never-taken, answered-never, answered-row}
 use Rattle.stepper.proofs.answer_with.Statement.{statement}
 use Rattle.stepper.proofs.answer_with.Tie as tie
 

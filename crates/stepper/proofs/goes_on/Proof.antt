@@ -1,7 +1,7 @@
 -- `goes_on` meets its contract. Assumes nothing.
 use mathlib.Core.Path.{_≡_, refl}
 use borrow.Author.Tests.{eq-eqb, ne-eqb}
-use Rattle.stepper.specs.inner.Steps.{goesOn}
+use Rattle.steps.specs.inner.Steps.{goesOn}
 use Rattle.stepper.proofs.goes_on.Statement.{statement}
 use Rattle.stepper.proofs.goes_on.Tie as tie
 

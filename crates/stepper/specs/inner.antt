@@ -1,3 +1,0 @@
-pub mod Prefixes
-pub mod Jobs
-pub mod Steps
