@@ -27,7 +27,7 @@ use Rattle.assignments.specs.Call.{patternRecord}
 use Rattle.windows.specs.Call.{positionsRecord}
 use Rattle.jobs.specs.Prefix.{upTo}
 use Rattle.jobs.specs.Call.{openStops, openRecord, stepStops, stepRecord, jobAnswerStops, jobAnswerRecord}
-use Rattle.calls.specs.Calls.{Call, lw-value, lw-normal-form, lw-read-sheet, lw-solve, lw-make-pattern, lw-marker-positions, lw-value-rows, lw-normal-form-rows, lw-solve-rows, lw-job-open, lw-job-step, lw-job-answer, program, recordOf}
+use Rattle.calls.specs.Calls.{Call, lw-value, lw-normal-form, lw-read-sheet, lw-solve, lw-make-pattern, lw-marker-positions, lw-value-rows, lw-normal-form-rows, lw-solve-rows, lw-job-open, lw-job-step, lw-job-preview, lw-job-answer, program, recordOf}
 
 -- A property of these records.
 module _ (P : Record → Type 0) (fine : (r : Record) → r .outcome ≤ 2 → P r) (refused : (n row : ℕ) → 10 ≤ n → n ≢ 18 → P (refusal n row)) where
@@ -137,6 +137,7 @@ module _ (P : Record → Type 0) (fine : (r : Record) → r .outcome ≤ 2 → P
   of-every-record (lw-solve-rows rows lent work) = solve (rowNumbers rows) _ _
   of-every-record (lw-job-open table next ties work) = job-open table _
   of-every-record (lw-job-step table next ties work) = job-step table _ _ _
+  of-every-record (lw-job-preview table next ties work) = job-step table _ _ _
   of-every-record (lw-job-answer table next ties work lent) = job-answer table _ _ _ _
   of-every-record (program text) = printed text
 

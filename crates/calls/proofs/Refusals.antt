@@ -23,7 +23,7 @@ use Rattle.windows.specs.Call.{positionsRecord, positionsAfter}
 use Rattle.jobs.specs.Call.{openRecord, stepRecord, jobAnswerRecord, jobAnswerAfter}
 use Rattle.jobs.specs.Course.{Lent, afterOpen, afterStep, stepTold, answerTold, answerLeft}
 use Rattle.jobs.proofs.Refusals.{refuses, untouched}
-use Rattle.calls.specs.Calls.{Call, lw-value, lw-normal-form, lw-read-sheet, lw-solve, lw-make-pattern, lw-marker-positions, lw-value-rows, lw-normal-form-rows, lw-solve-rows, lw-job-open, lw-job-step, lw-job-answer, program, recordOf, lentTo, leftBy, RefusedWith, Takes, RefusedByEach}
+use Rattle.calls.specs.Calls.{Call, lw-value, lw-normal-form, lw-read-sheet, lw-solve, lw-make-pattern, lw-marker-positions, lw-value-rows, lw-normal-form-rows, lw-solve-rows, lw-job-open, lw-job-step, lw-job-preview, lw-job-answer, program, recordOf, lentTo, leftBy, RefusedWith, Takes, RefusedByEach}
 use Rattle.calls.proofs.Outcomes.{of-every-record}
 
 -- ---- what is lent stays as it was
@@ -96,6 +96,7 @@ left-by (lw-normal-form-rows rows row form) l = one (form-left (rowNumbers rows)
 left-by (lw-solve-rows rows answer work) l = two (answer-left (rowNumbers rows) answer (length work) l) (work-left (rowNumbers rows) (length answer) work l)
 left-by (lw-job-open table next ties work) l = open-left table next ties work l
 left-by (lw-job-step table next ties work) l = step-left table next ties work l
+left-by (lw-job-preview table next ties work) l = refl
 left-by (lw-job-answer table next ties work answer) l = one (so-far-left table next ties work answer l)
 left-by (program text) l = refl
 
@@ -150,6 +151,7 @@ module _ (t : List ℕ) (h : isAccepted (firstFault t) ≡ false) where
   by-each (lw-solve-rows rows answer work) e = rw (e .0) (by-solve answer work (e .1) (e .2))
   by-each (lw-job-open table next ties work) e = rw (e .0) (by-open next ties work (e .1))
   by-each (lw-job-step table next ties work) e = rw (e .0) (by-step next ties work (e .1))
+  by-each (lw-job-preview table next ties work) e = rw (e .0) (by-step next ties work (e .1))
   by-each (lw-job-answer table next ties work answer) e = rw (e .0) (by-so-far next ties work answer (e .1) (e .2))
   by-each (program text) e = absurd e
 

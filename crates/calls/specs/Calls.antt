@@ -31,6 +31,7 @@ pub data Call : Type 0 where
   lw-solve-rows : (rows : List Row) (answer work : List ℕ) → Call
   lw-job-open : (table : List ℕ) (next ties : ℕ) (work : List ℕ) → Call
   lw-job-step : (table : List ℕ) (next ties : ℕ) (work : List ℕ) → Call
+  lw-job-preview : (table : List ℕ) (next ties : ℕ) (work : List ℕ) → Call
   lw-job-answer : (table : List ℕ) (next ties : ℕ) (work answer : List ℕ) → Call
   program : (text : List ℕ) → Call
 
@@ -47,6 +48,7 @@ recordOf (lw-normal-form-rows rows row form) = formRecord (rowNumbers rows) row 
 recordOf (lw-solve-rows rows answer work) = solveRecord (rowNumbers rows) (length answer) (length work)
 recordOf (lw-job-open table next ties work) = openRecord table (length work)
 recordOf (lw-job-step table next ties work) = stepRecord table next ties work
+recordOf (lw-job-preview table next ties work) = stepRecord table next ties work
 recordOf (lw-job-answer table next ties work answer) = jobAnswerRecord table next ties work (length answer)
 recordOf (program text) = programRecord text
 
@@ -63,6 +65,7 @@ lentTo (lw-normal-form-rows rows row form) = form ∷ []
 lentTo (lw-solve-rows rows answer work) = answer ∷ work ∷ []
 lentTo (lw-job-open table next ties work) = (next ∷ ties ∷ []) ∷ work ∷ []
 lentTo (lw-job-step table next ties work) = (next ∷ ties ∷ []) ∷ work ∷ []
+lentTo (lw-job-preview table next ties work) = []
 lentTo (lw-job-answer table next ties work answer) = answer ∷ []
 lentTo (program text) = []
 
@@ -81,6 +84,7 @@ leftBy (lw-job-open table next ties work) =
     (openJob table next ties (length work) .next ∷ openJob table next ties (length work) .ties ∷ []) ∷ openWork table work ∷ []
 leftBy (lw-job-step table next ties work) =
     (stepJob table next ties work .next ∷ stepJob table next ties work .ties ∷ []) ∷ stepWork table next ties work ∷ []
+leftBy (lw-job-preview table next ties work) = []
 leftBy (lw-job-answer table next ties work answer) = jobAnswerAfter table next ties work answer ∷ []
 leftBy (program text) = []
 
@@ -106,6 +110,7 @@ Takes t (lw-normal-form-rows rows row form) = rowNumbers rows ≡ t
 Takes t (lw-solve-rows rows answer work) = (rowNumbers rows ≡ t) × (24576 ≤ length answer) × (16384 ≤ length work)
 Takes t (lw-job-open table next ties work) = (table ≡ t) × (16384 ≤ length work)
 Takes t (lw-job-step table next ties work) = (table ≡ t) × (16384 ≤ length work)
+Takes t (lw-job-preview table next ties work) = (table ≡ t) × (16384 ≤ length work)
 Takes t (lw-job-answer table next ties work answer) = (table ≡ t) × (16384 ≤ length work) × (24576 ≤ length answer)
 Takes t (program text) = ⊥
 

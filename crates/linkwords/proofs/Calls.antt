@@ -17,7 +17,7 @@ use denote.Triple.Entry.{Args, Res}
 use denote.Triple.Clauses.{Ended, AtExit, ClausesAt}
 use Rattle.terms.specs.declared.Record.{Record}
 use Rattle.jobs.specs.declared.Job.{Job}
-use Rattle.calls.specs.Calls.{Call, lw-value, lw-normal-form, lw-read-sheet, lw-solve, lw-make-pattern, lw-marker-positions, lw-value-rows, lw-normal-form-rows, lw-solve-rows, lw-job-open, lw-job-step, lw-job-answer, recordOf, leftBy}
+use Rattle.calls.specs.Calls.{Call, lw-value, lw-normal-form, lw-read-sheet, lw-solve, lw-make-pattern, lw-marker-positions, lw-value-rows, lw-normal-form-rows, lw-solve-rows, lw-job-open, lw-job-step, lw-job-preview, lw-job-answer, recordOf, leftBy}
 use Rattle.linkwords.proofs.lw_value as value
 use Rattle.linkwords.proofs.lw_normal_form as normal-form
 use Rattle.linkwords.proofs.lw_read_sheet as read-sheet
@@ -29,6 +29,7 @@ use Rattle.linkwords.proofs.lw_normal_form_rows as normal-form-rows
 use Rattle.linkwords.proofs.lw_solve_rows as solve-rows
 use Rattle.linkwords.proofs.lw_job_open as job-open
 use Rattle.linkwords.proofs.lw_job_step as job-step
+use Rattle.linkwords.proofs.lw_job_preview as job-preview
 use Rattle.linkwords.proofs.lw_job_answer as job-answer
 
 module _ {M : Type 1} (𝓤 : URA M) (H : Heap 𝓤) (A : Atoms 𝓤) (mem : Memory → SProp 𝓤) (run : Routine → Fun 𝓤) where
@@ -92,6 +93,10 @@ module _ {M : Type 1} (𝓤 : URA M) (H : Heap 𝓤) (A : Atoms 𝓤) (mem : Mem
   pub job-step-says : (κs : Lfts 3) (a : Args job-step.signature κs)
       → job-step.clauses 𝓤 H A mem run κs a ≡ Ensures job-step.ended κs (λ r e. Kept (lw-job-step (a .0 .now) (a .1 .0 .now .next) (a .1 .0 .now .ties) (a .1 .1 .0 .now)) r (e .1 .0 .now) (e .1 .1 .0 .now))
   job-step-says κs a = refl
+
+  pub job-preview-says : (κs : Lfts 3) (a : Args job-preview.signature κs)
+      → job-preview.clauses 𝓤 H A mem run κs a ≡ Ensures job-preview.ended κs (λ r e. ⌜ r ≡ recordOf (lw-job-preview (a .0 .now) (a .1 .0 .now .next) (a .1 .0 .now .ties) (a .1 .1 .0 .now)) ⌝)
+  job-preview-says κs a = refl
 
   pub job-answer-says : (κs : Lfts 4) (a : Args job-answer.signature κs)
       → job-answer.clauses 𝓤 H A mem run κs a ≡ Ensures job-answer.ended κs (λ r e. One (lw-job-answer (a .0 .now) (a .1 .0 .now .next) (a .1 .0 .now .ties) (a .1 .1 .0 .now) (a .1 .1 .1 .0 .now)) r (e .1 .1 .1 .0 .now))

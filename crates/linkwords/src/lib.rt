@@ -164,6 +164,14 @@ pub extern "C" fn lw_job_step(table: &[u16], job: &mut Job, work: &mut [u16]) ->
     s.found
 }
 
+// What the next step of a job would return.
+#[no_mangle]
+pub extern "C" fn lw_job_preview(table: &[u16], job: &Job, work: &[u16]) -> Record
+    ensures record { λ r. ⌜ r ≡ stepRecord (now (table .entry)) (now (job .entry) .next) (now (job .entry) .ties) (now (work .entry)) ⌝ }
+{
+    stepper::preview_at(table, job.next, job.ties, work)
+}
+
 // The answer so far of a job.
 #[no_mangle]
 pub extern "C" fn lw_job_answer(

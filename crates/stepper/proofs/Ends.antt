@@ -62,6 +62,11 @@ module _ (table : List ℕ) (next ties : ℕ) (work : List ℕ) where
       unfolding stepStops stepRecord stepJob stepWork stopAt stopped placedStops placedRecord placedJob placedWork
       step-done h found next′ ties′ work′ D = rw (le-ltb (length work) 16384 l, accepted, h) (D .found-is, (D .next-is, (D .ties-are, D .work-is)))
 
+      -- its record alone
+      pub record-done : breaks43 (rowsOf table) ≡ false → (found : Record) → found ≡ placedRecord (rowsOf table) next ties work → found ≡ stepRecord table next ties work
+      unfolding stepStops stepRecord stopAt placedStops placedRecord
+      record-done h found e = rw (le-ltb (length work) 16384 l, accepted, h) e
+
 -- ---- the answer so far
 abbrev pub AnswerEnds : List ℕ → ℕ → ℕ → List ℕ → List ℕ → Record → List ℕ → Type 0
 AnswerEnds table next ties work answer found answer′ =

@@ -6,7 +6,7 @@ ghost use Prim.Native.Nat.{suc};
 ghost use lib.Dec.{eqb};
 ghost use lib.ListN.{length};
 ghost use Rattle.jobs.specs.Call.{openRecord, openJob, openWork, stepRecord, stepJob, stepWork, jobAnswerRecord, jobAnswerAfter};
-ghost use Rattle.steps.specs.inner.Steps.{goesOn, StepsPlaced, OpensArea, AnswersPlaced};
+ghost use Rattle.steps.specs.inner.Steps.{goesOn, StepsPlaced, PreviewsPlaced, OpensArea, AnswersPlaced};
 use steps::Step;
 use terms::Record;
 
@@ -100,6 +100,53 @@ pub fn step_at(table: &[u16], next: u32, ties: u32, work: &mut [u16]) -> Step
     }
     let bits = numbers::wide(places[checker::BITS]);
     step_placed(table, &widths[..], &places[..], bits, next, ties, work)
+}
+
+// The record of a step on a job of a table that was checked and placed. The links are an array of its own, of which nothing is kept.
+fn preview_placed(
+    table: &[u16],
+    widths: &[u16],
+    places: &[u16],
+    bits: usize,
+    next: u32,
+    ties: u32,
+    work: &[u16],
+) -> Record
+    ensures { λ r. ⌜ PreviewsPlaced (now (table .entry)) (now (widths .entry)) (now (places .entry)) bits next ties (now (work .entry)) r ⌝ }
+{
+    let mut links = [0u16; 4098];
+    let sources = numbers::lesser(bits, terms::MAX_BITS) + 2;
+    let step = steps::try_step(
+        table,
+        widths,
+        places,
+        bits,
+        next,
+        ties,
+        work,
+        &mut links[..sources],
+    );
+    step.found
+}
+
+// What the next step of a job would return. Nothing that is lent is written.
+pub fn preview_at(table: &[u16], next: u32, ties: u32, work: &[u16]) -> Record
+    ensures record { λ r. ⌜ r ≡ stepRecord (now (table .entry)) next ties (now (work .entry)) ⌝ }
+{
+    if work.len() < solver::MEMORY {
+        return records::refuse(10, 0);
+    }
+    let mut widths = [0u16; 512];
+    let mut places = [0u16; 578];
+    let fault = checker::check_and_place(table, &mut widths[..], &mut places[..]);
+    if !records::accepted(fault) {
+        return records::fault_record(fault);
+    }
+    if states::lined(table) {
+        return records::refuse(43, 0);
+    }
+    let bits = numbers::wide(places[checker::BITS]);
+    preview_placed(table, &widths[..], &places[..], bits, next, ties, work)
 }
 
 // The work area of a job that is opened: each place holds itself, and all else is 0.

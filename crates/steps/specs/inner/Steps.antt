@@ -81,6 +81,12 @@ StepsPlaced table widths places bits next ties work work′ found next′ ties�
     Placed table widths places → breaks43 (rowsOf table) ≡ false → bits ≡ bitsOf (rowsOf table) → 16384 ≤ length work
     → StepDone (rowsOf table) next ties work work′ found next′ ties′
 
+-- The record of the step, where nothing is written.
+abbrev pub PreviewsPlaced : List ℕ → List ℕ → List ℕ → ℕ → ℕ → ℕ → List ℕ → Record → Type 0
+PreviewsPlaced table widths places bits next ties work found =
+    Placed table widths places → breaks43 (rowsOf table) ≡ false → bits ≡ bitsOf (rowsOf table) → 16384 ≤ length work
+    → found ≡ placedRecord (rowsOf table) next ties work
+
 -- The area of a job that is opened, with room for so many places: each holds itself, and all else is 0.
 abbrev pub OpensArea : ℕ → List ℕ → List ℕ → Type 0
 OpensArea bits work work′ = bits ≤ 4096 → bits ≤ length work → work′ ≡ overwrite (countUp 0 bits) (replicate (length work) 0)
