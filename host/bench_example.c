@@ -29,29 +29,18 @@ static int refused(const char *what, lw_record record)
     return 2;
 }
 
-/* The answer of a table that every pattern meets: one fresh piece for each variable, and at home there. */
-static uint32_t free_answer(uint32_t rows)
-{
-    uint16_t variables = 0;
-    for (uint32_t r = 0; r < rows; r++)
-        if (table[4 * r] == LW_VARIABLE) {
-            uint16_t *row = answer + LW_ANSWER_ROW_NUMBERS * variables, width = table[4 * r + 1];
-            row[0] = variables, row[1] = LW_FRESH, row[2] = width, row[3] = variables;
-            row[4] = variables, row[5] = (uint16_t)(width - 1);
-            variables++;
-        }
-    return variables;
-}
-
-static void print_pattern(uint32_t rows)
+/* Prints a pattern of the table: its variables have their widths in turn. */
+static void print_pattern(const uint8_t *bits, uint32_t rows)
 {
     size_t at = 0;
     for (uint32_t r = 0; r < rows; r++) {
-        const uint16_t *row = answer + LW_ANSWER_ROW_NUMBERS * r;
-        if (r != 0 && row[0] != row[-LW_ANSWER_ROW_NUMBERS])
+        const uint16_t *row = table + LW_ROW_NUMBERS * r;
+        if (row[0] != LW_VARIABLE)
+            continue;
+        if (at != 0)
             putchar(' ');
-        for (uint16_t i = 0; i < row[2]; i++)
-            putchar(pattern[at++] == 1 ? '1' : '0');
+        for (uint16_t i = 0; i < row[1]; i++)
+            putchar(bits[at++] == 1 ? '1' : '0');
     }
     putchar('\n');
 }
@@ -85,7 +74,8 @@ int main(int argc, char **argv)
     lw_record read = lw_read_sheet(sheet, len, table, LW_TABLE_NUMBERS);
     if (read.outcome != LW_ACCEPTED)
         return refused("sheet", read);
-    lw_record solved = lw_solve(table, 4 * read.pieces, answer, LW_ANSWER_NUMBERS, work, LW_WORK_NUMBERS);
+    size_t table_len = LW_ROW_NUMBERS * read.pieces;
+    lw_record solved = lw_solve(table, table_len, answer, LW_ANSWER_NUMBERS, work, LW_WORK_NUMBERS);
     if (solved.outcome > LW_SOLVED)
         return refused("table", solved);
     if (solved.outcome == LW_NEVER) {
@@ -93,14 +83,16 @@ int main(int argc, char **argv)
         return 1;
     }
 
-    uint32_t rows = solved.outcome == LW_SOLVED ? solved.pieces : free_answer(read.pieces);
+    /* Of a solved table the fresh bits are counted up; after LW_ALWAYS the patterns themselves, any bits being one. */
     printf("2^%" PRIu32 " patterns\n", solved.free);
     for (unsigned long i = 0; i < most; i++) {
-        lw_record made = lw_make_pattern(answer, LW_ANSWER_ROW_NUMBERS * rows, fresh, solved.free, pattern,
-                                         sizeof pattern);
-        if (made.outcome != LW_ACCEPTED)
-            return refused("answer", made);
-        print_pattern(rows);
+        if (solved.outcome == LW_SOLVED) {
+            lw_record made = lw_make_pattern(table, table_len, answer, LW_ANSWER_ROW_NUMBERS * solved.pieces, fresh,
+                                             solved.free, pattern, sizeof pattern, work, LW_WORK_NUMBERS);
+            if (made.outcome != LW_ACCEPTED)
+                return refused("answer", made);
+        }
+        print_pattern(solved.outcome == LW_SOLVED ? pattern : fresh, read.pieces);
         if (!next_fresh(solved.free))
             break;
     }

@@ -7,6 +7,9 @@
 #include "plain_pattern.h"
 
 #include <stdbool.h>
+#include <string.h>
+
+#include "plain_solver.h"
 
 enum { FRESH = 2, NUMBERS = 65536 };
 
@@ -263,8 +266,8 @@ unsigned plain_faults(const uint16_t *answer, size_t answer_len)
     return faults;
 }
 
-lw_record plain_make_pattern(const uint16_t *answer, size_t answer_len, const uint8_t *fresh, size_t fresh_len,
-                             uint8_t *pattern, size_t pattern_len)
+lw_record plain_fill(const uint16_t *answer, size_t answer_len, const uint8_t *fresh, size_t fresh_len,
+                     uint8_t *pattern, size_t pattern_len)
 {
     if (plain_faults(answer, answer_len) != 0)
         return (lw_record){.outcome = 33};
@@ -284,4 +287,34 @@ lw_record plain_make_pattern(const uint16_t *answer, size_t answer_len, const ui
             pattern[place++] = row.kind == FRESH ? fresh[starts[row.fresh] + i] : (uint8_t)row.kind;
     }
     return (lw_record){.free = (uint32_t)bits};
+}
+
+/* Whether an accepted table is solved, and the answer is its own, number by number. */
+static bool own_answer(const uint16_t *table, const ref_table *facts, const uint16_t *answer, size_t answer_len)
+{
+    static uint16_t own[6 * PLAIN_BITS];
+    lw_record solved = plain_solve(table, facts, own);
+    if (solved.outcome != 2 || answer_len != 6 * (size_t)solved.pieces)
+        return false;
+    return memcmp(answer, own, answer_len * sizeof *own) == 0;
+}
+
+lw_record plain_make_pattern(const uint16_t *table, size_t table_len, const uint16_t *answer, size_t answer_len,
+                             const uint8_t *fresh, size_t fresh_len, uint8_t *pattern, size_t pattern_len,
+                             uint16_t *work, size_t work_len)
+{
+    static ref_table facts;
+
+    if (work_len < 16384)
+        return (lw_record){.outcome = 10};
+    lw_record accepted = ref_check(table, table_len, &facts);
+    if (accepted.outcome != 0)
+        return accepted;
+    if (plain_faults(answer, answer_len) != 0)
+        return (lw_record){.outcome = 33};
+    for (size_t i = 0; i < work_len; i++)
+        work[i] = 0;
+    if (!own_answer(table, &facts, answer, answer_len))
+        return (lw_record){.outcome = 46};
+    return plain_fill(answer, answer_len, fresh, fresh_len, pattern, pattern_len);
 }

@@ -3,7 +3,8 @@
 
   It is written from the specification's text alone, one function for each
   sentence on the form of an answer table, and shares no code with the library.
-  The record is the only thing that it takes from linkwords.h.
+  What a table's own answer is it has from plain_solver.h. The record is the only
+  thing that it takes from linkwords.h.
 */
 
 #ifndef PLAIN_PATTERN_H
@@ -31,8 +32,17 @@ unsigned plain_faults(const uint16_t *answer, size_t answer_len);
 size_t plain_pattern_bits(const uint16_t *answer, size_t answer_len);
 size_t plain_fresh_bits(const uint16_t *answer, size_t answer_len);
 
+/*
+  The pattern that an answer table of the form gives with the fresh bits, wherever
+  the table comes from: 33, 34, 32, or the pattern, which is written. Not
+  reentrant.
+*/
+lw_record plain_fill(const uint16_t *answer, size_t answer_len, const uint8_t *fresh, size_t fresh_len,
+                     uint8_t *pattern, size_t pattern_len);
+
 /* What lw_make_pattern yields and writes. Not reentrant. */
-lw_record plain_make_pattern(const uint16_t *answer, size_t answer_len, const uint8_t *fresh, size_t fresh_len,
-                             uint8_t *pattern, size_t pattern_len);
+lw_record plain_make_pattern(const uint16_t *table, size_t table_len, const uint16_t *answer, size_t answer_len,
+                             const uint8_t *fresh, size_t fresh_len, uint8_t *pattern, size_t pattern_len,
+                             uint16_t *work, size_t work_len);
 
 #endif /* PLAIN_PATTERN_H */

@@ -103,7 +103,7 @@ static void print_patterns(void)
     for (size_t first = 0; first < 2; first++) {
         for (size_t i = 0; i < solved.free; i++)
             fresh[i] = i % 2 == first;
-        lw_record record = plain_make_pattern(answer, 6 * solved.pieces, fresh, solved.free, pattern, facts.bits);
+        lw_record record = plain_fill(answer, 6 * solved.pieces, fresh, solved.free, pattern, facts.bits);
         print_values(record);
         print_bits(pattern, record.free);
     }

@@ -3,25 +3,21 @@
 
       test_pattern [TABLES]
 
-  First patterns and refusals worked by hand: each way to break the form of an
-  answer table by itself, and the order of the refusals. Then TABLES random
-  answer tables (60000 if not given), most of them of the form and the others
-  with one number changed: test_pattern_random.c. Last random tables with
-  equations, which lw_solve solves: test_pattern_solved.c. Every call is made on
-  guarded buffers, and its record and every byte of every buffer are compared.
+  First patterns worked by hand, each way to break the form of an answer table by
+  itself, and the order of the refusals. Then answer tables that are not the
+  table's own, and refused tables and work areas: test_pattern_other.c. Then
+  TABLES random answer tables (60000 if not given), with tables made for them:
+  test_pattern_random.c. Last random tables with equations, which lw_solve solves:
+  test_pattern_solved.c. Every call is made on guarded buffers, and its record and
+  every byte of every buffer are compared.
 
   The run fails too if some kind of random table is missing; so there should be
   at least 20000.
 */
 
 #include "guard.h"
+#include "large_table.h"
 #include "test_pattern.h"
-
-#define NO_ROWS NULL, 0
-
-/* Bits as two arguments: bytes and their count. */
-#define BYTES(...) (const uint8_t[]){__VA_ARGS__}, sizeof((const uint8_t[]){__VA_ARGS__})
-#define NO_BITS    NULL, 0
 
 void put(answer_table *a, size_t variable, size_t kind, size_t width, size_t fresh)
 {
@@ -41,9 +37,36 @@ void close_rows(answer_table *a)
     set_homes(a->numbers, a->len / 6);
 }
 
-/* Calls and what they are compared with. */
+bool make_table_of(const uint16_t *answer, size_t len, table *t)
+{
+    size_t rows = len / 6, bits[64] = {0}, variables = rows == 0 ? 0 : answer[len - 6] + 1U;
 
-static const lw_record refused_33 = {.outcome = 33}, refused_34 = {.outcome = 34}, refused_32 = {.outcome = 32};
+    if (2 * rows + variables > 512)
+        return false;
+    t->len = 0;
+    for (size_t r = 0; r < rows; r++)
+        bits[answer[6 * r]] += answer[6 * r + 2];
+    for (size_t v = 0; v < variables; v++)
+        add(t, VARIABLE(bits[v]));
+    for (size_t r = 0, v = 0; v < variables; v++) {
+        size_t side = SIZE_MAX;
+        for (; r < rows && answer[6 * r] == v; r++) {
+            const uint16_t *n = answer + 6 * r;
+            size_t part = t->len / 4;
+            if (n[1] == LW_FRESH)
+                add(t, CUT(n[4], n[5], n[5] + 1U - n[2]));
+            else
+                add(t, FILL(n[1], n[2]));
+            if (side != SIZE_MAX)
+                add(t, JOIN(side, part));
+            side = t->len / 4 - 1;
+        }
+        add(t, EQUATION(v, side));
+    }
+    return true;
+}
+
+/* Calls and what they are compared with. */
 
 void print_answer(const uint16_t *answer, size_t len)
 {
@@ -53,26 +76,73 @@ void print_answer(const uint16_t *answer, size_t len)
     printf("%s\n", len > 144 ? " .." : "");
 }
 
-void call(where at, const char *name, const uint16_t *answer, size_t len, const uint8_t *fresh, size_t fresh_len,
-          const uint8_t *content, size_t pattern_len, lw_record want, const uint8_t *want_pattern)
+/* The work area of a length, which is used again from call to call. */
+static guarded *area_of(size_t len)
 {
-    unsigned long failed = checks_failed;
-    guarded a = guard(answer, len * sizeof *answer);
-    guarded f = guard(fresh, fresh_len);
-    guarded p = guard(content, pattern_len);
+    static guarded areas[8];
+    static size_t lens[COUNT(areas)], made;
+    size_t i = 0;
 
-    lw_record got = lw_make_pattern(guarded_buffer(&a), len, guarded_buffer(&f), fresh_len, guarded_buffer(&p),
-                                    pattern_len);
+    while (i < made && lens[i] != len)
+        i++;
+    if (i == COUNT(areas)) {
+        printf("too many lengths of work areas\n");
+        exit(1);
+    }
+    if (i == made) {
+        areas[made] = guard(NULL, len * sizeof(uint16_t));
+        lens[made++] = len;
+    }
+    return &areas[i];
+}
+
+/* Numbers none of which is 0. */
+static void put_noise(guarded *area, size_t len)
+{
+    static uint16_t noise[LONG_AREA + 64];
+    for (size_t i = COUNT(noise); noise[0] == 0 && i != 0; i--)
+        noise[i - 1] = (uint16_t)(random_number() | 1);
+    guard_put(area, noise + below(64), len * sizeof *noise);
+}
+
+void call(where at, const char *name, const lent *in, lw_record want, const uint8_t *want_pattern)
+{
+    static const uint16_t zeros[LONG_AREA];
+    unsigned long failed = checks_failed;
+    guarded t = guard(in->table, in->table_len * sizeof *in->table);
+    guarded a = guard(in->answer, in->answer_len * sizeof *in->answer);
+    guarded f = guard(in->fresh, in->fresh_len);
+    guarded p = guard(in->content, in->pattern_len), *w = area_of(in->work_len);
+
+    if (!in->used)
+        put_noise(w, in->work_len);
+    lw_record got = lw_make_pattern(guarded_buffer(&t), in->table_len, guarded_buffer(&a), in->answer_len,
+                                    guarded_buffer(&f), in->fresh_len, guarded_buffer(&p), in->pattern_len,
+                                    guarded_buffer(w), in->work_len);
     if (want.outcome == 0)
         guard_expect(&p, want_pattern, want.free);
+    if (want.outcome == 0 || want.outcome == 46 || want.outcome == 34 || want.outcome == 32)
+        guard_expect(w, zeros, in->work_len * sizeof *zeros);
     check_record(at, name, got, want);
+    guard_check(&t, at, "table");
     guard_check(&a, at, "answer table");
     guard_check(&f, at, "fresh bytes");
     guard_check(&p, at, "pattern");
+    guard_compare(w, at, "work area");
     if (checks_failed != failed && failed == 0) {
-        printf("  %s, %zu fresh bytes, output of %zu bytes\n", name, fresh_len, pattern_len);
-        print_answer(answer, len);
+        printf("  %s, %zu fresh bytes, output of %zu bytes, work area of %zu numbers\n", name, in->fresh_len,
+               in->pattern_len, in->work_len);
+        print_table(in->table, in->table_len);
+        print_answer(in->answer, in->answer_len);
     }
+}
+
+void call_both(where at, const char *name, lent in, lw_record want, const uint8_t *want_pattern)
+{
+    in.work_len = AREA;
+    call(at, name, &in, want, want_pattern);
+    in.work_len = LONG_AREA;
+    call(at, name, &in, want, want_pattern);
 }
 
 /* Bytes of a length, all zeros but for one place. */
@@ -86,76 +156,92 @@ static const uint8_t *zeros_but(size_t len, size_t place, uint8_t byte)
 }
 
 /* Fresh bytes of another number, or with one above 1: 34, also where the output is too short. */
-static void refuse_fresh(where at, const uint16_t *answer, size_t len, const uint8_t *fresh, size_t fresh_len,
-                         size_t bits)
+static void refuse_fresh(where at, lent in, size_t bits)
 {
     static const uint8_t above[] = {2, 3, 128, 254, 255};
     static uint8_t bytes[LONG];
-    const size_t others[] = {0, fresh_len / 2, fresh_len - 1, fresh_len + 1, fresh_len + 2, bits, bits + 1, BITS,
-                             65535, 65536 + fresh_len};
-    const size_t places[] = {0, fresh_len / 3, fresh_len / 2, fresh_len - 1};
+    const size_t right = in.fresh_len, others[] = {0, right / 2, right - 1, right + 1, right + 2, bits, bits + 1, BITS,
+                                                   65535, 65536 + right};
+    const size_t places[] = {0, right / 3, right / 2, right - 1};
 
     memset(bytes, 0, sizeof bytes);
-    if (fresh_len != 0)
-        memcpy(bytes, fresh, fresh_len);
-    for (size_t i = 0; i < COUNT(others); i++)
-        if (others[i] <= LONG && others[i] != fresh_len) { /* none less one is far above LONG */
-            call(at, "other number of fresh bytes", answer, len, bytes, others[i], NULL, bits + 3, refused_34, NULL);
-            call(at, "the same, output empty", answer, len, bytes, others[i], NULL, 0, refused_34, NULL);
-        }
-    for (size_t i = 0; i < COUNT(places) && fresh_len != 0; i++)
-        for (size_t k = 0; k < sizeof above; k++) {
-            uint8_t kept = bytes[places[i]];
-            bytes[places[i]] = above[k];
-            call(at, "a fresh byte above 1", answer, len, bytes, fresh_len, NULL, bits, refused_34, NULL);
-            call(at, "the same, output too short", answer, len, bytes, fresh_len, NULL, bits - 1, refused_34, NULL);
-            bytes[places[i]] = kept;
-        }
-    bytes[fresh_len] = 2;
-    call(at, "a fresh byte too many, above 1", answer, len, bytes, fresh_len + 1, NULL, bits, refused_34, NULL);
+    if (right != 0)
+        memcpy(bytes, in.fresh, right);
+    in.fresh = bytes;
+    for (size_t i = 0; i < 2 * COUNT(others); i++) {
+        in.fresh_len = others[i / 2];
+        in.pattern_len = i % 2 == 0 ? bits + 3 : 0;
+        if (in.fresh_len <= LONG && in.fresh_len != right) /* none less one is far above LONG */
+            call_both(at, "other number of fresh bytes", in, REFUSED(34), NULL);
+    }
+    in.fresh_len = right;
+    for (size_t i = 0; i < COUNT(places) * sizeof above && right != 0; i++) {
+        size_t place = places[i % COUNT(places)];
+        uint8_t kept = bytes[place];
+        bytes[place] = above[i / COUNT(places)];
+        in.pattern_len = bits - i % 2;
+        call_both(at, "a fresh byte above 1", in, REFUSED(34), NULL);
+        bytes[place] = kept;
+    }
+    bytes[right] = 2;
+    in.fresh_len = right + 1;
+    call_both(at, "a fresh byte too many, above 1", in, REFUSED(34), NULL);
 }
 
 /*
-  The answer table, rows of six numbers, gives this pattern with these fresh
-  bytes: in an output of exactly its length and in longer ones, whatever stands
-  there before. Other fresh bytes are refused 34, a shorter output is refused 32.
+  The answer table, rows of six numbers, is the table's own and gives this
+  pattern with these fresh bytes: in an output of exactly its length and in longer
+  ones, whatever stands there before. Other fresh bytes are refused 34, a shorter
+  output is refused 32.
 */
-static void accept_rows(where at, const uint16_t *answer, size_t len, const uint8_t *fresh, size_t fresh_len,
-                        const uint8_t *pattern, size_t bits)
+static void accept_rows(where at, lent in, const uint8_t *pattern, size_t bits)
 {
     static uint8_t content[LONG];
+    static uint16_t area[AREA];
     static const uint8_t likes[] = {0, 1, 2, 255};
-    const size_t longer[] = {bits + 1, bits + 2, bits + 9, BITS + 1, 65535, 65536, 65536 + bits};
+    const size_t longer[] = {bits, bits + 1, bits + 2, bits + 9, BITS + 1, 65535, 65536, 65536 + bits};
+    const size_t shorter[] = {bits - 1, bits / 2, 0};
     lw_record want = {.free = (uint32_t)bits};
 
     /* A slip in what is expected is found too. */
     memset(content, 9, bits);
-    check_record(at, "plain pattern maker", plain_make_pattern(answer, len, fresh, fresh_len, content, bits), want);
-    check(bits == 0 || memcmp(content, pattern, bits) == 0, at, "the plain pattern maker's pattern is another");
+    check_record(at, "plain pattern maker",
+                 plain_make_pattern(in.table, in.table_len, in.answer, in.answer_len, in.fresh, in.fresh_len, content,
+                                    bits, area, AREA), want);
+    check(memcmp(content, pattern, bits) == 0, at, "the plain pattern maker's pattern is another");
 
-    call(at, "accepted", answer, len, fresh, fresh_len, NULL, bits, want, pattern);
-    for (size_t i = 0; i < COUNT(longer); i++)
-        call(at, "accepted, longer output", answer, len, fresh, fresh_len, NULL, longer[i], want, pattern);
+    for (size_t i = 0; i < COUNT(longer); i++) {
+        in.pattern_len = longer[i];
+        call_both(at, "accepted", in, want, pattern);
+    }
+    in.pattern_len = bits + 5;
+    in.content = content;
     for (size_t k = 0; k < sizeof likes; k++) {
         memset(content, likes[k], bits + 5);
-        call(at, "accepted, output of like bytes", answer, len, fresh, fresh_len, content, bits + 5, want, pattern);
+        call_both(at, "accepted, output of like bytes", in, want, pattern);
     }
-    refuse_fresh(at, answer, len, fresh, fresh_len, bits);
-    if (bits != 0) {
-        call(at, "output one byte too short", answer, len, fresh, fresh_len, NULL, bits - 1, refused_32, NULL);
-        call(at, "output of half the bytes", answer, len, fresh, fresh_len, NULL, bits / 2, refused_32, NULL);
-        call(at, "output empty", answer, len, fresh, fresh_len, NULL, 0, refused_32, NULL);
+    in.content = NULL;
+    refuse_fresh(at, in, bits);
+    for (size_t i = 0; i < COUNT(shorter); i++) {
+        in.pattern_len = shorter[i];
+        call_both(at, "output too short", in, REFUSED(32), NULL);
     }
 }
 
 /*
   The answer table, rows of six numbers, breaks these clauses of the form and no
-  others. It is refused 33, with as many fresh bytes as it seems to have fresh
-  bits and as much output as it seems to need; and so it is with other fresh
-  bytes and other outputs.
+  others. It is refused 33, whatever the table is, with as many fresh bytes as it
+  seems to have fresh bits and as much output as it seems to need; and so it is
+  with other fresh bytes and other outputs.
 */
 static void refuse_rows(where at, unsigned clauses, const uint16_t *answer, size_t len)
 {
+    static const uint16_t solved[] = {VARIABLE(8), CUT(0, 6, 3), CUT(0, 4, 1), EQUATION(1, 2)};
+    static const uint16_t always[] = {VARIABLE(2), VARIABLE(3)}, never[] = {VARIABLE(4), FILL(0, 1), FILL(1, 1), EQUATION(1, 2)};
+    static const uint16_t ones[] = {VARIABLE(2), FILL(1, 2), EQUATION(0, 1)};
+    static const struct { const uint16_t *numbers; size_t len; } good[] = {
+        {solved, COUNT(solved)}, {ones, COUNT(ones)}, {always, COUNT(always)}, {never, COUNT(never)}, {NULL, 0},
+    };
     size_t fresh = plain_fresh_bits(answer, len), bits = plain_pattern_bits(answer, len);
     unsigned faults = plain_faults(answer, len);
     const size_t lens[] = {fresh, 0, 1, fresh + 1, BITS}, outputs[] = {bits, 0, bits + 7, BITS, 65536};
@@ -163,15 +249,15 @@ static void refuse_rows(where at, unsigned clauses, const uint16_t *answer, size
     check(faults == clauses, at, "clauses broken are %x, expected %x", faults, clauses);
     for (size_t i = 0; i < COUNT(lens); i++)
         for (size_t k = 0; k < COUNT(outputs); k++) {
+            size_t g = (i + k) % COUNT(good);
+            lent in = {.table = good[g].numbers, .table_len = good[g].len, .answer = answer, .answer_len = len,
+                       .fresh_len = lens[i], .pattern_len = outputs[k], .work_len = (i + k) % 2 == 0 ? AREA : LONG_AREA};
             if (lens[i] > LONG || outputs[k] > LONG)
                 continue;
-            const uint8_t *bytes = zeros_but(lens[i], SIZE_MAX, 0);
-            call(at, "not of the form", answer, len, bytes, lens[i], NULL, outputs[k], refused_33, NULL);
-            if (lens[i] != 0) {
-                bytes = zeros_but(lens[i], lens[i] / 2, 2);
-                call(at, "not of the form, a byte above 1", answer, len, bytes, lens[i], NULL, outputs[k], refused_33,
-                     NULL);
-            }
+            in.fresh = zeros_but(lens[i], SIZE_MAX, 0);
+            call(at, "not of the form", &in, REFUSED(33), NULL);
+            in.fresh = zeros_but(lens[i], lens[i] / 2, 2);
+            call(at, "not of the form, a byte above 1", &in, REFUSED(33), NULL);
         }
 }
 
@@ -182,11 +268,62 @@ static void refuse_rows(where at, unsigned clauses, const uint16_t *answer, size
 enum { MANY_ROWS = 65538 };
 static uint16_t six[6 * MANY_ROWS];
 
+/* An answer table as it is lent with a table, and fresh bytes. */
+static lent lend(const uint16_t *numbers, size_t table_len, size_t rows, const uint8_t *fresh, size_t fresh_len)
+{
+    return (lent){.table = numbers, .table_len = table_len, .answer = six, .answer_len = 6 * rows, .fresh = fresh,
+                  .fresh_len = fresh_len};
+}
+
+/* It is the answer of this table. */
+static void accept_of(where at, const uint16_t *numbers, size_t table_len, const uint16_t *four, size_t len,
+                      const uint8_t *fresh, size_t fresh_len, const uint8_t *pattern, size_t bits)
+{
+    add_homes(four, len / 4, six);
+    accept_rows(at, lend(numbers, table_len, len / 4, fresh, fresh_len), pattern, bits);
+}
+
+/* It is the answer of the table that is made for it: written down by its six numbers, or by four. */
+
+static void accept_six(where at, const uint16_t *answer, size_t len, const uint8_t *fresh, size_t fresh_len,
+                       const uint8_t *pattern, size_t bits)
+{
+    static table t;
+    check(make_table_of(answer, len, &t), at, "too many rows");
+    accept_rows(at, (lent){.table = t.numbers, .table_len = t.len, .answer = answer, .answer_len = len, .fresh = fresh,
+                           .fresh_len = fresh_len}, pattern, bits);
+}
+
 static void accept(where at, const uint16_t *four, size_t len, const uint8_t *fresh, size_t fresh_len,
                    const uint8_t *pattern, size_t bits)
 {
     add_homes(four, len / 4, six);
-    accept_rows(at, six, len / 4 * 6, fresh, fresh_len, pattern, bits);
+    accept_six(at, six, len / 4 * 6, fresh, fresh_len, pattern, bits);
+}
+
+/*
+  It is the answer of no table, though it has the form, since each of its
+  patterns meets a table, or since its pieces could be longer. The table that is
+  made for it refuses it 46, and this one too.
+*/
+static void refuse_other(where at, const uint16_t *numbers, size_t table_len, const uint16_t *four, size_t len)
+{
+    static table t;
+    const size_t outputs[] = {0, BITS};
+
+    add_homes(four, len / 4, six);
+    check(plain_faults(six, len / 4 * 6) == 0, at, "not of the form");
+    size_t right = plain_fresh_bits(six, len / 4 * 6);
+    bool made = make_table_of(six, len / 4 * 6, &t);
+    for (size_t i = 0; i < COUNT(outputs); i++)
+        for (size_t fresh = right; fresh < right + 2; fresh++) {
+            lent in = lend(numbers, table_len, len / 4, zeros_but(fresh, SIZE_MAX, 0), fresh);
+            in.pattern_len = outputs[i];
+            call_both(at, "no table's answer", in, REFUSED(46), NULL);
+            in.table = t.numbers, in.table_len = t.len;
+            if (made)
+                call_both(at, "no table's answer, its own table", in, REFUSED(46), NULL);
+        }
 }
 
 /* Where a high bit is no 16-bit number, it cannot be right. */
@@ -197,7 +334,9 @@ static void refuse_form(where at, unsigned clauses, const uint16_t *four, size_t
 }
 
 #define ACCEPT(...)        accept(HERE, __VA_ARGS__)
-#define ACCEPT_ROWS(...)   accept_rows(HERE, __VA_ARGS__)
+#define ACCEPT_ROWS(...)   accept_six(HERE, __VA_ARGS__)
+#define ACCEPT_OF(...)     accept_of(HERE, __VA_ARGS__)
+#define REFUSE_OTHER(...)  refuse_other(HERE, __VA_ARGS__)
 #define REFUSE_FORM(...)   refuse_form(HERE, __VA_ARGS__)
 #define REFUSE_ROWS(...)   refuse_rows(HERE, __VA_ARGS__)
 
@@ -206,40 +345,41 @@ static void test_constants(void)
 {
     static const constant constants[] = {
         CONSTANT(LW_ACCEPTED, 0), CONSTANT(LW_FRESH, 2), CONSTANT(LW_REFUSED_OUTPUT, 32),
-        CONSTANT(LW_REFUSED_ANSWER, 33), CONSTANT(LW_REFUSED_FRESH, 34), CONSTANT(LW_ANSWER_ROW_NUMBERS, 6),
+        CONSTANT(LW_REFUSED_ANSWER, 33), CONSTANT(LW_REFUSED_FRESH, 34), CONSTANT(LW_REFUSED_OTHER_ANSWER, 46),
+        CONSTANT(LW_REFUSED_MEMORY, 10), CONSTANT(LW_WORK_NUMBERS, 16384), CONSTANT(LW_ANSWER_ROW_NUMBERS, 6),
         CONSTANT(LW_MAX_WIDTH, 1024), CONSTANT(LW_MAX_VARIABLES, 64), CONSTANT(LW_MAX_VARIABLE_BITS, 4096),
     };
     check_constants(HERE, constants, COUNT(constants));
 }
 
-/* The answers of the specification's cases 1 and 2; and no rows. */
+/* The answers of the specification's cases 1 and 2. */
 static void test_worked(void)
 {
+#define SHEET_1 TABLE(VARIABLE(8), CUT(0, 6, 3), CUT(0, 4, 1), EQUATION(1, 2))
 #define CASE_1 ANSWER(FRESH(0, 1, 0), FRESH(0, 2, 1), FRESH(0, 2, 1), FRESH(0, 2, 1), FRESH(0, 1, 2))
-    ACCEPT(CASE_1, BYTES(1, 0, 1, 0), BYTES(1, 0, 1, 0, 1, 0, 1, 0));
-    ACCEPT(CASE_1, BYTES(0, 1, 0, 1), BYTES(0, 1, 0, 1, 0, 1, 0, 1));
-    ACCEPT(CASE_1, BYTES(0, 0, 1, 1), BYTES(0, 0, 1, 0, 1, 0, 1, 1));
-    ACCEPT(CASE_1, BYTES(1, 1, 0, 0), BYTES(1, 1, 0, 1, 0, 1, 0, 0));
+    ACCEPT_OF(SHEET_1, CASE_1, BYTES(1, 0, 1, 0), BYTES(1, 0, 1, 0, 1, 0, 1, 0));
+    ACCEPT_OF(SHEET_1, CASE_1, BYTES(0, 1, 0, 1), BYTES(0, 1, 0, 1, 0, 1, 0, 1));
+    ACCEPT_OF(SHEET_1, CASE_1, BYTES(0, 0, 1, 1), BYTES(0, 0, 1, 0, 1, 0, 1, 1));
+    ACCEPT_OF(SHEET_1, CASE_1, BYTES(1, 1, 0, 0), BYTES(1, 1, 0, 1, 0, 1, 0, 0));
 #undef CASE_1
+#undef SHEET_1
+#define SHEET_2 TABLE(VARIABLE(9), CUT(0, 7, 3), CUT(0, 5, 1), EQUATION(1, 2))
 #define CASE_2 ANSWER(FRESH(0, 1, 0), FRESH(0, 1, 1), FRESH(0, 1, 2), FRESH(0, 1, 1), FRESH(0, 1, 2), FRESH(0, 1, 1), \
                       FRESH(0, 1, 2), FRESH(0, 1, 1), FRESH(0, 1, 3))
-    ACCEPT(CASE_2, BYTES(0, 1, 0, 1), BYTES(0, 1, 0, 1, 0, 1, 0, 1, 1));
-    ACCEPT(CASE_2, BYTES(1, 0, 1, 0), BYTES(1, 0, 1, 0, 1, 0, 1, 0, 0));
+    ACCEPT_OF(SHEET_2, CASE_2, BYTES(0, 1, 0, 1), BYTES(0, 1, 0, 1, 0, 1, 0, 1, 1));
+    ACCEPT_OF(SHEET_2, CASE_2, BYTES(1, 0, 1, 0), BYTES(1, 0, 1, 0, 1, 0, 1, 0, 0));
 #undef CASE_2
-    ACCEPT(NO_ROWS, NO_BITS, NO_BITS);
+#undef SHEET_2
 }
 
-/* Answer tables of every shape, and of shapes that no solve gives. */
+/* Answer tables of every shape. */
 static void test_hand_made(void)
 {
     /* One row. */
-    ACCEPT(ANSWER(FRESH(0, 1, 0)), BYTES(1), BYTES(1));
-    ACCEPT(ANSWER(FRESH(0, 1, 0)), BYTES(0), BYTES(0));
     ACCEPT(ANSWER(ZEROS(0, 1)), NO_BITS, BYTES(0));
     ACCEPT(ANSWER(ONES(0, 1)), NO_BITS, BYTES(1));
     ACCEPT(ANSWER(ZEROS(0, 3)), NO_BITS, BYTES(0, 0, 0));
     ACCEPT(ANSWER(ONES(0, 3)), NO_BITS, BYTES(1, 1, 1));
-    ACCEPT(ANSWER(FRESH(0, 5, 0)), BYTES(1, 1, 0, 1, 0), BYTES(1, 1, 0, 1, 0));
 
     /* Fills beside fresh pieces, fills that differ, and fills of one bit that are no neighbours in one variable. */
     ACCEPT(ANSWER(ONES(0, 2), FRESH(0, 2, 0), ZEROS(0, 1)), BYTES(0, 1), BYTES(1, 1, 0, 1, 0));
@@ -262,20 +402,61 @@ static void test_hand_made(void)
     ACCEPT(ANSWER(FRESH(0, 2, 0), FRESH(0, 1, 1), FRESH(0, 2, 0), FRESH(0, 3, 2), FRESH(0, 1, 1), FRESH(0, 1, 3)),
            BYTES(1, 0, 1, 0, 1, 1, 0), BYTES(1, 0, 1, 1, 0, 0, 1, 1, 1, 0));
 
-    /* Fresh pieces of one width and different numbers; and pieces that could be one. */
-    ACCEPT(ANSWER(FRESH(0, 2, 0), FRESH(0, 2, 1)), BYTES(1, 0, 0, 1), BYTES(1, 0, 0, 1));
-    ACCEPT(ANSWER(FRESH(0, 1, 0), FRESH(0, 2, 1), FRESH(1, 1, 0), FRESH(1, 2, 1)), BYTES(0, 1, 0),
-           BYTES(0, 1, 0, 0, 1, 0));
-    ACCEPT(ANSWER(FRESH(0, 1, 0), FRESH(0, 1, 1), FRESH(0, 1, 2)), BYTES(1, 1, 0), BYTES(1, 1, 0));
+    /* Fresh pieces of one width and different numbers. */
+    ACCEPT(ANSWER(FRESH(0, 2, 0), FRESH(1, 2, 1), FRESH(2, 2, 1)), BYTES(1, 0, 0, 1), BYTES(1, 0, 0, 1, 0, 1));
+    ACCEPT(ANSWER(FRESH(0, 1, 0), FRESH(0, 1, 1), FRESH(1, 1, 1), FRESH(1, 1, 0)), BYTES(0, 1), BYTES(0, 1, 1, 0));
 
     /* The numbers of fills do not count: fresh piece 0 is the first piece that is fresh. */
     ACCEPT(ANSWER(ZEROS(0, 1), ONES(0, 4), ZEROS(1, 2), FRESH(1, 1, 0), FRESH(2, 2, 1)), BYTES(1, 0, 1),
            BYTES(0, 1, 1, 1, 1, 0, 0, 1, 0, 1));
 }
 
+/* Answer tables of the form that are no table's answer. */
+static void test_no_answers(void)
+{
+#define EIGHT TABLE(VARIABLE(8), CUT(0, 6, 3), CUT(0, 4, 1), EQUATION(1, 2))
+#define THREE TABLE(VARIABLE(3), VARIABLE(3), EQUATION(0, 1))
+    /* No rows. */
+    REFUSE_OTHER(NULL, 0, NULL, 0);
+    REFUSE_OTHER(EIGHT, NULL, 0);
+    REFUSE_OTHER(TABLE(FILL(1, 3)), NULL, 0);
+    REFUSE_OTHER(TABLE(FILL(1, 3), FILL(1, 3), EQUATION(0, 1)), NULL, 0);
+    REFUSE_OTHER(TABLE(FILL(1, 3), FILL(0, 3), EQUATION(0, 1)), NULL, 0);
+    REFUSE_OTHER(TABLE(VARIABLE(1), EQUATION(0, 0)), NULL, 0);
+
+    /* Each of their patterns meets the table. */
+    REFUSE_OTHER(TABLE(VARIABLE(1)), ANSWER(FRESH(0, 1, 0)));
+    REFUSE_OTHER(TABLE(VARIABLE(5), EQUATION(0, 0)), ANSWER(FRESH(0, 5, 0)));
+    REFUSE_OTHER(EIGHT, ANSWER(FRESH(0, 8, 0)));
+    REFUSE_OTHER(THREE, ANSWER(FRESH(0, 3, 0), FRESH(1, 3, 1)));
+
+    /* Pieces that could be one. */
+    REFUSE_OTHER(TABLE(VARIABLE(4)), ANSWER(FRESH(0, 2, 0), FRESH(0, 2, 1)));
+    REFUSE_OTHER(THREE, ANSWER(FRESH(0, 1, 0), FRESH(0, 2, 1), FRESH(1, 1, 0), FRESH(1, 2, 1)));
+    REFUSE_OTHER(THREE, ANSWER(FRESH(0, 1, 0), FRESH(0, 1, 1), FRESH(0, 1, 2)));
+    REFUSE_OTHER(TABLE(VARIABLE(4), FILL(1, 1), CUT(0, 0, 0), EQUATION(1, 2)),
+                 ANSWER(FRESH(0, 1, 0), FRESH(0, 2, 1), ONES(0, 1)));
+#undef EIGHT
+#undef THREE
+}
+
+/* All bits of so many variables of 1,024 bits are equal. */
+static void make_equal_bits(table *t, size_t variables)
+{
+    t->len = 0;
+    for (size_t v = 0; v < variables; v++)
+        add(t, VARIABLE(1024));
+    add(t, CUT(0, 1023, 1));
+    add(t, CUT(0, 1022, 0));
+    add(t, EQUATION(variables, variables + 1));
+    for (size_t v = 1; v < variables; v++)
+        add(t, EQUATION(0, v));
+}
+
 /* The exact limits. */
 static void test_limits(void)
 {
+    static table t;
     static answer_table a;
     static uint8_t fresh[BITS], pattern[BITS];
 
@@ -284,9 +465,15 @@ static void test_limits(void)
 
     /* Variable 63: 64 variables of one bit, and of 64 bits that are one fresh piece. */
     a.len = 0;
+    for (size_t v = 0; v < 64; v++) {
+        put(&a, FRESH(v, 1, v % 63));
+        pattern[v] = fresh[v % 63];
+    }
+    ACCEPT(ALL(a), fresh, 63, pattern, 64);
+    a.len = 0;
     for (size_t v = 0; v < 64; v++)
         put(&a, FRESH(v, 1, v));
-    ACCEPT(ALL(a), fresh, 64, fresh, 64);
+    REFUSE_OTHER(NULL, 0, ALL(a));
     a.len = 0;
     for (size_t v = 0; v < 64; v++) {
         put(&a, FRESH(v, 64, 0));
@@ -295,54 +482,56 @@ static void test_limits(void)
     ACCEPT(ALL(a), fresh, 64, pattern, BITS);
 
     /* 1,024 in a variable: in one row, in two, in 1,024. */
-    ACCEPT(ANSWER(FRESH(0, 1024, 0)), fresh, 1024, fresh, 1024);
     memset(pattern, 1, 1024);
     ACCEPT(ANSWER(ONES(0, 1024)), NO_BITS, pattern, 1024);
-    ACCEPT(ANSWER(FRESH(0, 1000, 0), FRESH(0, 24, 1)), fresh, 1024, fresh, 1024);
-    ACCEPT(ANSWER(FRESH(0, 1, 0), FRESH(0, 1023, 1)), fresh, 1024, fresh, 1024);
+    memcpy(pattern + 1, fresh, 1023);
+    ACCEPT(ANSWER(ONES(0, 1), FRESH(0, 1023, 0)), fresh, 1023, pattern, 1024);
     memcpy(pattern, fresh, 512);
     memcpy(pattern + 512, fresh, 512);
     ACCEPT(ANSWER(FRESH(0, 512, 0), FRESH(0, 512, 0)), fresh, 512, pattern, 1024);
     a.len = 0;
     for (size_t i = 0; i < 1024; i++)
-        put(&a, FRESH(0, 1, i));
-    ACCEPT(ALL(a), fresh, 1024, fresh, 1024);
+        put(&a, FRESH(0, 1, 0));
+    make_equal_bits(&t, 1);
+    memset(pattern, 1, 1024);
+    ACCEPT_OF(ALL(t), ALL(a), BYTES(1), pattern, 1024);
+    REFUSE_OTHER(ALL(t), ANSWER(FRESH(0, 1024, 0)));
+    REFUSE_OTHER(ALL(t), ANSWER(FRESH(0, 1000, 0), FRESH(0, 24, 1)));
 
-    /* 4,096 in all: four rows; 64 variables; 4,096 rows of width 1, fresh, all one fresh piece, and fills. */
-    ACCEPT(ANSWER(FRESH(0, 1024, 0), FRESH(1, 1024, 1), FRESH(2, 1024, 2), FRESH(3, 1024, 3)), fresh, BITS, fresh,
+    /* 4,096 in all: four rows; 64 variables; 4,096 rows of width 1, all one fresh piece, and fills. */
+    for (size_t v = 0; v < 4; v++)
+        memcpy(pattern + 1024 * v, fresh, 1024);
+    ACCEPT(ANSWER(FRESH(0, 1024, 0), FRESH(1, 1024, 0), FRESH(2, 1024, 0), FRESH(3, 1024, 0)), fresh, 1024, pattern,
            BITS);
     a.len = 0;
-    for (size_t v = 0; v < 64; v++)
-        put(&a, FRESH(v, 64, v));
-    ACCEPT(ALL(a), fresh, BITS, fresh, BITS);
+    for (size_t v = 0; v < 64; v++) {
+        put(&a, FRESH(v, 64, v / 2));
+        memcpy(pattern + 64 * v, fresh + 64 * (v / 2), 64);
+    }
+    ACCEPT(ALL(a), fresh, BITS / 2, pattern, BITS);
     a.len = 0;
     for (size_t i = 0; i < BITS; i++)
-        put(&a, FRESH(i / 1024, 1, i));
-    ACCEPT(ALL(a), fresh, BITS, fresh, BITS);
-    a.len = 0;
-    for (size_t i = 0; i < BITS; i++)
-        put(&a, FRESH(i / 64, 1, i));
-    ACCEPT(ALL(a), fresh, BITS, fresh, BITS);
-    a.len = 0;
-    for (size_t i = 0; i < BITS; i++)
-        put(&a, FRESH(i / 64, 1, 0));
+        put(&a, FRESH(i / 1024, 1, 0));
+    make_equal_bits(&t, 4);
     memset(pattern, 1, BITS);
-    ACCEPT(ALL(a), BYTES(1), pattern, BITS);
+    ACCEPT_OF(ALL(t), ALL(a), BYTES(1), pattern, BITS);
     a.len = 0;
     for (size_t i = 0; i < BITS; i++) {
         put(&a, i / 1024, i % 2, 1, 0);
         pattern[i] = (uint8_t)(i % 2);
     }
-    ACCEPT(ALL(a), NO_BITS, pattern, BITS);
+    make_fixed_bits(&t);
+    ACCEPT_OF(ALL(t), ALL(a), NO_BITS, pattern, BITS);
 
-    /* The same fresh pieces again in reverse order: 2,048 numbers. */
-    a.len = 0;
-    for (size_t i = 0; i < BITS; i++) {
-        size_t number = i < BITS / 2 ? i : BITS - 1 - i;
-        put(&a, FRESH(i / 1024, 1, number));
-        pattern[i] = fresh[number];
+    /* As many rows as that, fresh, of one bit each, and of 2,048 numbers that come again in reverse order. */
+    for (size_t i = 0; i < 2; i++) {
+        a.len = 0;
+        for (size_t k = 0; k < BITS; k++)
+            put(&a, FRESH(k / 1024, 1, i == 0 || k < BITS / 2 ? k : BITS - 1 - k));
+        REFUSE_OTHER(ALL(t), ALL(a));
+        make_equal_bits(&t, 4);
+        REFUSE_OTHER(ALL(t), ALL(a));
     }
-    ACCEPT(ALL(a), fresh, BITS / 2, pattern, BITS);
 }
 
 /* Refusal 33: variables, kinds. */
@@ -638,7 +827,8 @@ static void test_homes(void)
     }
 
     /* Worked by hand: fine alone, and wrong where the variable goes on. */
-    ACCEPT_ROWS(ANSWER(FRESH_AT(0, 1, 0, 0, 0)), BYTES(1), BYTES(1));
+    ACCEPT_ROWS(ANSWER(ZEROS_AT(0, 1, 0)), NO_BITS, BYTES(0));
+    REFUSE_ROWS(BROKEN(RIGHT_HIGH), ANSWER(ZEROS_AT(0, 1, 0), ONES_AT(0, 1, 0)));
     REFUSE_ROWS(BROKEN(RIGHT_HIGH), ANSWER(FRESH_AT(0, 1, 0, 0, 0), ONES_AT(0, 1, 0)));
     ACCEPT_ROWS(ANSWER(FRESH_AT(0, 1, 0, 0, 1), ONES_AT(0, 1, 0)), BYTES(0), BYTES(0, 1));
 
@@ -700,11 +890,28 @@ static void test_whole_rows(void)
         }
 }
 
-/* 33 before 34 before 32, each alone and in pairs. */
-static void test_order(void)
+/* 10, the table's, 33, 46, 34, 32: each alone, and with each of those behind it. */
+
+enum { ORDER = 6 };
+
+/* What is wrong of a call, in the order of the refusals: 0 for right, or which of its ways. */
+typedef struct {
+    size_t way[ORDER];
+} wrongs;
+
+static const size_t ways[ORDER] = {3, 4, 11, 5, 7, 4}; /* of each, the right one among them */
+
+static void test_one_order(const wrongs *w)
 {
-    static const uint16_t good[] = {FRESH_AT(0, 2, 0, 0, 1), ONES_AT(1, 1, 2), FRESH_AT(1, 2, 0, 0, 1)};
-    static const uint16_t bad[][18] = {
+    static const uint16_t good[] = {VARIABLE(2), VARIABLE(3), FILL(1, 1), JOIN(2, 0), EQUATION(1, 3)};
+    static const uint16_t bad[][20] = {
+        {9, 2, 0, 0, VARIABLE(3), FILL(1, 1), JOIN(2, 0), EQUATION(1, 3)},
+        {VARIABLE(2), VARIABLE(3), FILL(1, 1), JOIN(2, 0), EQUATION(1, 5)},
+        {VARIABLE(2), VARIABLE(3), FILL(1, 1), JOIN(2, 0), CUT(1, 3, 0)},
+    };
+    static const lw_record told[] = {{.outcome = 12}, {.outcome = 14, .row = 4}, {.outcome = 16, .row = 4}};
+    static const uint16_t right[] = {FRESH_AT(0, 2, 0, 0, 1), ONES_AT(1, 1, 2), FRESH_AT(1, 2, 0, 0, 1)};
+    static const uint16_t malformed[][18] = {
         {FRESH_AT(1, 2, 0, 1, 4), ONES_AT(1, 1, 2), FRESH_AT(1, 2, 0, 1, 4)},
         {FRESH_AT(0, 2, 0, 0, 1), ONES_AT(2, 1, 2), FRESH_AT(2, 2, 0, 0, 1)},
         {FRESH_AT(0, 2, 0, 0, 1), 1, 3, 1, 0, 1, 2, FRESH_AT(1, 2, 0, 0, 1)},
@@ -716,50 +923,82 @@ static void test_order(void)
         {FRESH_AT(0, 2, 0, 0, 1), ONES_AT(1, 1, 2), FRESH_AT(1, 2, 0, 1, 1)},
         {FRESH_AT(0, 2, 0, 0, 1), ONES_AT(1, 1, 0), FRESH_AT(1, 2, 0, 0, 1)},
     };
-    static const struct { uint8_t bytes[3]; size_t len; bool right; } fresh[] = {
-        {{1, 0, 0}, 2, true}, {{1, 0, 0}, 1, false}, {{1, 0, 0}, 3, false}, {{1, 0, 0}, 0, false},
-        {{1, 2, 0}, 2, false}, {{255, 0, 0}, 2, false}, {{2, 2, 2}, 3, false},
+    static const uint16_t others[][18] = {
+        {FRESH_AT(0, 2, 0, 0, 1), ZEROS_AT(1, 1, 2), FRESH_AT(1, 2, 0, 0, 1)},
+        {FRESH_AT(0, 2, 0, 0, 1), FRESH_AT(1, 2, 0, 0, 1), ONES_AT(1, 1, 0)},
+        {FRESH_AT(0, 2, 0, 0, 1), ONES_AT(1, 1, 2), FRESH_AT(1, 2, 1, 1, 1)},
+        {FRESH_AT(0, 2, 0, 0, 1), ONES_AT(1, 3, 2), 0}, /* of which the first two rows are lent */
     };
+    static const struct { uint8_t bytes[3]; size_t len; } fresh[] = {
+        {{1, 0, 0}, 2}, {{1, 0, 0}, 1}, {{1, 0, 0}, 3}, {{1, 0, 0}, 0}, {{1, 2, 0}, 2}, {{255, 0, 0}, 2}, {{2, 2, 2}, 3},
+    };
+    static const size_t areas[] = {AREA, AREA - 1, 0}, outputs[] = {5, 4, 1, 0};
     static const uint8_t pattern[] = {1, 0, 1, 1, 0};
-    unsigned long seen[2][2][2] = {{{0}}}; /* by table, fresh bytes and output, right or wrong */
+    const size_t *way = w->way;
+    const lw_record refusals[ORDER] = {REFUSED(10), way[1] == 0 ? REFUSED(0) : told[way[1] - 1], REFUSED(33), REFUSED(46),
+                                       REFUSED(34), REFUSED(32)};
+    lent in = {.table = way[1] == 0 ? good : bad[way[1] - 1], .table_len = COUNT(good), .answer = right,
+               .answer_len = COUNT(right), .fresh = fresh[way[4]].bytes, .fresh_len = fresh[way[4]].len,
+               .pattern_len = outputs[way[5]], .work_len = areas[way[0]]};
 
-    for (size_t t = 0; t <= COUNT(bad) + 1; t++)
-        for (size_t f = 0; f < COUNT(fresh); f++)
-            for (size_t out = 0; out <= 7; out++) {
-                const uint16_t *answer = t < 2 ? good : bad[t - 2];
-                size_t len = t == 1 ? 17 : 18;
-                bool form = t == 0, room = out >= 5;
-                lw_record want = !form ? refused_33 : !fresh[f].right ? refused_34 : !room ? refused_32
-                                                                      : (lw_record){.free = 5};
-                call(HERE, "order", answer, len, fresh[f].bytes, fresh[f].len, NULL, out, want, pattern);
-                seen[form][fresh[f].right][room]++;
-            }
-    for (size_t i = 0; i < 8; i++)
-        check(seen[i / 4][i / 2 % 2][i % 2] != 0, HERE, "case %zu is missing", i);
+    if (way[2] != 0)
+        in.answer = malformed[way[2] - 1];
+    else if (way[3] != 0)
+        in.answer = others[way[3] - 1];
+    if (way[2] == 0 && way[3] == 4)
+        in.answer_len = 12;
+    size_t first = 0;
+    while (first < ORDER && way[first] == 0)
+        first++;
+    call(HERE, "order", &in, first == ORDER ? (lw_record){.free = 5} : refusals[first], pattern);
+}
+
+/* Every combination of what is right or wrong, and of each place every way. */
+static void test_order(void)
+{
+    for (size_t wrong = 0; wrong < 1 << ORDER; wrong++)
+        for (size_t turn = 0; turn < 12; turn++) {
+            wrongs w = {{0}};
+            for (size_t i = 0; i < ORDER; i++)
+                if (wrong >> i & 1)
+                    w.way[i] = 1 + (turn + (i == 0 ? 0 : wrong)) % (ways[i] - 1);
+            test_one_order(&w);
+        }
 }
 
 /* NULL with length 0 for each buffer. */
 static void test_null(void)
 {
-    static const uint16_t ones[] = {ONES_AT(0, 2, 1)}, piece[] = {FRESH_AT(0, 2, 0, 0, 1)};
+    static const uint16_t two[] = {VARIABLE(2), FILL(1, 2), EQUATION(0, 1)}, ones[] = {ONES_AT(0, 2, 1)};
+    static const uint16_t equal[] = {VARIABLE(1), VARIABLE(1), EQUATION(0, 1)};
+    static const uint16_t piece[] = {FRESH_AT(0, 1, 0, 0, 0), FRESH_AT(1, 1, 0, 0, 0)};
     static const uint8_t bits[] = {1, 0};
+    static uint16_t area[AREA];
     uint8_t pattern[] = {9, 9, 9};
-    lw_record nothing = {0};
 
-    check_record(HERE, "all NULL", lw_make_pattern(NULL, 0, NULL, 0, NULL, 0), nothing);
-    check_record(HERE, "answer NULL, fresh NULL", lw_make_pattern(NULL, 0, NULL, 0, pattern, 3), nothing);
-    check_record(HERE, "answer NULL, fresh bytes", lw_make_pattern(NULL, 0, bits, 2, pattern, 3), refused_34);
-    check_record(HERE, "answer NULL, fresh bytes, pattern NULL", lw_make_pattern(NULL, 0, bits, 1, NULL, 0),
-                 refused_34);
-    check_record(HERE, "fresh NULL, fresh bits", lw_make_pattern(piece, 6, NULL, 0, pattern, 3), refused_34);
-    check_record(HERE, "fresh NULL, pattern NULL", lw_make_pattern(piece, 6, NULL, 0, NULL, 0), refused_34);
-    check_record(HERE, "pattern NULL", lw_make_pattern(piece, 6, bits, 2, NULL, 0), refused_32);
-    check_record(HERE, "fill, both NULL", lw_make_pattern(ones, 6, NULL, 0, NULL, 0), refused_32);
-    check_record(HERE, "not whole rows, both NULL", lw_make_pattern(ones, 4, NULL, 0, NULL, 0), refused_33);
-    check(pattern[0] == 9 && pattern[1] == 9 && pattern[2] == 9, HERE,
-          "output written by a refusal or by an empty pattern");
-    check_record(HERE, "fill, fresh NULL", lw_make_pattern(ones, 6, NULL, 0, pattern, 3), (lw_record){.free = 2});
+#define NOTHING NULL, 0
+#define WORK    area, AREA
+    check_record(HERE, "all NULL", lw_make_pattern(NOTHING, NOTHING, NOTHING, NOTHING, NOTHING), REFUSED(10));
+    check_record(HERE, "work NULL", lw_make_pattern(two, 12, ones, 6, NOTHING, pattern, 3, NOTHING), REFUSED(10));
+    check_record(HERE, "all but work", lw_make_pattern(NOTHING, NOTHING, NOTHING, NOTHING, WORK), REFUSED(46));
+    check_record(HERE, "table NULL", lw_make_pattern(NOTHING, ones, 6, NOTHING, pattern, 3, WORK), REFUSED(46));
+    check_record(HERE, "table NULL, not whole rows", lw_make_pattern(NOTHING, ones, 4, NOTHING, NOTHING, WORK),
+                 REFUSED(33));
+    check_record(HERE, "answer NULL", lw_make_pattern(two, 12, NOTHING, NOTHING, pattern, 3, WORK), REFUSED(46));
+    check_record(HERE, "answer NULL, fresh bytes", lw_make_pattern(two, 12, NOTHING, bits, 2, pattern, 3, WORK),
+                 REFUSED(46));
+    check_record(HERE, "fresh NULL, fresh bits", lw_make_pattern(equal, 12, piece, 12, NOTHING, pattern, 3, WORK),
+                 REFUSED(34));
+    check_record(HERE, "fresh NULL, pattern NULL", lw_make_pattern(equal, 12, piece, 12, NOTHING, NOTHING, WORK),
+                 REFUSED(34));
+    check_record(HERE, "pattern NULL", lw_make_pattern(equal, 12, piece, 12, bits, 1, NOTHING, WORK), REFUSED(32));
+    check_record(HERE, "fill, both NULL", lw_make_pattern(two, 12, ones, 6, NOTHING, NOTHING, WORK), REFUSED(32));
+    check(pattern[0] == 9 && pattern[1] == 9 && pattern[2] == 9, HERE, "output written by a refusal");
+    check_record(HERE, "fill, fresh NULL", lw_make_pattern(two, 12, ones, 6, NOTHING, pattern, 3, WORK),
+                 (lw_record){.free = 2});
     check(pattern[0] == 1 && pattern[1] == 1 && pattern[2] == 9, HERE, "output of a fill");
+#undef NOTHING
+#undef WORK
 }
 
 const test_list tests = {
@@ -768,13 +1007,18 @@ const test_list tests = {
         {.name = "the header's constants", .run = test_constants},
         {.name = "worked cases", .run = test_worked},
         {.name = "answer tables worked by hand", .run = test_hand_made},
+        {.name = "46: no table's answer", .run = test_no_answers},
         {.name = "exact limits", .run = test_limits},
         {.name = "33: variables, kinds", .run = test_variables_and_kinds},
         {.name = "33: widths", .run = test_widths},
         {.name = "33: fills, fresh numbers", .run = test_fills_and_fresh},
         {.name = "33: home, high", .run = test_homes},
         {.name = "33: not whole rows", .run = test_whole_rows},
-        {.name = "the order 33, 34, 32", .run = test_order},
+        {.name = "10, 11 to 17, 40", .run = test_memory_and_table},
+        {.name = "the order 10 to 32", .run = test_order},
+        {.name = "46: other answers of a table", .run = test_other_answers},
+        {.name = "46: answers of other tables", .run = test_other_tables},
+        {.name = "sheets and their answers", .run = test_shown},
         {.name = "NULL with length 0", .run = test_null},
         {.name = "random answer tables", .run_random = test_random_answers},
         {.name = "all patterns of small tables", .run_random = test_small},

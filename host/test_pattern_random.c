@@ -2,9 +2,14 @@
   test_pattern_random.c -- lw_make_pattern on random answer tables: see
   test_pattern.c
 
-  The library is compared with the plain pattern maker (plain_pattern.c).
+  For a random answer table of the form a table is made that its patterns meet,
+  where it has not too many rows. With it are lent its own answer, the answer
+  table that it was made for, which mostly is no table's answer, the answer of a
+  table before, or one of these with a number changed. The library is compared
+  with the plain pattern maker (plain_pattern.c).
 */
 
+#include "plain_solver.h"
 #include "test_pattern.h"
 
 /* Which fresh pieces there are, so that the next row keeps to the form. */
@@ -119,20 +124,21 @@ static void damage_answer(answer_table *a)
         change_number(a);
 }
 
-/* What occurs in the answer tables that are accepted. */
+/* What occurs in the answer tables that are accepted, and in those refused 46. */
 enum {
-    EMPTY, ONE_ROW, VARIABLE_63, FULL_VARIABLE, FULL_TABLE, ALL_OF_WIDTH_1, NO_FRESH, NO_FILLS, ONE_FRESH_FOR_ALL,
-    FILLS_BESIDE, FILLS_OVER_END, TWICE_IN_A_ROW, TWICE_IN_ONE, TWICE_IN_TWO, WIDE_TWICE, OLD_BEFORE_NEW, COULD_BE_ONE,
-    OUTPUT_EXACT, OUTPUT_LONGER, FEATURES
+    EMPTY, ALL_OF_WIDTH_1, COULD_BE_ONE, ONLY_46,
+    ONE_ROW = ONLY_46, VARIABLE_63, FULL_VARIABLE, FULL_TABLE, NO_FRESH, NO_FILLS, ONE_FRESH_FOR_ALL, FILLS_BESIDE,
+    FILLS_OVER_END, TWICE_IN_A_ROW, TWICE_IN_ONE, TWICE_IN_TWO, WIDE_TWICE, OLD_BEFORE_NEW, OUTPUT_EXACT, OUTPUT_LONGER,
+    FEATURES
 };
 
 static const char *const feature_names[FEATURES] = {
-    "no rows", "one row", "variable 63", "1024 in a variable", "4096 in all", "over 1000 rows, each of width 1",
-    "no fresh pieces", "no fills", "one fresh piece, in every variable of several", "neighbouring fills of 0 and 1",
-    "fills of one bit on both sides of a variable's end", "a fresh piece twice in a row",
+    "no rows", "over 1000 rows, each of width 1", "fresh pieces that could be one", "one row", "variable 63",
+    "1024 in a variable", "4096 in all", "no fresh pieces", "no fills", "one fresh piece, in every variable of several",
+    "neighbouring fills of 0 and 1", "fills of one bit on both sides of a variable's end", "a fresh piece twice in a row",
     "a fresh piece twice in one variable, not in a row", "a fresh piece in two variables",
     "a fresh piece wider than 1 that appears twice", "a new fresh piece behind one seen before",
-    "fresh pieces that could be one", "output as long as the pattern", "output longer than the pattern",
+    "output as long as the pattern", "output longer than the pattern",
 };
 
 /* Whether two fresh pieces stand in one variable, the second directly behind the first, wherever either stands. */
@@ -201,88 +207,174 @@ static const char *const clause_names[CLAUSES] = {
     "over 4096 in all", "a wrong home", "a wrong high",
 };
 
+/* The answer that is lent with a table: its own, the one that it was made for, or one that has to do with another. */
+enum { OWN, MADE_FOR, OF_ANOTHER, KINDS };
+
 /* What occurs in the random calls. */
 typedef struct {
-    unsigned long accepted, form, fresh, output;            /* outcomes 0, 33, 34, 32 */
-    unsigned long alone[CLAUSES], damaged_accepted;         /* 33 by one clause alone; changed, yet of the form */
-    unsigned long form_fresh, form_output, fresh_output;    /* what is refused, and would be by the second too */
+    unsigned long outcomes[64], refused_tables;
+    unsigned long alone[CLAUSES];                           /* 33 by one clause alone */
+    unsigned long always, never, damaged_other, kinds[KINDS], accepted[KINDS]; /* 46 by its causes; and accepted */
+    unsigned long form_fresh, other_fresh, form_output, other_output, fresh_output; /* and the second applies too */
     unsigned long number_less, number_more, byte_above;     /* 34 by its causes */
-    unsigned long features[FEATURES];
+    unsigned long features[2][FEATURES];                    /* of the accepted, and of 46 */
 } mix;
 
-/* One random call against the plain pattern maker. */
-static void test_random_answer(unsigned long number, mix *m)
+/* A table with its own answer. */
+typedef struct {
+    table t;
+    lw_record record;
+    answer_table answer;
+} own_table;
+
+/* The table of an answer table, which is solved; now and then it is a never. False if it would have too many rows. */
+static bool make_own(const answer_table *a, own_table *own)
 {
-    static answer_draft d;
-    static uint8_t fresh[LONG], pattern[BITS];
-    bool has[FEATURES] = {false}, damaged = one_in(3), above = false;
-    char name[64];
+    static ref_table facts;
+    if (!make_table_of(ALL(*a), &own->t))
+        return false;
+    if (one_in(20) && own->t.len <= 4 * 500 && a->len != 0 && a->numbers[a->len - 6] < 63) { /* an equation more */
+        size_t fill = own->t.len / 4;
+        add(&own->t, FILL(0, 1));
+        add(&own->t, FILL(1, 1));
+        add(&own->t, EQUATION(fill, fill + 1));
+    }
+    ref_check(ALL(own->t), &facts);
+    own->record = plain_solve(own->t.numbers, &facts, own->answer.numbers);
+    own->answer.len = 6 * (size_t)own->record.pieces;
+    return true;
+}
 
-    make_answer(&d);
-    if (damaged)
-        damage_answer(&d.a);
-    size_t bits = plain_pattern_bits(ALL(d.a)), right = plain_fresh_bits(ALL(d.a)), fresh_len, pattern_len;
-    unsigned faults = plain_faults(ALL(d.a));
-    right = right > BITS ? BITS : right; /* more can only be in tables that are refused 33 */
-
+/* Fresh bytes, mostly as many as there are fresh bits; whether one is above 1. */
+static bool make_fresh(uint8_t *fresh, size_t right, size_t *len)
+{
     switch (below(24)) {
-    case 0:  fresh_len = right == 0 ? 0 : right - 1; break;
-    case 1:  fresh_len = right + 1; break;
-    case 2:  fresh_len = below(one_in(2) ? right + 9 : BITS); break;
-    default: fresh_len = right; break;
+    case 0:  *len = right == 0 ? 0 : right - 1; break;
+    case 1:  *len = right + 1; break;
+    case 2:  *len = below(one_in(2) ? right + 9 : BITS); break;
+    default: *len = right; break;
     }
-    for (size_t i = 0; i < fresh_len; i++)
+    for (size_t i = 0; i < *len; i++)
         fresh[i] = (uint8_t)below(2);
-    if (one_in(12) && fresh_len != 0) {
-        size_t place = one_in(3) ? fresh_len - 1 : below(fresh_len);
-        fresh[place] = (uint8_t)(2 + below(one_in(2) ? 2 : 254));
-        above = true;
-    }
+    if (!one_in(12) || *len == 0)
+        return false;
+    fresh[one_in(3) ? *len - 1 : below(*len)] = (uint8_t)(2 + below(one_in(2) ? 2 : 254));
+    return true;
+}
+
+/* An output's length, mostly enough for so many bits. */
+static size_t some_output(size_t bits)
+{
     switch (below(16)) {
-    case 0:  pattern_len = bits == 0 ? 0 : bits - 1; break;
-    case 1:  pattern_len = below(bits + 1); break;
-    case 2:  pattern_len = bits + below(LONG - BITS); break;
+    case 0:  return bits == 0 ? 0 : bits - 1;
+    case 1:  return below(bits + 1);
+    case 2:  return bits + below(LONG - BITS);
     case 3:
     case 4:
-    case 5:  pattern_len = bits + below(9); break;
-    default: pattern_len = bits; break;
+    case 5:  return bits + below(9);
+    default: return bits;
     }
+}
 
-    lw_record want = plain_make_pattern(ALL(d.a), fresh, fresh_len, pattern, pattern_len);
-    snprintf(name, sizeof name, "answer table %lu", number);
-    call(HERE, name, ALL(d.a), fresh, fresh_len, NULL, pattern_len, want, pattern);
+/* Notes a call: what was lent, and whether it was changed. */
+static void note_call(mix *m, const lent *in, lw_record want, uint32_t table_outcome, size_t kind, bool damaged, bool above)
+{
+    bool has[FEATURES] = {false};
+    unsigned faults = plain_faults(in->answer, in->answer_len);
+    size_t right = plain_fresh_bits(in->answer, in->answer_len), bits = plain_pattern_bits(in->answer, in->answer_len);
+    bool bad_fresh = in->fresh_len != right || above, short_output = in->pattern_len < bits;
 
-    bool bad_fresh = fresh_len != right || above, short_output = pattern_len < bits;
-    if (!damaged)
-        check(faults == 0 && bits == d.bits && d.pieces <= BITS, HERE, "%s: made, not of the form", name);
-    m->damaged_accepted += damaged && faults == 0;
+    m->outcomes[want.outcome]++;
+    m->refused_tables += want.outcome > 10 && want.outcome < 33;
     switch (want.outcome) {
     case 0:
-        m->accepted++;
-        note_features(d.a.numbers, d.a.len / 6, has);
-        has[OUTPUT_EXACT] = pattern_len == bits;
-        has[OUTPUT_LONGER] = pattern_len > bits;
+    case 46:
+        note_features(in->answer, in->answer_len / 6, has);
+        has[OUTPUT_EXACT] = in->pattern_len == bits;
+        has[OUTPUT_LONGER] = in->pattern_len > bits;
         for (size_t i = 0; i < FEATURES; i++)
-            m->features[i] += has[i];
+            m->features[want.outcome != 0][i] += has[i];
+        m->accepted[kind] += want.outcome == 0;
+        m->kinds[kind] += want.outcome != 0 && !damaged && table_outcome == 2;
+        m->damaged_other += want.outcome != 0 && damaged && table_outcome == 2 && kind == OWN;
+        m->always += want.outcome != 0 && table_outcome == 0;
+        m->never += want.outcome != 0 && table_outcome == 1;
+        m->other_fresh += want.outcome != 0 && bad_fresh;
+        m->other_output += want.outcome != 0 && short_output;
         break;
     case 33:
-        m->form++;
         for (size_t i = 0; i < CLAUSES; i++)
             m->alone[i] += faults == 1U << i;
         m->form_fresh += bad_fresh;
         m->form_output += short_output;
         break;
     case 34:
-        m->fresh++;
-        m->number_less += fresh_len < right;
-        m->number_more += fresh_len > right;
-        m->byte_above += fresh_len == right;
+        m->number_less += in->fresh_len < right;
+        m->number_more += in->fresh_len > right;
+        m->byte_above += in->fresh_len == right;
         m->fresh_output += short_output;
         break;
     default:
-        m->output++;
         break;
     }
+}
+
+/* One random call against the plain pattern maker. */
+static void test_random_answer(unsigned long number, mix *m)
+{
+    static const size_t areas[] = {AREA, AREA, AREA, AREA + 1, LONG_AREA};
+    static answer_draft d;
+    static own_table own, before;
+    static answer_table lent_answer;
+    static table lent_table;
+    static uint8_t fresh[LONG], pattern[BITS];
+    static uint16_t area[LONG_AREA];
+    char name[64];
+
+    make_answer(&d);
+    check(plain_faults(ALL(d.a)) == 0 && d.pieces <= BITS, HERE, "answer table %lu: made, not of the form", number);
+    before = own;
+    bool made = make_own(&d.a, &own), damaged = one_in(5);
+    size_t kind = !made || one_in(10) ? OF_ANOTHER : one_in(4) ? MADE_FOR : OWN;
+    lent_answer = kind == OWN ? own.answer : kind == MADE_FOR || !made ? d.a : before.answer;
+    lent_table = own.t;
+    if (damaged)
+        damage_answer(&lent_answer);
+    if (one_in(40) && lent_table.len != 0) {
+        lent_table.numbers[below(lent_table.len)] = (uint16_t)below(one_in(2) ? 7 : 65536);
+        kind = OF_ANOTHER;
+    }
+
+    size_t bits = plain_pattern_bits(ALL(lent_answer)), right = plain_fresh_bits(ALL(lent_answer));
+    right = right > BITS ? BITS : right; /* more can only be in tables that are refused 33 */
+    lent in = {.table = lent_table.numbers, .table_len = lent_table.len, .answer = lent_answer.numbers,
+               .answer_len = lent_answer.len, .fresh = fresh, .pattern_len = some_output(bits),
+               .work_len = one_in(30) ? AREA - 1 : areas[below(COUNT(areas))]};
+    bool above = make_fresh(fresh, right, &in.fresh_len);
+    lw_record want = plain_make_pattern(ALL(lent_table), ALL(lent_answer), fresh, in.fresh_len, pattern,
+                                        in.pattern_len, area, in.work_len);
+    snprintf(name, sizeof name, "answer table %lu", number);
+    call(HERE, name, &in, want, pattern);
+    note_call(m, &in, want, own.record.outcome, kind, damaged, above);
+}
+
+static void print_mix(const mix *m, unsigned long tables)
+{
+    printf("%lu random answer tables: accepted %lu, refused 10 %lu, 11 to 17 or 40 %lu, 33 %lu, 46 %lu, 34 %lu, 32 %lu\n",
+           tables, m->outcomes[0], m->outcomes[10], m->refused_tables, m->outcomes[33], m->outcomes[46],
+           m->outcomes[34], m->outcomes[32]);
+    printf("  46 with pieces that could be longer %lu, of another table %lu, one number changed %lu, always %lu, never %lu\n",
+           m->kinds[MADE_FOR], m->kinds[OF_ANOTHER], m->damaged_other, m->always, m->never);
+    printf("  with the cause of 34 too 33 %lu, 46 %lu; with that of 32 too 33 %lu, 46 %lu, 34 %lu\n", m->form_fresh,
+           m->other_fresh, m->form_output, m->other_output, m->fresh_output);
+    printf("  34 by fewer bytes %lu, by more %lu, by a byte above 1 alone %lu\n", m->number_less, m->number_more,
+           m->byte_above);
+    printf("  33 for one cause alone:\n");
+    for (size_t i = 0; i < CLAUSES; i++)
+        printf("    %-50s %lu\n", clause_names[i], m->alone[i]);
+    printf("  accepted, and 46:\n");
+    for (size_t i = 0; i < FEATURES; i++)
+        printf("    %-50s %lu, %lu\n", feature_names[i], m->features[0][i], m->features[1][i]);
 }
 
 void test_random_answers(unsigned long tables)
@@ -291,27 +383,17 @@ void test_random_answers(unsigned long tables)
 
     for (unsigned long i = 0; i < tables; i++)
         test_random_answer(i, &m);
-    printf("%lu random answer tables: accepted %lu, refused 33 %lu, 34 %lu, 32 %lu\n", tables, m.accepted, m.form,
-           m.fresh, m.output);
-    printf("  one number changed and still of the form %lu\n", m.damaged_accepted);
-    printf("  33 with the cause of 34 too %lu, with that of 32 too %lu; 34 with that of 32 too %lu\n", m.form_fresh,
-           m.form_output, m.fresh_output);
-    printf("  34 by fewer bytes %lu, by more %lu, by a byte above 1 alone %lu\n", m.number_less, m.number_more,
-           m.byte_above);
-    printf("  33 for one cause alone:\n");
-    for (size_t i = 0; i < CLAUSES; i++)
-        printf("    %-50s %lu\n", clause_names[i], m.alone[i]);
-    printf("  accepted:\n");
-    for (size_t i = 0; i < FEATURES; i++)
-        printf("    %-50s %lu\n", feature_names[i], m.features[i]);
-
-    check(2 * m.accepted >= tables && 10 * m.form >= tables && 50 * m.fresh >= tables && 50 * m.output >= tables,
-          HERE, "some outcome is rare");
-    check(m.damaged_accepted != 0 && m.form_fresh != 0 && m.form_output != 0 && m.fresh_output != 0 &&
-          m.number_less != 0 && m.number_more != 0 && m.byte_above != 0, HERE,
-          "some kind of call does not occur");
+    print_mix(&m, tables);
+    check(4 * m.outcomes[0] >= tables && 50 * m.outcomes[10] >= tables && m.refused_tables != 0 &&
+          20 * m.outcomes[33] >= tables && 10 * m.outcomes[46] >= tables && 50 * m.outcomes[34] >= tables &&
+          50 * m.outcomes[32] >= tables, HERE, "some outcome is rare");
+    check(m.kinds[MADE_FOR] != 0 && m.kinds[OF_ANOTHER] != 0 && m.kinds[OWN] == 0 && m.damaged_other != 0 &&
+          m.always != 0 && m.never != 0 && m.accepted[MADE_FOR] != 0 && m.form_fresh != 0 && m.other_fresh != 0 &&
+          m.form_output != 0 && m.other_output != 0 && m.fresh_output != 0 && m.number_less != 0 &&
+          m.number_more != 0 && m.byte_above != 0, HERE, "some kind of call does not occur");
     for (size_t i = 0; i < CLAUSES; i++)
         check(m.alone[i] != 0, HERE, "no answer table has this alone: %s", clause_names[i]);
     for (size_t i = 0; i < FEATURES; i++)
-        check(m.features[i] != 0, HERE, "no accepted answer table has this: %s", feature_names[i]);
+        check((m.features[0][i] != 0) == (i >= ONLY_46) && m.features[1][i] != 0, HERE,
+              "no answer table, accepted or refused 46, has this, or one that should not: %s", feature_names[i]);
 }

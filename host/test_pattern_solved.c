@@ -1,15 +1,18 @@
 /*
   test_pattern_solved.c -- the patterns of solved tables: see test_pattern.c
 
-  Random tables with equations, a twentieth as many as there are random answer
-  tables, of up to 14 variable bits: lw_solve gives their answer table, and the
-  patterns of all its fillings must be those that meet the table, each once, as
-  many as the enumeration of all patterns (enumerate.c) finds, and in each of
-  them the bits of a row must be those of its home. And 1000 such tables of up
-  to 4096 variable bits, with some fillings each.
+  Random tables with equations, of up to 14 variable bits, until a third as many
+  are solved as there are random answer tables: lw_solve gives their answer
+  table, which must be that of the enumeration of all patterns (enumerate.c), and
+  the patterns of all its fillings must be those that meet the table, each once,
+  as many as the enumeration finds, and in each of them the bits of a row must be
+  those of its home. Tables of the other outcomes, and the next solved table,
+  refuse it. And 1000 such tables of up to 4096 variable bits, with some fillings
+  each.
 */
 
 #include "enumerate.h"
+#include "large_table.h"
 #include "reference.h"
 #include "test_pattern.h"
 
@@ -64,24 +67,45 @@ static void test_home_bits(const char *name, const solved_table *s, const uint8_
     check(same, HERE, "%s: a row's bits are not those of its home", name);
 }
 
+/* What is lent with a table: the answer, and fresh bytes. */
+static lent lend(const draft *d, const uint16_t *answer, size_t len, const uint8_t *fresh, size_t fresh_len)
+{
+    return (lent){.table = d->t.numbers, .table_len = d->t.len, .answer = answer, .answer_len = len, .fresh = fresh,
+                  .fresh_len = fresh_len, .work_len = one_in(4) ? LONG_AREA : AREA, .used = !one_in(8)};
+}
+
 /* One filling: the pattern is that of the plain pattern maker, it meets the table, and each home has its piece. */
 static void test_filling(const char *name, const draft *d, const solved_table *s, const uint8_t *fresh,
                          uint8_t pattern[BITS])
 {
     size_t len = 6 * (size_t)s->record.pieces, bits = s->facts.bits;
-    lw_record want = plain_make_pattern(s->answer, len, fresh, s->record.free, pattern, bits);
+    lent in = lend(d, s->answer, len, fresh, s->record.free);
 
-    size_t output = bits + (one_in(4) ? below(20) : 0);
-    call(HERE, name, s->answer, len, fresh, s->record.free, NULL, output, want, pattern);
-    memset(pattern, 9, bits); /* from here on it is the library's */
-    check_record(HERE, name, lw_make_pattern(s->answer, len, fresh, s->record.free, pattern, bits),
+    in.pattern_len = bits + (one_in(4) ? below(20) : 0);
+    check_record(HERE, name, plain_fill(s->answer, len, fresh, s->record.free, pattern, bits),
                  (lw_record){.free = (uint32_t)bits});
+    call(HERE, name, &in, (lw_record){.free = (uint32_t)bits}, pattern); /* from here on it is the library's too */
     test_home_bits(name, s, pattern);
     if (!check(ref_meets(d->t.numbers, &s->facts, pattern), HERE, "%s: a pattern does not meet the table",
                name) && checks_failed == 1) {
         print_table(d->t.numbers, d->t.len);
         print_answer(s->answer, len);
     }
+}
+
+/* The answer of the table before, and no rows: both are refused 46, unless the first is the table's own. */
+static void test_refused(const char *name, const draft *d, const solved_table *s, const solved_table *before)
+{
+    static const uint8_t fresh[BITS];
+    size_t len = 6 * (size_t)before->record.pieces;
+    lent in = lend(d, before->answer, len, fresh, before->record.free);
+
+    in.pattern_len = BITS;
+    if (s->record.outcome != 2 || s->record.pieces != before->record.pieces ||
+        memcmp(s->answer, before->answer, len * sizeof *s->answer) != 0)
+        call(HERE, name, &in, REFUSED(46), NULL);
+    in = lend(d, NULL, 0, NULL, 0);
+    call(HERE, name, &in, REFUSED(46), NULL);
 }
 
 /* What occurs in the solved tables. */
@@ -199,25 +223,31 @@ static void test_fillings(const char *name, const draft *d, const solved_table *
     }
     enumerate(d->t.numbers, &s->facts, &found);
     check(found.met == count, HERE, "%s: %zu fillings, but %zu patterns meet it", name, count, found.met);
+    check(same_record(found.record, s->record) &&
+          memcmp(found.answer, s->answer, 6 * (size_t)s->record.pieces * sizeof *found.answer) == 0, HERE,
+          "%s: the enumeration has another answer", name);
 }
 
 void test_small(unsigned long answer_tables)
 {
     static draft d;
-    static solved_table s;
-    unsigned long solved = 0, complete = 0, patterns = 0, free_bits[ENUM_BITS + 1] = {0}, traits[TRAITS] = {0};
-    unsigned long tables = answer_tables / 20;
+    static solved_table s, before;
+    unsigned long tables = 0, solved = 0, complete = 0, patterns = 0;
+    unsigned long free_bits[ENUM_BITS + 1] = {0}, traits[TRAITS] = {0};
     char name[64];
 
-    for (unsigned long i = 0; i < tables; i++) {
+    for (; solved < answer_tables / 3; tables++) {
         size_t bits = 1 + below(SMALL_BITS), widest = one_in(3) ? SMALL_BITS : 1 + below(6);
         do
             make_equations(&d, bits, widest, 1 + below(one_in(3) ? 16 : 6));
         while (d.bits > SMALL_BITS); /* a variable more, where no row could be named */
-        snprintf(name, sizeof name, "small table %lu", i);
-        if (!solve(name, &d, &s))
+        snprintf(name, sizeof name, "small table %lu", tables);
+        bool other = !solve(name, &d, &s);
+        test_refused(name, &d, &s, &before);
+        if (other)
             continue;
         test_fillings(name, &d, &s, &patterns);
+        before = s;
         solved++;
         complete += s.record.free <= ALL_FILLINGS;
         free_bits[s.record.free]++;
@@ -236,31 +266,42 @@ void test_small(unsigned long answer_tables)
 void test_large(void)
 {
     static draft d;
-    static solved_table s;
+    static plan p;
+    static solved_table s, before;
     static uint8_t fresh[BITS], pattern[BITS];
-    unsigned long solved = 0, full = 0, many = 0, most_free = 0, traits[TRAITS] = {0};
+    unsigned long solved = 0, full = 0, many = 0, most_free = 0, most_pieces = 0, traits[TRAITS] = {0};
     char name[64];
 
     for (unsigned long i = 0; i < LARGE_TABLES; i++) {
         static const size_t widths[] = {1024, 64, 300, 20};
         size_t bits = one_in(3) ? BITS : 1 + below(BITS);
-        make_equations(&d, bits, widths[below(4)], 1 + below(one_in(3) ? 120 : 20));
+        if (one_in(3))
+            make_large(&p);
+        else
+            make_equations(&d, bits, widths[below(4)], 1 + below(one_in(3) ? 120 : 20));
+        if (p.d.rows != 0)
+            d = p.d;
+        clear(&p.d);
         snprintf(name, sizeof name, "large table %lu", i);
-        if (!solve(name, &d, &s))
+        bool other = !solve(name, &d, &s);
+        test_refused(name, &d, &s, &before);
+        if (other)
             continue;
         for (size_t f = 0; f < 5; f++) { /* all 0, all 1, and random */
             for (size_t k = 0; k < s.record.free; k++)
                 fresh[k] = (uint8_t)(f < 2 ? f : below(2));
             test_filling(name, &d, &s, fresh, pattern);
         }
+        before = s;
         solved++;
         full += s.facts.bits == BITS;
         many += s.record.pieces >= 500;
         most_free = s.record.free > most_free ? s.record.free : most_free;
+        most_pieces = s.record.pieces > most_pieces ? s.record.pieces : most_pieces;
         note_traits(&s, traits);
     }
-    printf("%d large tables: solved %lu, of 4096 variable bits %lu, of 500 pieces %lu, most free bits %lu\n",
-           LARGE_TABLES, solved, full, many, most_free);
+    printf("%d large tables: solved %lu, of 4096 variable bits %lu, of 500 pieces %lu, most pieces %lu, most free bits %lu\n",
+           LARGE_TABLES, solved, full, many, most_pieces, most_free);
     print_traits(traits);
     check(5 * solved >= LARGE_TABLES && full != 0 && many != 0 && most_free > 3000, HERE,
           "some kind of large table does not occur");

@@ -72,7 +72,7 @@ void meeting_words(const solved_table *s, uint16_t words[WINDOW])
     for (size_t i = 0; i < s->bits; i++)
         pattern[i] = fresh[i] = (uint8_t)below(2);
     if (s->record.outcome == 2)
-        plain_make_pattern(s->answer, 6 * (size_t)s->record.pieces, fresh, s->record.free, pattern, s->bits);
+        plain_fill(s->answer, 6 * (size_t)s->record.pieces, fresh, s->record.free, pattern, s->bits);
     for (size_t i = 0; i < s->bits; i++)
         words[i / WORD] = (uint16_t)(2 * (i % WORD == 0 ? 0 : words[i / WORD]) + pattern[i]);
 }

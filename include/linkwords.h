@@ -380,8 +380,8 @@ extern "C" {
   The version of the library, as text and as a number that grows from version to
   version: major * 1000000 + minor * 1000 + patch.
 */
-#define LW_VERSION_TEXT "0.21.0"
-#define LW_VERSION      21000
+#define LW_VERSION_TEXT "0.23.0"
+#define LW_VERSION      23000
 
 /* constants */
 
@@ -406,7 +406,7 @@ extern "C" {
 #define LW_FORM_NUMBERS      4096 /* least output of a normal form */
 #define LW_TABLE_NUMBERS     2048 /* least output of a sheet's reading */
 #define LW_ANSWER_NUMBERS   24576 /* least answer table of a solve, and of a job's answer */
-#define LW_WORK_NUMBERS     16384 /* least work area of a solve, and of a job */
+#define LW_WORK_NUMBERS     16384 /* least work area of a solve, of a job, and of a pattern's making */
 #define LW_MAX_SHEET        16384 /* bytes of a sheet */
 #define LW_MAX_ROWS           512
 #define LW_MAX_WIDTH         1024
@@ -453,6 +453,7 @@ extern "C" {
 #define LW_REFUSED_REVISED   43 /* an equation of a job's table has a line number */
 #define LW_REFUSED_JOB       44 /* no number of steps leaves this job and this work area */
 #define LW_REFUSED_STEP      45 /* a step with no equation left */
+#define LW_REFUSED_OTHER_ANSWER 46 /* answer table other than the one solved from the table, or the table has none */
 
 /*
   Stack: the most bytes that a call was seen to use, on tables made for that; it
@@ -686,19 +687,21 @@ lw_part lw_right_side(const uint16_t *answer, size_t answer_len,
      there is no refusal. The answer table is only read.
 */
 
-lw_record lw_make_pattern(const uint16_t *answer, size_t answer_len,
+lw_record lw_make_pattern(const uint16_t *table, size_t table_len,
+                          const uint16_t *answer, size_t answer_len,
                           const uint8_t *fresh, size_t fresh_len,
-                          uint8_t *pattern, size_t pattern_len);
+                          uint8_t *pattern, size_t pattern_len,
+                          uint16_t *work, size_t work_len);
 /*
-     Writes the pattern that an answer table gives with the fresh bits. After
-     lw_solve with outcome LW_SOLVED, the answer table is the first 6 * pieces
-     numbers of its buffer, the fresh bits are free in number, and the pattern
-     meets the table: every choice of fresh bits gives one, and no two of them
-     the same. After LW_ALWAYS there is no answer table, and any bits are a
-     pattern.
+     Writes the pattern that the table's answer table gives with the fresh bits.
+     After lw_solve with outcome LW_SOLVED, the answer table is the first
+     6 * pieces numbers of its buffer, and the fresh bits are free in number. The
+     call tests by itself that the answer is that of the table, so every pattern
+     that it makes meets the table; and every choice of fresh bits gives one, and
+     no two of them the same.
 
-     All of answer is rows in use: answer_len is 6 times their number. Nothing is
-     asked of where they come from, but they have this form:
+     All of answer is rows in use: answer_len is 6 times their number. They have
+     this form:
 
        - The variable of the first row is 0. That of each other row is that of
          the row before it, or 1 more. None is above 63.
@@ -715,23 +718,42 @@ lw_record lw_make_pattern(const uint16_t *answer, size_t answer_len,
          fresh piece are these two numbers of the first row of kind 2 with its
          fresh number.
 
-     So fresh pieces need not be as few or as long as they can be: two that
-     always follow each other may be two. An answer table of no rows has this
-     form. It takes no fresh bits and gives the pattern of no bits.
+     And they are, number by number and in their number, the rows that lw_solve
+     writes for this table, of whose equations those count that stand under The
+     table. Where the rows come from is not asked: the answer of another table is
+     the right one if it is the same. The same right sides with a fresh piece cut
+     in two are not the right answer, nor is the answer of the table before it was
+     revised.
+
+     An answer table of no rows has the form, and is no table's answer: it is
+     refused 46, also for a table without variables or rows. After LW_ALWAYS there
+     is no answer table and nothing to make: any bits, as many as the field free
+     says, are a pattern, and the host writes them itself. After LW_NEVER there is
+     no pattern. The answer so far of a job is that of its table once no equation
+     is left; before that, lend a table in which each later equation is 4 0 0 0.
 
      If the call is accepted, outcome is LW_ACCEPTED, free is the length of the
-     pattern, that is the widths of all rows together, and all other fields are
-     0. The first free bytes of pattern are then the pattern: row by row, the
-     bit of a fill as many times as it is wide, and the bits of a fresh piece,
-     high bit first, wherever it stands. The bytes of pattern that follow keep
-     their content.
+     pattern, that is the number of the table's variable bits, and all other
+     fields are 0. The first free bytes of pattern are then the pattern: row by
+     row, the bit of a fill as many times as it is wide, and the bits of a fresh
+     piece, high bit first, wherever it stands. The bytes of pattern that follow
+     keep their content.
 
      Otherwise outcome is the first refusal that applies, in the order below,
      and nothing is written to pattern.
 
      outcome                 cause                               field row
+     10 LW_REFUSED_MEMORY    work_len is below LW_WORK_NUMBERS   0
+                             (16384), however small the table is
+     11 to 17, 40            the table is refused: see Refusals  512, or
+                             of a term table above               that row
      33 LW_REFUSED_ANSWER    answer_len is no multiple of 6, or  0
                              the rows are not of the form above
+     46 LW_REFUSED_OTHER_ANSWER
+                             the outcome of lw_solve for the     0
+                             table is LW_ALWAYS or LW_NEVER, or
+                             answer is not the answer table that
+                             it writes
      34 LW_REFUSED_FRESH     fresh_len is not the number of      0
                              fresh bits, that is the widths of
                              the fresh pieces together, each
@@ -740,8 +762,17 @@ lw_record lw_make_pattern(const uint16_t *answer, size_t answer_len,
      32 LW_REFUSED_OUTPUT    pattern_len is below the length of  0
                              the pattern
 
-     The answer table and the fresh bits are only read. Neither may overlap
-     pattern.
+     work is memory for the call to work in, and may hold anything before it.
+     After 10, a refusal of the table and 33 it holds what it held. After an
+     accepted call, and after the refusals 46, 34 and 32 too, each number of work
+     is 0, all work_len of them, also those past the 16384th. These three are the
+     only refusals of any call that write to a buffer.
+
+     Each call solves the table once, and so takes somewhat longer than lw_solve.
+     A host that makes all patterns of a table pays a solve for each of them.
+
+     The table, the answer table and the fresh bits are only read. None of them
+     may overlap pattern or work, nor may these two overlap.
 */
 
 lw_record lw_marker_positions(const uint16_t *table, size_t table_len,
