@@ -18,8 +18,8 @@
 #include <stdlib.h>
 #include <string.h>
 
-#include "figures.h"
 #include "measure.h"
+#include "ratios.h"
 #include "tables.h"
 #include "timing.h"
 
@@ -175,11 +175,6 @@ static bool prepare_job(job_subject *s)
 
 static volatile size_t sink; /* so that no call is left out */
 
-static void note(samples *s, double time)
-{
-    s->times[s->count++] = time;
-}
-
 static void time_call(lw_record (*call)(const job_subject *), const job_subject *s, samples *times)
 {
     double start = seconds();
@@ -213,18 +208,6 @@ static void time_round(job_subject *s, bool all)
 }
 
 /* The page. */
-
-/* A time, its ratio to another, and the goal. Whether it is met, if there is one. */
-static bool print_time(samples *ours, samples *theirs, double most)
-{
-    double ratio = median(ours) / median(theirs);
-
-    printf("| %s | %s |", micro(median(ours)), figure(ratio));
-    if (most > 0)
-        printf(" at most %.2f: %s", most, ratio <= most ? "met" : "MISSED");
-    printf(" ");
-    return most <= 0 || ratio <= most;
-}
 
 static bool print_calls(void)
 {

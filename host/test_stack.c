@@ -271,6 +271,15 @@ static void wide_rows(call *c, size_t count)
     c->fresh_len = c->pattern_len;
 }
 
+/* The answer of the table, as many fresh bits, and an output for its pattern; so many rows of the answer are left off. */
+static void answer_but(call *c, size_t rows)
+{
+    lw_record record = lw_solve(c->table, c->table_len, c->answer, LW_ANSWER_NUMBERS, c->work, c->work_len);
+    c->answer_len = LW_ANSWER_ROW_NUMBERS * (record.pieces - rows);
+    c->fresh_len = record.free;
+    c->pattern_len = record.free + record.ties;
+}
+
 /* The record of a solved table of so many pieces, and of a refusal. */
 static void solved(call *c, size_t pieces)
 {
@@ -470,21 +479,44 @@ static const test parts[] = {
     {"no such variable", {{set_rows_in_use, 4096}, {set_variable, 1}}, 0, 0},
     {"too many rows", {{set_rows_in_use, 4097}}, 0, 0},
 };
+/*
+  Of tables that are solved: their own answer, and others. Of the other tables,
+  which are solved too before they are refused: no answer.
+*/
+#define OWN {words, 64}, {answer_but, 0}
+#define NO_OWN LW_REFUSED_OTHER_ANSWER, 0
 static const test patterns[] = {
-    {"no rows", {{set_pattern_len, 4096}}, LW_ACCEPTED, 0},
-    {"one fresh bit", {{fresh_rows, 1}}, LW_ACCEPTED, 1},
-    {"one fill", {{one_fill, 1024}}, LW_ACCEPTED, 1024},
-    {"4096 fresh pieces", {{fresh_rows, 4096}}, LW_ACCEPTED, 4096},
-    {"4096 rows, one fresh piece", {{one_piece, 4096}}, LW_ACCEPTED, 4096},
-    {"4096 fills", {{fill_rows, 4096}}, LW_ACCEPTED, 4096},
-    {"64 variables of 64 bits", {{wide_rows, 64}}, LW_ACCEPTED, 4096},
+    {"512 rows, chained cuts", {CUTS, {shift, 1024}, {answer_but, 0}}, LW_ACCEPTED, 1024},
+    {"64 equations of 1024 bits", {OWN}, LW_ACCEPTED, 4096},
+    {"64 line numbers", {{words, 64}, {line_numbers, 64}, {answer_but, 0}}, LW_ACCEPTED, 4096},
+    {"32 of 64 equations revised", {{words, 64}, {line_numbers, 32}, {answer_but, 0}}, LW_ACCEPTED, 4096},
+    {"refused 46, one variable", {{variable, 1024}}, NO_OWN},
+    {"refused 46, joins on the left", {{variable, 1}, {left_joins, 0}, {shift, 508}}, NO_OWN},
+    {"refused 46, joins on the right", {{variable, 1}, {right_joins, 0}, {shift, 508}}, NO_OWN},
+    {"refused 46, cuts and joins in turn", {{variable, 1}, {cuts_and_joins, 0}, {shift, 255}}, NO_OWN},
+    {"refused 46, cuts of a marker", {{marker, 16}, {cuts, 16}, {shift, 16}}, NO_OWN},
+    {"refused 46, joins of a marker", {{marker, 1}, {left_joins, 0}, {shift, 508}}, NO_OWN},
+    {"refused 46, joins of a word's bit", {{variable, 16}, {left_joins, 1}, {search, 508}}, NO_OWN},
+    {"refused 46, joins of a marker's bit", {{marker, 16}, {right_joins, 1}, {search, 508}}, NO_OWN},
+    {"refused 46, sides of unequal width", {{marker, 1}, {left_joins, 0}, {uneven_shift, 508}}, NO_OWN},
+    {"refused 46, never at the last", {{words, 63}, {unequal_fills, 1}}, NO_OWN},
+    {"refused 46, the last row left off", {{words, 64}, {answer_but, 1}}, NO_OWN},
+    {"refused 46, 4096 other rows", {{words, 64}, {fresh_rows, 4096}}, NO_OWN},
+    {"refused 46, 4096 fills", {{words, 64}, {fill_rows, 4096}}, NO_OWN},
+    {"refused 46, one fill", {CUTS, {shift, 1024}, {one_fill, 1024}}, NO_OWN},
+    {"refused 46, no table, one fresh piece", {{one_piece, 4096}}, NO_OWN},
+    {"refused 46, 64 variables of 64 bits", {{words, 64}, {wide_rows, 64}}, NO_OWN},
+    {"refused 10", {OWN, {less_work_len, 1}}, LW_REFUSED_MEMORY, 0},
+    NOT_WHOLE_ROWS,
+    BAD_CUT,
+    BAD_MARKER,
     {"refused 33, not whole rows", {{fresh_rows, 4096}, {less_answer_len, 1}}, LW_REFUSED_ANSWER, 0},
     {"refused 33 at row 4095", {{fresh_rows, 4096}, {last_fresh, 4096}}, LW_REFUSED_ANSWER, 0},
     {"refused 33, the last home wrong", {{fresh_rows, 4096}, {last_home, 2}}, LW_REFUSED_ANSWER, 0},
     {"refused 33, the last high wrong", {{fresh_rows, 4096}, {last_high, 1}}, LW_REFUSED_ANSWER, 0},
-    {"refused 34, fresh bits too few", {{fresh_rows, 4096}, {less_fresh_len, 1}}, LW_REFUSED_FRESH, 0},
-    {"refused 34, the last byte above 1", {{fresh_rows, 4096}, {last_fresh_bit, 2}}, LW_REFUSED_FRESH, 0},
-    {"refused 32", {{fresh_rows, 4096}, {less_pattern_len, 1}}, LW_REFUSED_OUTPUT, 0},
+    {"refused 34, fresh bits too few", {OWN, {less_fresh_len, 1}}, LW_REFUSED_FRESH, 0},
+    {"refused 34, the last byte above 1", {OWN, {last_fresh_bit, 2}}, LW_REFUSED_FRESH, 0},
+    {"refused 32", {OWN, {less_pattern_len, 1}}, LW_REFUSED_OUTPUT, 0},
 };
 static const test pages[] = {
     {"page 0 of 4096 pieces", {{fresh_rows, 4096}, {solved, 4096}}, 0, LW_PAGE_LINES},
@@ -573,7 +605,8 @@ RUN(lw_normal_form, record, TABLE, FORM)
 RUN(lw_read_sheet, record, c->sheet, c->sheet_len, TABLE)
 RUN(lw_solve, record, TABLE, SOLVE)
 RUN(lw_right_side, part, c->answer, LW_ANSWER_NUMBERS, c->rows_in_use, c->variable)
-RUN(lw_make_pattern, record, c->answer, c->answer_len, c->fresh, c->fresh_len, c->pattern, c->pattern_len)
+RUN(lw_make_pattern, record, TABLE, c->answer, c->answer_len, c->fresh, c->fresh_len, c->pattern, c->pattern_len, c->work,
+    c->work_len)
 RUN(lw_marker_positions, record, TABLE, c->words, c->words_len, c->list, COUNT(c->list))
 RUN(lw_page, page_bytes, c->record, c->answer, c->answer_len, c->number)
 RUN(lw_job_open, record, TABLE, JOB)
