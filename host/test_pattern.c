@@ -515,6 +515,18 @@ static void test_limits(void)
     make_equal_bits(&t, 4);
     memset(pattern, 1, BITS);
     ACCEPT_OF(ALL(t), ALL(a), BYTES(1), pattern, BITS);
+    for (size_t at = 0; at < BITS; at += at % 1365 < 2 || at >= BITS - 3 ? 1 : 341) { /* one row another, anywhere */
+        const uint16_t kept[] = {FRESH((uint16_t)(at / 1024), 1, 0)}, other[] = {ONES((uint16_t)(at / 1024), 1)};
+        memcpy(a.numbers + 4 * at, other, sizeof other);
+        REFUSE_OTHER(ALL(t), ALL(a));
+        memcpy(a.numbers + 4 * at, kept, sizeof kept);
+    }
+    for (size_t v = 1; v < 4; v++) { /* whole variables left off, or added */
+        REFUSE_OTHER(ALL(t), a.numbers, 4 * 1024 * v);
+        make_equal_bits(&t, v);
+        REFUSE_OTHER(ALL(t), ALL(a));
+        make_equal_bits(&t, 4);
+    }
     a.len = 0;
     for (size_t i = 0; i < BITS; i++) {
         put(&a, i / 1024, i % 2, 1, 0);
