@@ -76,7 +76,29 @@ void print_answer(const uint16_t *answer, size_t len)
     printf("%s\n", len > 144 ? " .." : "");
 }
 
-/* The work area of a length, which is used again from call to call. */
+/* The buffers of a call, which are used again by the next one where that has one of the same length. */
+
+enum { TABLE_LENT, ANSWER_LENT, FRESH_LENT, PATTERN_LENT, LENT };
+
+static guarded *buffer_of(size_t which, const void *content, size_t size)
+{
+    static guarded buffers[LENT];
+    guarded *g = &buffers[which];
+
+    if (g->block == NULL || g->size != size + 2 * ZONE) {
+        free(g->block);
+        free(g->kept);
+        *g = guard(content, size);
+    } else if (content != NULL) {
+        guard_put(g, content, size);
+    } else { /* other bytes than in any pattern */
+        memset(g->block + ZONE, 0xCB, size);
+        memset(g->kept + ZONE, 0xCB, size);
+    }
+    return g;
+}
+
+/* The work area of a length. */
 static guarded *area_of(size_t len)
 {
     static guarded areas[8];
@@ -109,25 +131,25 @@ void call(where at, const char *name, const lent *in, lw_record want, const uint
 {
     static const uint16_t zeros[LONG_AREA];
     unsigned long failed = checks_failed;
-    guarded t = guard(in->table, in->table_len * sizeof *in->table);
-    guarded a = guard(in->answer, in->answer_len * sizeof *in->answer);
-    guarded f = guard(in->fresh, in->fresh_len);
-    guarded p = guard(in->content, in->pattern_len), *w = area_of(in->work_len);
+    guarded *t = buffer_of(TABLE_LENT, in->table, in->table_len * sizeof *in->table);
+    guarded *a = buffer_of(ANSWER_LENT, in->answer, in->answer_len * sizeof *in->answer);
+    guarded *f = buffer_of(FRESH_LENT, in->fresh, in->fresh_len);
+    guarded *p = buffer_of(PATTERN_LENT, in->content, in->pattern_len), *w = area_of(in->work_len);
 
     if (!in->used)
         put_noise(w, in->work_len);
-    lw_record got = lw_make_pattern(guarded_buffer(&t), in->table_len, guarded_buffer(&a), in->answer_len,
-                                    guarded_buffer(&f), in->fresh_len, guarded_buffer(&p), in->pattern_len,
+    lw_record got = lw_make_pattern(guarded_buffer(t), in->table_len, guarded_buffer(a), in->answer_len,
+                                    guarded_buffer(f), in->fresh_len, guarded_buffer(p), in->pattern_len,
                                     guarded_buffer(w), in->work_len);
     if (want.outcome == 0)
-        guard_expect(&p, want_pattern, want.free);
+        guard_expect(p, want_pattern, want.free);
     if (want.outcome == 0 || want.outcome == 46 || want.outcome == 34 || want.outcome == 32)
         guard_expect(w, zeros, in->work_len * sizeof *zeros);
     check_record(at, name, got, want);
-    guard_check(&t, at, "table");
-    guard_check(&a, at, "answer table");
-    guard_check(&f, at, "fresh bytes");
-    guard_check(&p, at, "pattern");
+    guard_compare(t, at, "table");
+    guard_compare(a, at, "answer table");
+    guard_compare(f, at, "fresh bytes");
+    guard_compare(p, at, "pattern");
     guard_compare(w, at, "work area");
     if (checks_failed != failed && failed == 0) {
         printf("  %s, %zu fresh bytes, output of %zu bytes, work area of %zu numbers\n", name, in->fresh_len,
