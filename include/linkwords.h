@@ -936,9 +936,10 @@ lw_record lw_job_preview(const uint16_t *table, size_t table_len,
      If the call is accepted, it yields the whole record that lw_job_step yields
      of the same table, job and work area: LW_ALWAYS, LW_SOLVED with pieces,
      fresh, free and ties, or LW_NEVER with ties and row. It is not the record of
-     the answer so far, nor what differs from it. So the ties that the equation of
-     the next row brings are the field ties less job->ties. An equation that says
-     nothing new yields the record of the answer so far.
+     the answer so far, nor what differs from it: with LW_ALWAYS and LW_SOLVED the
+     ties that the equation of the next row brings are the field ties less
+     job->ties. An equation that says nothing new yields the record of the answer
+     so far.
 
      LW_NEVER is yielded of an equation that would leave no pattern, with its row,
      and the job stays where it was: the preview can be made again, the step can
