@@ -10,3 +10,4 @@ pub mod HomePlaces
 pub mod Theorems
 pub mod PatternCall
 pub mod Matching
+pub mod Matched

@@ -1,7 +1,9 @@
 -- What the pattern call returns and leaves in the buffers lent to it, for every input (document 02, (x)): it is lent the term table too, and makes
 -- patterns of the answer solved from that table alone. What filling an answer is stands in Form.antt and Call.antt.
+use mathlib.Core.Path.{_≡_}
 use mathlib.Core.Bool.{Bool, not, _||_, cond}
 use mathlib.Core.List.{List, [], _∷_}
+use mathlib.Core.Logic.{_≢_, _⊎_}
 use Prim.Native.Nat.{ℕ}
 use lib.Dec.{eqb, ltb}
 use lib.ListN.{length, take, replicate}
@@ -46,3 +48,14 @@ makeAfter table answer fresh old workRoom =
 -- the call is accepted or refused.
 unfoldable pub makeWork : List ℕ → List ℕ → List ℕ → ℕ → List ℕ → List ℕ
 makeWork table answer fresh room old = cond (stopped (take 3 (makeStops table answer fresh room (length old)))) old (replicate (length old) 0)
+
+-- What the theorems say of it (proofs/Matched.antt). (f) The work area, whatever its length: every number is 0 after an accepted call and after the
+-- refusals 46, 34 and 32; it is as it was after every other refusal.
+pub record WorkAfter (table answer fresh : List ℕ) (room : ℕ) (work : List ℕ) : Type 0 where
+  pub accepted : makeRecord table answer fresh room (length work) .outcome ≡ 0 → makeWork table answer fresh room work ≡ replicate (length work) 0
+  pub past-33 : (makeRecord table answer fresh room (length work) .outcome ≡ 46)
+      ⊎ ((makeRecord table answer fresh room (length work) .outcome ≡ 34) ⊎ (makeRecord table answer fresh room (length work) .outcome ≡ 32))
+      → makeWork table answer fresh room work ≡ replicate (length work) 0
+  pub kept : makeRecord table answer fresh room (length work) .outcome ≢ 0 → makeRecord table answer fresh room (length work) .outcome ≢ 46
+      → makeRecord table answer fresh room (length work) .outcome ≢ 34 → makeRecord table answer fresh room (length work) .outcome ≢ 32
+      → makeWork table answer fresh room work ≡ work
