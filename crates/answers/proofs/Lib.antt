@@ -31,3 +31,4 @@ pub mod RightSide
 pub mod Runs
 pub mod Never
 pub mod Revised
+pub mod TwoTables

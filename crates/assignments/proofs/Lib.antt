@@ -9,3 +9,5 @@ pub mod RowPlaces
 pub mod HomePlaces
 pub mod Theorems
 pub mod PatternCall
+pub mod Matching
+pub mod Matched

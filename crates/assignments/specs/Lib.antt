@@ -1,4 +1,5 @@
 pub mod Form
 pub mod Call
+pub mod Matching
 pub mod Made
 pub mod Homes

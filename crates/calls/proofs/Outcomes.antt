@@ -23,7 +23,7 @@ use Rattle.sheets.specs.Sheet.{sheetFound, sheetRows}
 use Rattle.sheets.specs.Call.{sheetNumber, sheetRow, sheetRecord}
 use Rattle.sheets.specs.Program.{textRecord, programRecord}
 use Rattle.answers.specs.Solve.{valid, unsatisfiable, answerRecord, solveRecord}
-use Rattle.assignments.specs.Call.{patternRecord}
+use Rattle.assignments.specs.Matching.{makeStops, makeRecord}
 use Rattle.windows.specs.Call.{positionsRecord}
 use Rattle.jobs.specs.Prefix.{upTo}
 use Rattle.jobs.specs.Call.{openStops, openRecord, stepStops, stepRecord, jobAnswerStops, jobAnswerRecord}
@@ -74,10 +74,15 @@ module _ (P : Record → Type 0) (fine : (r : Record) → r .outcome ≤ 2 → P
   solve table answerRoom workRoom =
       first _ _ (more (refused 10 0 (omega arith) (omega arith)) (more (fault (firstFault table)) none)) (answer (rowsOf table))
 
-  pattern-made : (answers fresh : List ℕ) (room : ℕ) → P (patternRecord answers fresh room)
-  unfolding patternRecord
-  pattern-made answers fresh room =
-      first _ _ (more (refused 33 0 (omega arith) (omega arith)) (more (refused 34 0 (omega arith) (omega arith)) (more (refused 32 0 (omega arith) (omega arith)) none))) (fine _ (omega arith))
+  pattern-made : (table answers fresh : List ℕ) (room workRoom : ℕ) → P (makeRecord table answers fresh room workRoom)
+  unfolding makeRecord makeStops
+  pattern-made table answers fresh room workRoom =
+      first _ _
+      (more (refused 10 0 (omega arith) (omega arith))
+      (more (fault (firstFault table))
+      (more (refused 33 0 (omega arith) (omega arith))
+      (more (refused 46 0 (omega arith) (omega arith)) (more (refused 34 0 (omega arith) (omega arith)) (more (refused 32 0 (omega arith) (omega arith)) none))))))
+      (fine _ (omega arith))
 
   positions : (table words : List ℕ) → P (positionsRecord table words)
   unfolding positionsRecord
@@ -130,7 +135,7 @@ module _ (P : Record → Type 0) (fine : (r : Record) → r .outcome ≤ 2 → P
   of-every-record (lw-normal-form table row lent) = form table row _
   of-every-record (lw-read-sheet text lent) = sheet text _
   of-every-record (lw-solve table lent work) = solve table _ _
-  of-every-record (lw-make-pattern rows fresh lent) = pattern-made rows fresh _
+  of-every-record (lw-make-pattern table rows fresh lent work) = pattern-made table rows fresh _ _
   of-every-record (lw-marker-positions table words lent) = positions table words
   of-every-record (lw-value-rows rows row pattern lent) = value (rowNumbers rows) row pattern _
   of-every-record (lw-normal-form-rows rows row lent) = form (rowNumbers rows) row _

@@ -1,15 +1,17 @@
 -- Refusals of every call (document 01, "Where a call stops"): a refusal's record has no number but its own and a row, and what is lent stays
--- as it was; a refused table is refused by each call that takes one. Assumes nothing.
-use mathlib.Core.Path.{_≡_, refl, sym, ap, ap₂, subst}
-use mathlib.Core.Bool.{Bool, true, false}
+-- as it was, but for the work area of a pattern call that gets past 33; a refused table is refused by each call that takes one. Assumes nothing.
+use mathlib.Core.Path.{_≡_, refl, sym, _∙_, ap, ap₂, subst}
+use mathlib.Core.Bool.{Bool, true, false, _||_, cond}
 use mathlib.Core.List.{List, [], _∷_}
-use mathlib.Core.Logic.{_≢_}
+use mathlib.Core.Logic.{_≢_, inl, inr}
 use Prim.Native.Nat.{ℕ, _≤_}
 use native.Mathlib.Omega.{arith}
-use lib.ListN.{length}
-use borrow.Author.Tests.{ne-eqb, le-ltb}
+use lib.Dec.{eqb}
+use lib.ListN.{length, replicate}
+use borrow.Author.Tests.{eqb-true, eqb-false, ne-eqb, le-ltb}
 use Rattle.terms.specs.declared.Record.{Record}
-use Rattle.terms.specs.declared.Fault.the-variants.{Accepted}
+use Rattle.terms.specs.declared.Fault.{Fault}
+use Rattle.terms.specs.declared.Fault.the-variants.{Accepted, Shape, Kind, Unused, Named, Width, Value, Bounds, Count}
 use Rattle.terms.specs.Table.{rowNumbers}
 use Rattle.terms.specs.Faults.{firstFault, isAccepted}
 use Rattle.terms.specs.Calls.{refusal, faultNumber, faultRecord, stopAt}
@@ -18,12 +20,13 @@ use Rattle.terms.proofs.AcceptedTable.{fault-high}
 use Rattle.forms.specs.Call.{formRecord, formAfter}
 use Rattle.sheets.specs.Call.{sheetRecord, tableAfter}
 use Rattle.answers.specs.Solve.{solveRecord, answerAfter, workAfter}
-use Rattle.assignments.specs.Call.{patternRecord, patternAfter}
+use Rattle.assignments.specs.Matching.{makeStops, makeRecord, makeAfter, makeWork, WorkAfter}
+use Rattle.assignments.proofs.Matched.{refused-output, work-after}
 use Rattle.windows.specs.Call.{positionsRecord, positionsAfter}
 use Rattle.jobs.specs.Call.{openRecord, stepRecord, jobAnswerRecord, jobAnswerAfter}
 use Rattle.jobs.specs.Course.{Lent, afterOpen, afterStep, stepTold, answerTold, answerLeft}
 use Rattle.jobs.proofs.Refusals.{refuses, untouched}
-use Rattle.calls.specs.Calls.{Call, lw-value, lw-normal-form, lw-read-sheet, lw-solve, lw-make-pattern, lw-marker-positions, lw-value-rows, lw-normal-form-rows, lw-solve-rows, lw-job-open, lw-job-step, lw-job-preview, lw-job-answer, program, recordOf, lentTo, leftBy, RefusedWith, Takes, RefusedByEach}
+use Rattle.calls.specs.Calls.{Call, lw-value, lw-normal-form, lw-read-sheet, lw-solve, lw-make-pattern, lw-marker-positions, lw-value-rows, lw-normal-form-rows, lw-solve-rows, lw-job-open, lw-job-step, lw-job-preview, lw-job-answer, program, recordOf, lentTo, leftBy, clears, leftRefused, RefusedWith, Takes, RefusedByEach}
 use Rattle.calls.proofs.Outcomes.{of-every-record}
 
 -- ---- what is lent stays as it was
@@ -48,9 +51,27 @@ work-left : (table : List ℕ) (room : ℕ) (work : List ℕ) → 3 ≤ solveRec
 unfolding workAfter
 work-left table room work l = rw (le-ltb (solveRecord table room (length work) .outcome) 3 l) refl
 
-pattern-left : (answer fresh pattern : List ℕ) → 3 ≤ patternRecord answer fresh (length pattern) .outcome → patternAfter answer fresh pattern ≡ pattern
-unfolding patternAfter
-pattern-left answer fresh pattern l = rw (ne-eqb (patternRecord answer fresh (length pattern) .outcome) 0 (omega arith)) refl
+pattern-left : (table answer fresh pattern : List ℕ) (room : ℕ) → 3 ≤ makeRecord table answer fresh (length pattern) room .outcome
+    → makeAfter table answer fresh pattern room ≡ pattern
+pattern-left table answer fresh pattern room l = refused-output table answer fresh pattern room (omega arith)
+
+-- the one exception
+area-left : (table answer fresh : List ℕ) (room : ℕ) (work : List ℕ) → 3 ≤ makeRecord table answer fresh room (length work) .outcome
+    → makeWork table answer fresh room work ≡ cond (clears (makeRecord table answer fresh room (length work) .outcome)) (replicate (length work) 0) work
+unfolding clears
+area-left table answer fresh room work l = go _ _ _ refl refl refl
+  where
+    n : ℕ
+    n = makeRecord table answer fresh room (length work) .outcome
+
+    after : WorkAfter table answer fresh room work
+    after = work-after table answer fresh room work
+
+    go : (a b c : Bool) → eqb n 46 ≡ a → eqb n 34 ≡ b → eqb n 32 ≡ c → makeWork table answer fresh room work ≡ cond (a || b || c) (replicate (length work) 0) work
+    go true b c e f g = after .past-33 (inl (eqb-true n 46 e))
+    go false true c e f g = after .past-33 (inr (inl (eqb-true n 34 f)))
+    go false false true e f g = after .past-33 (inr (inr (eqb-true n 32 g)))
+    go false false false e f g = after .kept (omega arith) (eqb-false n 46 e) (eqb-false n 34 f) (eqb-false n 32 g)
 
 list-left : (table words list : List ℕ) → 3 ≤ positionsRecord table words .outcome → positionsAfter table words list ≡ list
 unfolding positionsAfter
@@ -84,12 +105,13 @@ one e = ap (λ (z : List ℕ). z ∷ []) e
 two : {x y x′ y′ : List ℕ} → x ≡ y → x′ ≡ y′ → x ∷ x′ ∷ [] ≡ y ∷ y′ ∷ []
 two e e′ = ap₂ (λ (z z′ : List ℕ). z ∷ z′ ∷ []) e e′
 
-left-by : (c : Call) → 3 ≤ recordOf c .outcome → leftBy c ≡ lentTo c
+left-by : (c : Call) → 3 ≤ recordOf c .outcome → leftBy c ≡ leftRefused (recordOf c .outcome) c
 left-by (lw-value table row pattern value) l = one (value-left table row pattern value l)
 left-by (lw-normal-form table row form) l = one (form-left table row form l)
 left-by (lw-read-sheet sheet table) l = one (table-left sheet table l)
 left-by (lw-solve table answer work) l = two (answer-left table answer (length work) l) (work-left table (length answer) work l)
-left-by (lw-make-pattern answer fresh pattern) l = one (pattern-left answer fresh pattern l)
+left-by (lw-make-pattern table answer fresh pattern work) l =
+    two (pattern-left table answer fresh pattern (length work) l) (area-left table answer fresh (length pattern) work l)
 left-by (lw-marker-positions table words list) l = one (list-left table words list l)
 left-by (lw-value-rows rows row pattern value) l = one (value-left (rowNumbers rows) row pattern value l)
 left-by (lw-normal-form-rows rows row form) l = one (form-left (rowNumbers rows) row form l)
@@ -107,6 +129,20 @@ refusals c l =
     record { record-is = refl; high = told .0; alone = told .1; left = left-by c l }
 
 -- ---- a refused table
+
+-- its number is none after which a pattern call clears its area
+fault-keeps : (f : Fault) → clears (faultNumber f) ≡ false
+unfolding clears
+fault-keeps Accepted = refl
+fault-keeps Shape = refl
+fault-keeps (Kind r) = refl
+fault-keeps (Unused r) = refl
+fault-keeps (Named r) = refl
+fault-keeps (Width r) = refl
+fault-keeps (Value r) = refl
+fault-keeps (Bounds r) = refl
+fault-keeps (Count r) = refl
+
 module _ (t : List ℕ) (h : isAccepted (firstFault t) ≡ false) where
   by-value : (row : ℕ) (pattern : List ℕ) (room : ℕ) → valueRecord t row pattern room ≡ faultRecord (firstFault t)
   unfolding valueRecord stopAt
@@ -119,6 +155,10 @@ module _ (t : List ℕ) (h : isAccepted (firstFault t) ≡ false) where
   by-solve : (answer work : List ℕ) → 24576 ≤ length answer → 16384 ≤ length work → solveRecord t (length answer) (length work) ≡ faultRecord (firstFault t)
   unfolding solveRecord stopAt
   by-solve answer work room memory = rw (le-ltb (length answer) 24576 room, le-ltb (length work) 16384 memory, h) refl
+
+  by-make : (answer fresh : List ℕ) (room : ℕ) (work : List ℕ) → 16384 ≤ length work → makeRecord t answer fresh room (length work) ≡ faultRecord (firstFault t)
+  unfolding makeRecord makeStops stopAt
+  by-make answer fresh room work memory = rw (le-ltb (length work) 16384 memory, h) refl
 
   by-positions : (words : List ℕ) → positionsRecord t words ≡ faultRecord (firstFault t)
   unfolding positionsRecord stopAt
@@ -144,7 +184,7 @@ module _ (t : List ℕ) (h : isAccepted (firstFault t) ≡ false) where
   by-each (lw-normal-form table row form) e = rw e (by-form row (length form))
   by-each (lw-read-sheet sheet table) e = absurd e
   by-each (lw-solve table answer work) e = rw (e .0) (by-solve answer work (e .1) (e .2))
-  by-each (lw-make-pattern answer fresh pattern) e = absurd e
+  by-each (lw-make-pattern table answer fresh pattern work) e = rw (e .0) (by-make answer fresh (length pattern) work (e .1))
   by-each (lw-marker-positions table words list) e = rw e (by-positions words)
   by-each (lw-value-rows rows row pattern value) e = rw e (by-value row pattern (length value))
   by-each (lw-normal-form-rows rows row form) e = rw e (by-form row (length form))
@@ -155,8 +195,26 @@ module _ (t : List ℕ) (h : isAccepted (firstFault t) ≡ false) where
   by-each (lw-job-answer table next ties work answer) e = rw (e .0) (by-so-far next ties work answer (e .1) (e .2))
   by-each (program text) e = absurd e
 
-  -- Each call that takes the table is refused with the record of its first fault.
+  as-lent : (c : Call) → leftRefused (faultNumber (firstFault t)) c ≡ lentTo c
+  as-lent (lw-value table row pattern value) = refl
+  as-lent (lw-normal-form table row form) = refl
+  as-lent (lw-read-sheet sheet table) = refl
+  as-lent (lw-solve table answer work) = refl
+  as-lent (lw-make-pattern table answer fresh pattern work) = rw (fault-keeps (firstFault t)) refl
+  as-lent (lw-marker-positions table words list) = refl
+  as-lent (lw-value-rows rows row pattern value) = refl
+  as-lent (lw-normal-form-rows rows row form) = refl
+  as-lent (lw-solve-rows rows answer work) = refl
+  as-lent (lw-job-open table next ties work) = refl
+  as-lent (lw-job-step table next ties work) = refl
+  as-lent (lw-job-preview table next ties work) = refl
+  as-lent (lw-job-answer table next ties work answer) = refl
+  as-lent (program text) = refl
+
+  -- Each call that takes the table is refused with the record of its first fault, and leaves all as it was.
   pub refused-by-each : RefusedByEach t (faultRecord (firstFault t))
   refused-by-each c e =
+      let k : RefusedWith (faultRecord (firstFault t)) c =
       subst (λ (found : Record). RefusedWith found c) (by-each c e)
-      (refusals c (omega (arith, ap (λ (r : Record). r .outcome) (by-each c e), fault-high (firstFault t) h)))
+      (refusals c (omega (arith, ap (λ (r : Record). r .outcome) (by-each c e), fault-high (firstFault t) h))) in
+      (k, k .left ∙ as-lent c)

@@ -2,9 +2,11 @@
 -- stops"; document 02, (iii)), in proofs/Outcomes.antt and proofs/Refusals.antt. That their contracts say the same is linkwords/proofs/Calls.antt,
 -- of the program solve/proofs/Calls.antt.
 use mathlib.Core.Path.{_≡_}
+use mathlib.Core.Bool.{Bool, _||_, cond}
 use mathlib.Core.List.{List, [], _∷_}
 use Prim.Native.Nat.{ℕ, _≤_}
-use lib.ListN.{length}
+use lib.Dec.{eqb}
+use lib.ListN.{length, replicate}
 use Rattle.terms.specs.declared.Record.{Record}
 use Rattle.terms.specs.declared.Row.{Row}
 use Rattle.terms.specs.Calls.{refusal}
@@ -14,7 +16,7 @@ use Rattle.forms.specs.Call.{formRecord, formAfter}
 use Rattle.sheets.specs.Call.{sheetRecord, tableAfter}
 use Rattle.sheets.specs.Program.{programRecord}
 use Rattle.answers.specs.Solve.{solveRecord, answerAfter, workAfter}
-use Rattle.assignments.specs.Call.{patternRecord, patternAfter}
+use Rattle.assignments.specs.Matching.{makeRecord, makeAfter, makeWork}
 use Rattle.windows.specs.Call.{positionsRecord, positionsAfter}
 use Rattle.jobs.specs.Call.{openRecord, openJob, openWork, stepRecord, stepJob, stepWork, jobAnswerRecord, jobAnswerAfter}
 
@@ -24,7 +26,7 @@ pub data Call : Type 0 where
   lw-normal-form : (table : List ℕ) (row : ℕ) (form : List ℕ) → Call
   lw-read-sheet : (sheet table : List ℕ) → Call
   lw-solve : (table answer work : List ℕ) → Call
-  lw-make-pattern : (answer fresh pattern : List ℕ) → Call
+  lw-make-pattern : (table answer fresh pattern work : List ℕ) → Call
   lw-marker-positions : (table words list : List ℕ) → Call
   lw-value-rows : (rows : List Row) (row : ℕ) (pattern value : List ℕ) → Call
   lw-normal-form-rows : (rows : List Row) (row : ℕ) (form : List ℕ) → Call
@@ -41,7 +43,7 @@ recordOf (lw-value table row pattern value) = valueRecord table row pattern (len
 recordOf (lw-normal-form table row form) = formRecord table row (length form)
 recordOf (lw-read-sheet sheet table) = sheetRecord sheet (length table)
 recordOf (lw-solve table answer work) = solveRecord table (length answer) (length work)
-recordOf (lw-make-pattern answer fresh pattern) = patternRecord answer fresh (length pattern)
+recordOf (lw-make-pattern table answer fresh pattern work) = makeRecord table answer fresh (length pattern) (length work)
 recordOf (lw-marker-positions table words list) = positionsRecord table words
 recordOf (lw-value-rows rows row pattern value) = valueRecord (rowNumbers rows) row pattern (length value)
 recordOf (lw-normal-form-rows rows row form) = formRecord (rowNumbers rows) row (length form)
@@ -58,7 +60,7 @@ lentTo (lw-value table row pattern value) = value ∷ []
 lentTo (lw-normal-form table row form) = form ∷ []
 lentTo (lw-read-sheet sheet table) = table ∷ []
 lentTo (lw-solve table answer work) = answer ∷ work ∷ []
-lentTo (lw-make-pattern answer fresh pattern) = pattern ∷ []
+lentTo (lw-make-pattern table answer fresh pattern work) = pattern ∷ work ∷ []
 lentTo (lw-marker-positions table words list) = list ∷ []
 lentTo (lw-value-rows rows row pattern value) = value ∷ []
 lentTo (lw-normal-form-rows rows row form) = form ∷ []
@@ -75,7 +77,8 @@ leftBy (lw-value table row pattern value) = valueAfter table row pattern value �
 leftBy (lw-normal-form table row form) = formAfter table row form ∷ []
 leftBy (lw-read-sheet sheet table) = tableAfter sheet table ∷ []
 leftBy (lw-solve table answer work) = answerAfter table answer (length work) ∷ workAfter table (length answer) work ∷ []
-leftBy (lw-make-pattern answer fresh pattern) = patternAfter answer fresh pattern ∷ []
+leftBy (lw-make-pattern table answer fresh pattern work) =
+    makeAfter table answer fresh pattern (length work) ∷ makeWork table answer fresh (length pattern) work ∷ []
 leftBy (lw-marker-positions table words list) = positionsAfter table words list ∷ []
 leftBy (lw-value-rows rows row pattern value) = valueAfter (rowNumbers rows) row pattern value ∷ []
 leftBy (lw-normal-form-rows rows row form) = formAfter (rowNumbers rows) row form ∷ []
@@ -88,22 +91,44 @@ leftBy (lw-job-preview table next ties work) = []
 leftBy (lw-job-answer table next ties work answer) = jobAnswerAfter table next ties work answer ∷ []
 leftBy (program text) = []
 
--- A call is refused with this record and leaves all as it was. The outcome of a call that is not refused is 0, 1 or 2; the number of a refusal
+-- The refusals behind 33 of a pattern call, which clear its work area.
+unfoldable pub clears : ℕ → Bool
+clears number = eqb number 46 || eqb number 34 || eqb number 32
+
+-- What a refusal with this number leaves of what is lent: all as it was. The one exception (document 02, (x)): a pattern call that is refused 46, 34 or 32
+-- has got past 33, and leaves every number of its work area 0.
+abbrev pub leftRefused : ℕ → Call → List (List ℕ)
+leftRefused number (lw-value table row pattern value) = lentTo (lw-value table row pattern value)
+leftRefused number (lw-normal-form table row form) = lentTo (lw-normal-form table row form)
+leftRefused number (lw-read-sheet sheet table) = lentTo (lw-read-sheet sheet table)
+leftRefused number (lw-solve table answer work) = lentTo (lw-solve table answer work)
+leftRefused number (lw-make-pattern table answer fresh pattern work) = pattern ∷ cond (clears number) (replicate (length work) 0) work ∷ []
+leftRefused number (lw-marker-positions table words list) = lentTo (lw-marker-positions table words list)
+leftRefused number (lw-value-rows rows row pattern value) = lentTo (lw-value-rows rows row pattern value)
+leftRefused number (lw-normal-form-rows rows row form) = lentTo (lw-normal-form-rows rows row form)
+leftRefused number (lw-solve-rows rows answer work) = lentTo (lw-solve-rows rows answer work)
+leftRefused number (lw-job-open table next ties work) = lentTo (lw-job-open table next ties work)
+leftRefused number (lw-job-step table next ties work) = lentTo (lw-job-step table next ties work)
+leftRefused number (lw-job-preview table next ties work) = lentTo (lw-job-preview table next ties work)
+leftRefused number (lw-job-answer table next ties work answer) = lentTo (lw-job-answer table next ties work answer)
+leftRefused number (program text) = lentTo (program text)
+
+-- A call is refused with this record and leaves what a refusal leaves. The outcome of a call that is not refused is 0, 1 or 2; the number of a refusal
 -- is 10 or above, and the other numbers of its record are 0 but row.
 pub record RefusedWith (found : Record) (c : Call) : Type 0 where
   pub record-is : recordOf c ≡ found
   pub high : 10 ≤ found .outcome
   pub alone : found ≡ refusal (found .outcome) (found .row)
-  pub left : leftBy c ≡ lentTo c
+  pub left : leftBy c ≡ leftRefused (found .outcome) c
 
--- Whether a call takes this term table and comes to look at it: a solve, or a call of a job, has the room that it asks for before (10). One line
+-- Whether a call takes this term table and comes to look at it: a solve, a pattern call or a call of a job has the room that it asks for before (10). One line
 -- for each call.
 abbrev pub Takes : List ℕ → Call → Type 0
 Takes t (lw-value table row pattern value) = table ≡ t
 Takes t (lw-normal-form table row form) = table ≡ t
 Takes t (lw-read-sheet sheet table) = ⊥
 Takes t (lw-solve table answer work) = (table ≡ t) × (24576 ≤ length answer) × (16384 ≤ length work)
-Takes t (lw-make-pattern answer fresh pattern) = ⊥
+Takes t (lw-make-pattern table answer fresh pattern work) = (table ≡ t) × (16384 ≤ length work)
 Takes t (lw-marker-positions table words list) = table ≡ t
 Takes t (lw-value-rows rows row pattern value) = rowNumbers rows ≡ t
 Takes t (lw-normal-form-rows rows row form) = rowNumbers rows ≡ t
@@ -114,6 +139,6 @@ Takes t (lw-job-preview table next ties work) = (table ≡ t) × (16384 ≤ leng
 Takes t (lw-job-answer table next ties work answer) = (table ≡ t) × (16384 ≤ length work) × (24576 ≤ length answer)
 Takes t (program text) = ⊥
 
--- A table is refused with this record by each call that takes one.
+-- A table is refused with this record by each call that takes one, and all is left as it was.
 abbrev pub RefusedByEach : List ℕ → Record → Type 0
-RefusedByEach t found = (c : Call) → Takes t c → RefusedWith found c
+RefusedByEach t found = (c : Call) → Takes t c → RefusedWith found c × (leftBy c ≡ lentTo c)

@@ -66,8 +66,8 @@ module _ {M : Type 1} (𝓤 : URA M) (H : Heap 𝓤) (A : Atoms 𝓤) (mem : Mem
       → solve.clauses 𝓤 H A mem run κs a ≡ Ensures solve.ended κs (λ r e. Two (lw-solve (a .0 .now) (a .1 .0 .now) (a .1 .1 .0 .now)) r (e .1 .0 .now) (e .1 .1 .0 .now))
   solve-says κs a = refl
 
-  pub make-pattern-says : (κs : Lfts 3) (a : Args make-pattern.signature κs)
-      → make-pattern.clauses 𝓤 H A mem run κs a ≡ Ensures make-pattern.ended κs (λ r e. One (lw-make-pattern (a .0 .now) (a .1 .0 .now) (a .1 .1 .0 .now)) r (e .1 .1 .0 .now))
+  pub make-pattern-says : (κs : Lfts 5) (a : Args make-pattern.signature κs)
+      → make-pattern.clauses 𝓤 H A mem run κs a ≡ Ensures make-pattern.ended κs (λ r e. Two (lw-make-pattern (a .0 .now) (a .1 .0 .now) (a .1 .1 .0 .now) (a .1 .1 .1 .0 .now) (a .1 .1 .1 .1 .0 .now)) r (e .1 .1 .1 .0 .now) (e .1 .1 .1 .1 .0 .now))
   make-pattern-says κs a = refl
 
   pub marker-positions-says : (κs : Lfts 3) (a : Args marker-positions.signature κs)

@@ -8,7 +8,7 @@ ghost use Rattle.terms.specs.Table.{rowNumbers};
 ghost use Rattle.sheets.specs.Call.{sheetRecord, tableAfter};
 ghost use Rattle.answers.specs.Solve.{solveRecord, answerAfter, workAfter};
 ghost use Rattle.answers.specs.RightSide.{rightSideStart, rightSideLength};
-ghost use Rattle.assignments.specs.Call.{patternRecord, patternAfter};
+ghost use Rattle.assignments.specs.Matching.{makeRecord, makeAfter, makeWork};
 ghost use Rattle.windows.specs.Call.{positionsRecord, positionsAfter};
 ghost use Rattle.jobs.specs.Call.{openRecord, openJob, openWork, stepRecord, stepJob, stepWork, jobAnswerRecord, jobAnswerAfter};
 ghost use Rattle.result_sheets.specs.Page.{pageText};
@@ -64,13 +64,20 @@ pub extern "C" fn lw_right_side(answer: &[u16], rows_in_use: usize, variable: us
     answer_table::right_part(answer, rows_in_use, variable)
 }
 
-// The pattern that an answer table gives at fresh bits.
+// The pattern that the answer solved from a table gives at fresh bits.
 #[no_mangle]
-pub extern "C" fn lw_make_pattern(answer: &[u16], fresh: &[u8], pattern: &mut [u8]) -> Record
-    ensures record { λ r. ⌜ r ≡ patternRecord (now (answer .entry)) (now (fresh .entry)) (length (now (pattern .entry))) ⌝ }
-    ensures pattern { λ _. ⌜ now (pattern .exit) ≡ patternAfter (now (answer .entry)) (now (fresh .entry)) (now (pattern .entry)) ⌝ }
+pub extern "C" fn lw_make_pattern(
+    table: &[u16],
+    answer: &[u16],
+    fresh: &[u8],
+    pattern: &mut [u8],
+    work: &mut [u16],
+) -> Record
+    ensures record { λ r. ⌜ r ≡ makeRecord (now (table .entry)) (now (answer .entry)) (now (fresh .entry)) (length (now (pattern .entry))) (length (now (work .entry))) ⌝ }
+    ensures pattern { λ _. ⌜ now (pattern .exit) ≡ makeAfter (now (table .entry)) (now (answer .entry)) (now (fresh .entry)) (now (pattern .entry)) (length (now (work .entry))) ⌝ }
+    ensures work { λ _. ⌜ now (work .exit) ≡ makeWork (now (table .entry)) (now (answer .entry)) (now (fresh .entry)) (length (now (pattern .entry))) (now (work .entry)) ⌝ }
 {
-    maker::make_pattern(answer, fresh, pattern)
+    matcher::make_pattern(table, answer, fresh, pattern, work)
 }
 
 // The starts at which the words of a run meet a table.

@@ -1,9 +1,7 @@
-// The pattern maker (document 01, "The solver's answer"): the form of the answer table is read (crate shapes), and then each row's bits are
-// written to the pattern.
+// An answer table filled with fresh bits (document 01, "The solver's answer"): its form was read (crate shapes), and each row's bits are written to
+// the pattern. The call, which asks for the table that the answer was solved from, is in the crate matcher.
 ghost use mathlib.Core.Path.{_≡_};
-ghost use lib.ListN.{length};
 ghost use Rattle.laws.specs.Buffers.{Behind};
-ghost use Rattle.assignments.specs.Call.{patternRecord, patternAfter};
 ghost use Rattle.maker.specs.inner.Filling.{byteIn, bytesIn, WritesRows, Fills};
 use shapes::Found;
 use terms::Record;
@@ -77,17 +75,4 @@ pub fn fill(
     }
     put_rows(answer, fresh, starts, pattern);
     records::complete(0, bits as u32)
-}
-
-// The pattern that an answer table gives at fresh bits, as bytes 0 and 1, high bit first.
-pub fn make_pattern(answer: &[u16], fresh: &[u8], pattern: &mut [u8]) -> Record
-    ensures record { λ r. ⌜ r ≡ patternRecord (now (answer .entry)) (now (fresh .entry)) (length (now (pattern .entry))) ⌝ }
-    ensures pattern { λ _. ⌜ now (pattern .exit) ≡ patternAfter (now (answer .entry)) (now (fresh .entry)) (now (pattern .entry)) ⌝ }
-{
-    let mut starts = [0u16; 4096];
-    let found = shapes::form_of(answer, &mut starts[..]);
-    if !found.fine {
-        return records::refuse(33, 0);
-    }
-    fill(answer, found, fresh, &starts[..], pattern)
 }
