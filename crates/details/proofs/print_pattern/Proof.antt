@@ -46,6 +46,9 @@ print-bits-requires c κs = search needs
 same-length : tie.Need-same-length
 same-length c = search needs
 
+same-length-2 : tie.Need-same-length-2
+same-length-2 c = search needs
+
 returns : tie.Need-returns
 returns c = search needs
 
@@ -66,4 +69,5 @@ print-pattern-spec =
     slice-aggregate-print-bits
     print-bits-requires
     same-length
+    same-length-2
     returns)
