@@ -468,7 +468,7 @@ extern "C" {
 #define LW_STACK_READ_SHEET         4352
 #define LW_STACK_SOLVE            162240
 #define LW_STACK_RIGHT_SIDE           64
-#define LW_STACK_MAKE_PATTERN      16576
+#define LW_STACK_MAKE_PATTERN     220736
 #define LW_STACK_MARKER_POSITIONS 172800
 #define LW_STACK_PAGE               2688
 #define LW_STACK_JOB_OPEN           2496
