@@ -70,8 +70,9 @@ static void test_home_bits(const char *name, const solved_table *s, const uint8_
 /* What is lent with a table: the answer, and fresh bytes. */
 static lent lend(const draft *d, const uint16_t *answer, size_t len, const uint8_t *fresh, size_t fresh_len)
 {
+    bool noise = one_in(8);
     return (lent){.table = d->t.numbers, .table_len = d->t.len, .answer = answer, .answer_len = len, .fresh = fresh,
-                  .fresh_len = fresh_len, .work_len = one_in(4) ? LONG_AREA : AREA, .used = !one_in(8)};
+                  .fresh_len = fresh_len, .work_len = noise && one_in(2) ? LONG_AREA : AREA, .used = !noise};
 }
 
 /* One filling: the pattern is that of the plain pattern maker, it meets the table, and each home has its piece. */
