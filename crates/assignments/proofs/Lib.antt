@@ -9,5 +9,4 @@ pub mod RowPlaces
 pub mod HomePlaces
 pub mod Theorems
 pub mod PatternCall
-pub mod Matching
 pub mod Matched

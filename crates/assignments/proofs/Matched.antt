@@ -1,6 +1,7 @@
--- The pattern call with the table lent, for every input (document 02, (x)). Assumes nothing.
+-- The pattern call with the table lent, for every input (document 02, (x)): (a) `made-meets`, (b) `all-made`, (c) `solved-then-made`, (d) `refused-46`,
+-- (e) `empty-refused`, (f) `work-after`, (g) `other-sheet`, (h) `revised-made`. Assumes nothing.
 use mathlib.Core.Path.{_≡_, refl, sym, _∙_, ap, ap₂, subst}
-use mathlib.Core.Bool.{Bool, true, false, not, cond}
+use mathlib.Core.Bool.{Bool, true, false, not}
 use mathlib.Core.List.{List, [], _∷_}
 use mathlib.Core.Logic.{_≢_, _⊎_, inl, inr, ⊎-elim}
 use Prim.Native.Nat.{ℕ, zero, suc, _*_, _^_, _≤_, _<_}
@@ -17,7 +18,7 @@ use Rattle.terms.specs.declared.Fault.{Fault}
 use Rattle.terms.specs.declared.Fault.the-variants.{Accepted, Shape, Kind, Unused, Named, Width, Value, Bounds, Count}
 use Rattle.terms.specs.Acceptance.{Exactly}
 use Rattle.terms.specs.Assignments.{Assignment, count}
-use Rattle.terms.specs.Calls.{refusal, completed, faultNumber, faultRecord, stopAt, stopped}
+use Rattle.terms.specs.Calls.{refusal, completed, faultNumber, stopAt, stopped}
 use Rattle.terms.specs.Faults.{isAccepted, firstFault}
 use Rattle.terms.specs.Table.{rowsOf, rowNumbers, bitsOf, sameWord, satisfies, counting}
 use Rattle.terms.proofs.AcceptedTable.{fault-none, fault-high}
@@ -35,10 +36,9 @@ use Rattle.answers.proofs.Revised.{same-counting}
 use Rattle.answers.proofs.TwoTables.{same-rows-same-patterns}
 use Rattle.answers.proofs.Variables.{widths-sum}
 use Rattle.assignments.specs.Form.{patternBits, rowsFine, homesFine, hasForm}
-use Rattle.assignments.specs.Call.{wrongFresh, patternRecord}
+use Rattle.assignments.specs.Call.{wrongFresh, patternRecord, patternAfter}
 use Rattle.assignments.specs.Made.{Makes, patternOf}
-use Rattle.assignments.specs.Matching.{otherAnswer, makeStops, makeRecord, makeAfter, makeWork, ownAnswer, patternMade, Meets, OnlyRun, AllMade, solvedAnswer, WorkAfter, NotSamePatterns, NoneMade, SameMade}
-use Rattle.assignments.proofs.Matching.{right-record, right-after}
+use Rattle.assignments.specs.Matching.{otherAnswer, makeStops, makeRecord, makeAfter, makeWork, ownAnswer, patternMade, Meets, AllMade, solvedAnswer, WorkAfter, NotSamePatterns, NoneMade, SameMade}
 use Rattle.assignments.proofs.Theorems.{pattern-length, solved-form, made-from-solved}
 
 -- ---- the output
@@ -58,6 +58,157 @@ refused-output table answer fresh old workRoom n = go (stopped (makeStops table 
     go : (b : Bool) → stopped (makeStops table answer fresh (length old) workRoom) ≡ b → makeAfter table answer fresh old workRoom ≡ old
     go true h = rw h refl
     go false h = absurd (n (ap (λ (r : Record). r .outcome) (passes (makeStops table answer fresh (length old) workRoom) _ h)))
+
+-- ---- another answer
+
+-- An answer is another exactly if the table has none, or it is not the table's.
+other-exactly : (table answer : List ℕ) → Exactly (otherAnswer table answer ≡ true) ((answerRecord (rowsOf table) .outcome ≢ 2) ⊎ (answer ≢ ownAnswer table))
+unfolding otherAnswer
+other-exactly table answer =
+    record {
+      to = λ h. to (eqb (answerRecord (rowsOf table) .outcome) 2) refl h;
+      of = λ h. ⊎-elim (λ n. rw (ne-eqb (answerRecord (rowsOf table) .outcome) 2 n) refl) (λ n. or-right (not (eqb (answerRecord (rowsOf table) .outcome) 2)) _ (ap not (differs n (sameWord (ownAnswer table) answer) refl))) h;
+    }
+  where
+    to : (b : Bool) → eqb (answerRecord (rowsOf table) .outcome) 2 ≡ b → otherAnswer table answer ≡ true
+        → (answerRecord (rowsOf table) .outcome ≢ 2) ⊎ (answer ≢ ownAnswer table)
+    to true e h =
+        let z : not (sameWord (ownAnswer table) answer) ≡ true = rw e at h in
+        inr (λ q. not-both (ap (sameWord (ownAnswer table)) q ∙ word-same (ownAnswer table)) (not-true _ z))
+    to false e h = inl (eqb-false (answerRecord (rowsOf table) .outcome) 2 e)
+
+    differs : answer ≢ ownAnswer table → (b : Bool) → sameWord (ownAnswer table) answer ≡ b → b ≡ false
+    differs n true e = absurd (n (sym (same-word (ownAnswer table) answer e)))
+    differs n false e = refl
+
+-- The table's own answer is no other, and no other is the table's.
+own-right : (table : List ℕ) → answerRecord (rowsOf table) .outcome ≡ 2 → otherAnswer table (ownAnswer table) ≡ false
+unfolding otherAnswer
+own-right table solved = rw (solved, word-same (ownAnswer table)) refl
+
+right-own : (table answer : List ℕ) → otherAnswer table answer ≡ false → (answerRecord (rowsOf table) .outcome ≡ 2) × (ownAnswer table ≡ answer)
+unfolding otherAnswer
+right-own table answer h =
+    let a = or-first (not (eqb (answerRecord (rowsOf table) .outcome) 2)) _ h in
+    let b = or-second (not (eqb (answerRecord (rowsOf table) .outcome) 2)) _ h in
+    (eqb-true (answerRecord (rowsOf table) .outcome) 2 (not-false _ a), same-word (ownAnswer table) answer (not-false _ b))
+
+-- (d) With room, whatever the fresh bytes and the output.
+other-refused : (table answer : List ℕ) → firstFault table ≡ Accepted → hasForm answer ≡ true → otherAnswer table answer ≡ true
+    → (fresh : List ℕ) (room workRoom : ℕ) → 16384 ≤ workRoom → makeRecord table answer fresh room workRoom ≡ refusal 46 0
+unfolding makeRecord makeStops stopAt
+other-refused table answer accepted form other fresh room workRoom memory = rw (le-ltb workRoom 16384 memory, accepted, form, other) refl
+
+-- that of the right answer is 10, 34, 32 or accepted
+right-outcome : (table answer fresh : List ℕ) (room workRoom : ℕ) → firstFault table ≡ Accepted → hasForm answer ≡ true → otherAnswer table answer ≡ false
+    → (makeRecord table answer fresh room workRoom .outcome ≢ 33) × (makeRecord table answer fresh room workRoom .outcome ≢ 46)
+unfolding makeRecord makeStops stopAt
+right-outcome table answer fresh room workRoom accepted form same =
+    go (ltb workRoom 16384) refl (wrongFresh answer fresh) refl (ltb room (patternBits (answerRowsOf answer))) refl
+  where
+    apart : (n : ℕ) → makeRecord table answer fresh room workRoom .outcome ≡ n → n ≢ 33 → n ≢ 46
+        → (makeRecord table answer fresh room workRoom .outcome ≢ 33) × (makeRecord table answer fresh room workRoom .outcome ≢ 46)
+    apart n e a b = (λ z. a (sym e ∙ z), λ z. b (sym e ∙ z))
+
+    go : (a : Bool) → ltb workRoom 16384 ≡ a → (b : Bool) → wrongFresh answer fresh ≡ b → (c : Bool) → ltb room (patternBits (answerRowsOf answer)) ≡ c
+        → (makeRecord table answer fresh room workRoom .outcome ≢ 33) × (makeRecord table answer fresh room workRoom .outcome ≢ 46)
+    go true l b k c j = apart 10 (rw l refl) (omega arith) (omega arith)
+    go false l true k c j = apart 34 (rw (l, accepted, form, same, k) refl) (omega arith) (omega arith)
+    go false l false k true j = apart 32 (rw (l, accepted, form, same, k, j) refl) (omega arith) (omega arith)
+    go false l false k false j = apart 0 (rw (l, accepted, form, same, k, j) refl) (omega arith) (omega arith)
+
+pub refused-46 : (table answer : List ℕ) → firstFault table ≡ Accepted → hasForm answer ≡ true → (fresh : List ℕ) (room workRoom : ℕ) → 16384 ≤ workRoom
+    → Exactly (makeRecord table answer fresh room workRoom .outcome ≡ 46) ((answerRecord (rowsOf table) .outcome ≢ 2) ⊎ (answer ≢ ownAnswer table))
+refused-46 table answer accepted form fresh room workRoom memory =
+    record {
+      to = λ e. other-exactly table answer .to (to (otherAnswer table answer) refl e);
+      of = λ n. ap (λ (r : Record). r .outcome) (other-refused table answer accepted form (other-exactly table answer .of n) fresh room workRoom memory);
+    }
+  where
+    to : (b : Bool) → otherAnswer table answer ≡ b → makeRecord table answer fresh room workRoom .outcome ≡ 46 → b ≡ true
+    to true h e = refl
+    to false h e = absurd (right-outcome table answer fresh room workRoom accepted form h .1 e)
+
+-- (e)
+empty-form : hasForm [] ≡ true
+unfolding hasForm rowsFine homesFine sameWord answerNumbers numbersFrom answerRowsOf
+empty-form = refl
+
+module _ (table : List ℕ) (accepted : firstFault table ≡ Accepted) where
+  -- an answer has rows: without them nothing would be free or fixed, and the table would be always
+  some-rows : answerRecord (rowsOf table) .outcome ≡ 2 → [] ≢ ownAnswer table
+  some-rows solved e =
+      let D = demand-3 table accepted in
+      let none : solvedRows (rowsOf table) ≡ [] = sym (rows-back (solvedRows (rowsOf table))) ∙ ap answerRowsOf (sym e) ∙ (unfold answerRowsOf in refl) in
+      let bits : bitsOf (rowsOf table) ≡ 0 = sym (pattern-length table accepted solved) ∙ ap patternBits none ∙ (unfold patternBits in refl) in
+      let free : answerRecord (rowsOf table) .free ≡ 0 = D .solved-free solved ∙ ap freeBits none ∙ (unfold freeBits freshPieces freshNumbers freshStart distinct in refl) in
+      let all : count (bitsOf (rowsOf table)) (satisfies (rowsOf table)) ≡ 2 ^ bitsOf (rowsOf table) =
+      D .solved-count solved ∙ ap (λ (n : ℕ). 2 ^ n) (free ∙ sym bits) in
+      omega (arith, solved, D .always-of all)
+
+  pub empty-refused : (fresh : List ℕ) (room workRoom : ℕ) → 16384 ≤ workRoom → makeRecord table [] fresh room workRoom ≡ refusal 46 0
+  unfolding makeRecord makeStops stopAt
+  empty-refused fresh room workRoom memory =
+      let other = other-exactly table [] .of (⊎-elim (λ e. inr (some-rows e)) inl (dec-eq (answerRecord (rowsOf table) .outcome) 2)) in
+      rw (le-ltb workRoom 16384 memory, accepted, empty-form, other) refl
+
+-- (c)
+pub solved-then-made : (table old work : List ℕ) → solveRecord table (length old) (length work) .outcome ≡ 2 → (fresh : List ℕ) (room workRoom : ℕ)
+    → (makeRecord table (solvedAnswer table old (length work)) fresh room workRoom .outcome ≢ 33)
+    × (makeRecord table (solvedAnswer table old (length work)) fresh room workRoom .outcome ≢ 46)
+solved-then-made table old work two fresh room workRoom = ⊎-elim
+    (λ l. absurd (omega (arith, two, ap outcome (no-answer-room table (length old) (length work) l))))
+    (λ room. ⊎-elim (λ l. absurd (omega (arith, two, ap outcome (no-work-room table (length old) (length work) l)))) (λ memory. with-room room memory) (lt-or-le (length work) 16384))
+    (lt-or-le (length old) 24576)
+  where
+    outcome : Record → ℕ
+    outcome r = r .outcome
+
+    with-room : 24576 ≤ length old → 16384 ≤ length work → (makeRecord table (solvedAnswer table old (length work)) fresh room workRoom .outcome ≢ 33)
+        × (makeRecord table (solvedAnswer table old (length work)) fresh room workRoom .outcome ≢ 46)
+    with-room enough memory =
+        let accepted = solve-accepts table (length old) (length work) enough memory .to (omega (arith, two)) in
+        let told = call-record table accepted old work enough memory in
+        let solved : answerRecord (rowsOf table) .outcome ≡ 2 = ap outcome (sym told) ∙ two in
+        let own : solvedAnswer table old (length work) ≡ ownAnswer table =
+        ap (λ (r : Record). take (r .pieces * 6) (answerAfter table old (length work))) told ∙ call-answer table accepted old work enough memory solved in
+        rw own (right-outcome table (ownAnswer table) fresh room workRoom accepted (solved-form table accepted solved) (own-right table solved))
+
+-- without room it is 10
+short-area : (table answer fresh : List ℕ) (room workRoom : ℕ) → workRoom < 16384 → makeRecord table answer fresh room workRoom ≡ refusal 10 0
+unfolding makeRecord makeStops stopAt
+short-area table answer fresh room workRoom l = rw (lt-ltb workRoom 16384 l) refl
+
+-- (g)
+module _ (table other : List ℕ) (accepted : firstFault table ≡ Accepted) (good : firstFault other ≡ Accepted) (apart : NotSamePatterns table other) where
+  not-own : answerRecord (rowsOf other) .outcome ≡ 2 → (answerRecord (rowsOf table) .outcome ≢ 2) ⊎ (ownAnswer other ≢ ownAnswer table)
+  not-own solved = ⊎-elim
+      (λ two. inr (λ e. apart (same-rows-same-patterns table other accepted good two solved
+      (sym (rows-back (solvedRows (rowsOf table))) ∙ ap answerRowsOf (sym e) ∙ rows-back (solvedRows (rowsOf other))) .1)))
+      inl
+      (dec-eq (answerRecord (rowsOf table) .outcome) 2)
+
+  none-made : answerRecord (rowsOf other) .outcome ≡ 2 → NoneMade table other
+  none-made solved = record {
+    refused = told;
+    not-made = λ fresh room workRoom e. ⊎-elim (λ l. absurd (omega (arith, e, ap outcome (short-area table (ownAnswer other) fresh room workRoom l))))
+        (λ memory. absurd (omega (arith, e, ap outcome (told fresh room workRoom memory)))) (lt-or-le workRoom 16384);
+  }
+    where
+      outcome : Record → ℕ
+      outcome r = r .outcome
+
+      told : (fresh : List ℕ) (room workRoom : ℕ) → 16384 ≤ workRoom → makeRecord table (ownAnswer other) fresh room workRoom ≡ refusal 46 0
+      told = other-refused table (ownAnswer other) accepted (solved-form other good solved) (other-exactly table (ownAnswer other) .of (not-own solved))
+
+-- Two accepted tables that have not the same patterns: neither makes one from the other's answer.
+pub other-sheet : (table other : List ℕ) → firstFault table ≡ Accepted → firstFault other ≡ Accepted → variableWidths (rowsOf table) ≡ variableWidths (rowsOf other)
+    → NotSamePatterns table other
+    → (answerRecord (rowsOf other) .outcome ≡ 2 → NoneMade table other) × (answerRecord (rowsOf table) .outcome ≡ 2 → NoneMade other table)
+other-sheet table other accepted good same apart = (none-made table other accepted good apart, none-made other table good accepted (λ h. apart (λ p a. sym (h p (subst (λ (n : ℕ). Assignment n p) bits a)))))
+  where
+    bits : bitsOf (rowsOf table) ≡ bitsOf (rowsOf other)
+    bits = sym (widths-sum (rowsOf table)) ∙ ap widthSum same ∙ widths-sum (rowsOf other)
 
 -- ---- (f) the work area
 
@@ -126,37 +277,7 @@ module _ (table answer fresh : List ℕ) (room : ℕ) (work : List ℕ) where
       none a b c d (inr (inr (inl e))) = d e
       none a b c d (inr (inr (inr e))) = a e
 
--- ---- where the call stops past 33
-
--- Behind 33 three places are left.
-late-record : (table answer fresh : List ℕ) (room workRoom : ℕ) → 16384 ≤ workRoom → firstFault table ≡ Accepted → hasForm answer ≡ true
-    → makeRecord table answer fresh room workRoom
-    ≡ stopAt ((otherAnswer table answer, refusal 46 0) ∷ (wrongFresh answer fresh, refusal 34 0) ∷ (ltb room (patternBits (answerRowsOf answer)), refusal 32 0) ∷ [])
-    (completed 0 (patternBits (answerRowsOf answer)))
-unfolding makeRecord makeStops stopAt
-late-record table answer fresh room workRoom memory accepted form = rw (le-ltb workRoom 16384 memory, accepted, form) refl
-
--- The record of the right answer is 34, 32 or accepted.
-right-outcome : (table answer fresh : List ℕ) (room workRoom : ℕ) → firstFault table ≡ Accepted → hasForm answer ≡ true → otherAnswer table answer ≡ false
-    → (makeRecord table answer fresh room workRoom .outcome ≢ 33) × (makeRecord table answer fresh room workRoom .outcome ≢ 46)
-unfolding makeRecord makeStops stopAt
-right-outcome table answer fresh room workRoom accepted form same =
-    go (ltb workRoom 16384) refl (wrongFresh answer fresh) refl (ltb room (patternBits (answerRowsOf answer))) refl
-  where
-    apart : (n : ℕ) → makeRecord table answer fresh room workRoom .outcome ≡ n → n ≢ 33 → n ≢ 46
-        → (makeRecord table answer fresh room workRoom .outcome ≢ 33) × (makeRecord table answer fresh room workRoom .outcome ≢ 46)
-    apart n e a b = (λ z. a (sym e ∙ z), λ z. b (sym e ∙ z))
-
-    go : (a : Bool) → ltb workRoom 16384 ≡ a → (b : Bool) → wrongFresh answer fresh ≡ b → (c : Bool) → ltb room (patternBits (answerRowsOf answer)) ≡ c
-        → (makeRecord table answer fresh room workRoom .outcome ≢ 33) × (makeRecord table answer fresh room workRoom .outcome ≢ 46)
-    go true l b k c j = apart 10 (rw l refl) (omega arith) (omega arith)
-    go false l true k c j = apart 34 (rw (l, accepted, form, same, k) refl) (omega arith) (omega arith)
-    go false l false k true j = apart 32 (rw (l, accepted, form, same, k, j) refl) (omega arith) (omega arith)
-    go false l false k false j = apart 0 (rw (l, accepted, form, same, k, j) refl) (omega arith) (omega arith)
-
-short-area : (table answer fresh : List ℕ) (room workRoom : ℕ) → workRoom < 16384 → makeRecord table answer fresh room workRoom ≡ refusal 10 0
-unfolding makeRecord makeStops stopAt
-short-area table answer fresh room workRoom l = rw (lt-ltb workRoom 16384 l) refl
+-- ---- revised equations
 
 -- What counts in a table is stopped where the table is.
 same-stops : (table : List ℕ) → firstFault table ≡ Accepted → (answer fresh : List ℕ) (room workRoom : ℕ)
@@ -165,133 +286,6 @@ unfolding makeStops otherAnswer
 same-stops table accepted answer fresh room workRoom =
     let same = same-counting table accepted in
     rw (counting-accepted table accepted, accepted, rows-written (counting (rowsOf table)), same .same-record, same .same-rows) refl
-
--- ---- the right answer
-
--- An answer is another exactly if the table has none, or it is not the table's.
-other-exactly : (table answer : List ℕ) → Exactly (otherAnswer table answer ≡ true) ((answerRecord (rowsOf table) .outcome ≢ 2) ⊎ (answer ≢ ownAnswer table))
-unfolding otherAnswer
-other-exactly table answer =
-    record {
-      to = λ h. to (eqb (answerRecord (rowsOf table) .outcome) 2) refl h;
-      of = λ h. ⊎-elim (λ n. rw (ne-eqb (answerRecord (rowsOf table) .outcome) 2 n) refl) (λ n. or-right (not (eqb (answerRecord (rowsOf table) .outcome) 2)) _ (ap not (differs n (sameWord (ownAnswer table) answer) refl))) h;
-    }
-  where
-    to : (b : Bool) → eqb (answerRecord (rowsOf table) .outcome) 2 ≡ b → otherAnswer table answer ≡ true
-        → (answerRecord (rowsOf table) .outcome ≢ 2) ⊎ (answer ≢ ownAnswer table)
-    to true e h =
-        let z : not (sameWord (ownAnswer table) answer) ≡ true = rw e at h in
-        inr (λ q. not-both (ap (sameWord (ownAnswer table)) q ∙ word-same (ownAnswer table)) (not-true _ z))
-    to false e h = inl (eqb-false (answerRecord (rowsOf table) .outcome) 2 e)
-
-    differs : answer ≢ ownAnswer table → (b : Bool) → sameWord (ownAnswer table) answer ≡ b → b ≡ false
-    differs n true e = absurd (n (sym (same-word (ownAnswer table) answer e)))
-    differs n false e = refl
-
--- The table's own answer is no other, and no other is the table's.
-own-right : (table : List ℕ) → answerRecord (rowsOf table) .outcome ≡ 2 → otherAnswer table (ownAnswer table) ≡ false
-unfolding otherAnswer
-own-right table solved = rw (solved, word-same (ownAnswer table)) refl
-
-right-own : (table answer : List ℕ) → otherAnswer table answer ≡ false → (answerRecord (rowsOf table) .outcome ≡ 2) × (ownAnswer table ≡ answer)
-unfolding otherAnswer
-right-own table answer h =
-    let a = or-first (not (eqb (answerRecord (rowsOf table) .outcome) 2)) _ h in
-    let b = or-second (not (eqb (answerRecord (rowsOf table) .outcome) 2)) _ h in
-    (eqb-true (answerRecord (rowsOf table) .outcome) 2 (not-false _ a), same-word (ownAnswer table) answer (not-false _ b))
-
--- (d)
-pub refused-46 : (table answer : List ℕ) → firstFault table ≡ Accepted → hasForm answer ≡ true → (fresh : List ℕ) (room workRoom : ℕ) → 16384 ≤ workRoom
-    → Exactly (makeRecord table answer fresh room workRoom .outcome ≡ 46) ((answerRecord (rowsOf table) .outcome ≢ 2) ⊎ (answer ≢ ownAnswer table))
-unfolding stopAt
-refused-46 table answer accepted form fresh room workRoom memory =
-    record {
-      to = λ e. other-exactly table answer .to (to (otherAnswer table answer) refl e);
-      of = λ n. ap (λ (r : Record). r .outcome) (late-record table answer fresh room workRoom memory accepted form) ∙ rw (other-exactly table answer .of n) refl;
-    }
-  where
-    to : (b : Bool) → otherAnswer table answer ≡ b → makeRecord table answer fresh room workRoom .outcome ≡ 46 → b ≡ true
-    to true h e = refl
-    to false h e = absurd (right-outcome table answer fresh room workRoom accepted form h .1 e)
-
--- (e)
-empty-form : hasForm [] ≡ true
-unfolding hasForm rowsFine homesFine sameWord answerNumbers numbersFrom answerRowsOf
-empty-form = refl
-
-module _ (table : List ℕ) (accepted : firstFault table ≡ Accepted) where
-  -- an answer has rows: without them nothing would be free or fixed, and the table would be always
-  some-rows : answerRecord (rowsOf table) .outcome ≡ 2 → [] ≢ ownAnswer table
-  some-rows solved e =
-      let D = demand-3 table accepted in
-      let none : solvedRows (rowsOf table) ≡ [] = sym (rows-back (solvedRows (rowsOf table))) ∙ ap answerRowsOf (sym e) ∙ (unfold answerRowsOf in refl) in
-      let bits : bitsOf (rowsOf table) ≡ 0 = sym (pattern-length table accepted solved) ∙ ap patternBits none ∙ (unfold patternBits in refl) in
-      let free : answerRecord (rowsOf table) .free ≡ 0 = D .solved-free solved ∙ ap freeBits none ∙ (unfold freeBits freshPieces freshNumbers freshStart distinct in refl) in
-      let all : count (bitsOf (rowsOf table)) (satisfies (rowsOf table)) ≡ 2 ^ bitsOf (rowsOf table) =
-      D .solved-count solved ∙ ap (λ (n : ℕ). 2 ^ n) (free ∙ sym bits) in
-      omega (arith, solved, D .always-of all)
-
-  pub empty-refused : (fresh : List ℕ) (room workRoom : ℕ) → 16384 ≤ workRoom → makeRecord table [] fresh room workRoom ≡ refusal 46 0
-  unfolding stopAt
-  empty-refused fresh room workRoom memory =
-      late-record table [] fresh room workRoom memory accepted empty-form
-      ∙ rw (other-exactly table [] .of (⊎-elim (λ e. inr (some-rows e)) inl (dec-eq (answerRecord (rowsOf table) .outcome) 2))) refl
-
--- (c)
-pub solved-then-made : (table old work : List ℕ) → solveRecord table (length old) (length work) .outcome ≡ 2 → (fresh : List ℕ) (room workRoom : ℕ)
-    → (makeRecord table (solvedAnswer table old (length work)) fresh room workRoom .outcome ≢ 33)
-    × (makeRecord table (solvedAnswer table old (length work)) fresh room workRoom .outcome ≢ 46)
-solved-then-made table old work two fresh room workRoom = ⊎-elim
-    (λ l. absurd (omega (arith, two, ap outcome (no-answer-room table (length old) (length work) l))))
-    (λ room. ⊎-elim (λ l. absurd (omega (arith, two, ap outcome (no-work-room table (length old) (length work) l)))) (λ memory. with-room room memory) (lt-or-le (length work) 16384))
-    (lt-or-le (length old) 24576)
-  where
-    outcome : Record → ℕ
-    outcome r = r .outcome
-
-    with-room : 24576 ≤ length old → 16384 ≤ length work → (makeRecord table (solvedAnswer table old (length work)) fresh room workRoom .outcome ≢ 33)
-        × (makeRecord table (solvedAnswer table old (length work)) fresh room workRoom .outcome ≢ 46)
-    with-room enough memory =
-        let accepted = solve-accepts table (length old) (length work) enough memory .to (omega (arith, two)) in
-        let told = call-record table accepted old work enough memory in
-        let solved : answerRecord (rowsOf table) .outcome ≡ 2 = ap outcome (sym told) ∙ two in
-        let own : solvedAnswer table old (length work) ≡ ownAnswer table =
-        ap (λ (r : Record). take (r .pieces * 6) (answerAfter table old (length work))) told ∙ call-answer table accepted old work enough memory solved in
-        rw own (right-outcome table (ownAnswer table) fresh room workRoom accepted (solved-form table accepted solved) (own-right table solved))
-
--- (g)
-module _ (table other : List ℕ) (accepted : firstFault table ≡ Accepted) (good : firstFault other ≡ Accepted) (apart : NotSamePatterns table other) where
-  not-own : answerRecord (rowsOf other) .outcome ≡ 2 → (answerRecord (rowsOf table) .outcome ≢ 2) ⊎ (ownAnswer other ≢ ownAnswer table)
-  not-own solved = ⊎-elim
-      (λ two. inr (λ e. apart (same-rows-same-patterns table other accepted good two solved
-      (sym (rows-back (solvedRows (rowsOf table))) ∙ ap answerRowsOf (sym e) ∙ rows-back (solvedRows (rowsOf other))) .1)))
-      inl
-      (dec-eq (answerRecord (rowsOf table) .outcome) 2)
-
-  none-made : answerRecord (rowsOf other) .outcome ≡ 2 → NoneMade table other
-  unfolding stopAt
-  none-made solved = record {
-    refused = told;
-    not-made = λ fresh room workRoom e. ⊎-elim (λ l. absurd (omega (arith, e, ap outcome (short-area table (ownAnswer other) fresh room workRoom l))))
-        (λ memory. absurd (omega (arith, e, ap outcome (told fresh room workRoom memory)))) (lt-or-le workRoom 16384);
-  }
-    where
-      outcome : Record → ℕ
-      outcome r = r .outcome
-
-      told : (fresh : List ℕ) (room workRoom : ℕ) → 16384 ≤ workRoom → makeRecord table (ownAnswer other) fresh room workRoom ≡ refusal 46 0
-      told fresh room workRoom memory =
-          late-record table (ownAnswer other) fresh room workRoom memory accepted (solved-form other good solved)
-          ∙ rw (other-exactly table (ownAnswer other) .of (not-own solved)) refl
-
--- Two accepted tables that have not the same patterns: neither makes one from the other's answer.
-pub other-sheet : (table other : List ℕ) → firstFault table ≡ Accepted → firstFault other ≡ Accepted → variableWidths (rowsOf table) ≡ variableWidths (rowsOf other)
-    → NotSamePatterns table other
-    → (answerRecord (rowsOf other) .outcome ≡ 2 → NoneMade table other) × (answerRecord (rowsOf table) .outcome ≡ 2 → NoneMade other table)
-other-sheet table other accepted good same apart = (none-made table other accepted good apart, none-made other table good accepted (λ h. apart (λ p a. sym (h p (subst (λ (n : ℕ). Assignment n p) bits a)))))
-  where
-    bits : bitsOf (rowsOf table) ≡ bitsOf (rowsOf other)
-    bits = sym (widths-sum (rowsOf table)) ∙ ap widthSum same ∙ widths-sum (rowsOf other)
 
 -- (h)
 pub revised-made : (table : List ℕ) → firstFault table ≡ Accepted → (answer fresh old work : List ℕ) → SameMade table answer fresh old work
@@ -302,6 +296,24 @@ revised-made table accepted answer fresh old work =
       same-output = rw (same-stops table accepted answer fresh (length old) (length work)) refl;
       same-area = rw (same-stops table accepted answer fresh (length old) (length work)) refl;
     }
+
+-- ---- the right answer is filled
+
+module _ (table answer fresh old : List ℕ) (workRoom : ℕ) (memory : 16384 ≤ workRoom) (accepted : firstFault table ≡ Accepted) (form : hasForm answer ≡ true)
+    (same : otherAnswer table answer ≡ false) where
+  pub right-record : makeRecord table answer fresh (length old) workRoom ≡ patternRecord answer fresh (length old)
+  unfolding makeRecord makeStops stopAt patternRecord
+  right-record = rw (le-ltb workRoom 16384 memory, accepted, form, same) refl
+
+  pub right-after : makeAfter table answer fresh old workRoom ≡ patternAfter answer fresh old
+  unfolding makeAfter makeStops stopped patternAfter patternRecord stopAt
+  right-after = go (wrongFresh answer fresh) refl (ltb (length old) (patternBits (answerRowsOf answer))) refl
+    where
+      go : (a : Bool) → wrongFresh answer fresh ≡ a → (b : Bool) → ltb (length old) (patternBits (answerRowsOf answer)) ≡ b
+          → makeAfter table answer fresh old workRoom ≡ patternAfter answer fresh old
+      go true h b k = rw (le-ltb workRoom 16384 memory, accepted, form, same, h) refl
+      go false h true k = rw (le-ltb workRoom 16384 memory, accepted, form, same, h, k) refl
+      go false h false k = rw (le-ltb workRoom 16384 memory, accepted, form, same, h, k) refl
 
 -- ---- patterns made
 
@@ -361,12 +373,12 @@ module _ (table : List ℕ) (accepted : firstFault table ≡ Accepted) (solved :
   -- what is said of a filling holds of the call on the table's own answer
   module _ (f old work : List ℕ) (memory : 16384 ≤ length work) where
     as-filled : makeRecord table (ownAnswer table) f (length old) (length work) ≡ patternRecord (ownAnswer table) f (length old)
-    as-filled = right-record table own f old work memory accepted (solved-form table accepted solved) (own-right table solved)
+    as-filled = right-record table own f old (length work) memory accepted (solved-form table accepted solved) (own-right table solved)
 
     is-made : Makes t f old → patternMade table (ownAnswer table) f old (length work) ≡ patternOf t f old
     is-made M =
         ap₂ (λ (n : ℕ) (l : List ℕ). take n l) (ap (λ (r : Record). r .free) (as-filled ∙ M .returns))
-        (right-after table own f old work memory accepted (solved-form table accepted solved) (own-right table solved))
+        (right-after table own f old (length work) memory accepted (solved-form table accepted solved) (own-right table solved))
 
     made : Assignment (answerRecord (rowsOf table) .free) f → bitsOf (rowsOf table) ≤ length old
         → (makeRecord table (ownAnswer table) f (length old) (length work) ≡ completed 0 (bitsOf (rowsOf table))) × Meets table (patternMade table (ownAnswer table) f old (length work))

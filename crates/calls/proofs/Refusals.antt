@@ -1,6 +1,6 @@
 -- Refusals of every call (document 01, "Where a call stops"): a refusal's record has no number but its own and a row, and what is lent stays
 -- as it was, but for the work area of a pattern call that gets past 33; a refused table is refused by each call that takes one. Assumes nothing.
-use mathlib.Core.Path.{_≡_, refl, sym, _∙_, ap, ap₂, subst}
+use mathlib.Core.Path.{_≡_, refl, _∙_, ap, ap₂, subst}
 use mathlib.Core.Bool.{Bool, true, false, _||_, cond}
 use mathlib.Core.List.{List, [], _∷_}
 use mathlib.Core.Logic.{_≢_, inl, inr}

@@ -33,8 +33,8 @@ fn print_table(table: &[u16], out: &mut [u8]) {
     }
     io::write_all(libc::STDOUT_FILENO, b"patterns\n");
     let len = numbers::lesser(found.pieces as usize * answers::ROW, solver::ANSWER);
-    details::print_pattern(table, &answer[..len], 0, free, &mut work[..], out);
-    details::print_pattern(table, &answer[..len], 1, free, &mut work[..], out);
+    details::print_pattern(table, &answer[..len], 0, free, out);
+    details::print_pattern(table, &answer[..len], 1, free, out);
 }
 
 // All that is printed for a sheet behind its name.

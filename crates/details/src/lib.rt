@@ -139,19 +139,19 @@ pub fn print_values(table: &[u16], bits: usize, out: &mut [u8]) {
 }
 
 // The record and the pattern that a table's answer gives at fresh bits, every second of which is 1, the first of these given.
-pub fn print_pattern(
-    table: &[u16],
-    answer: &[u16],
-    first: usize,
-    free: usize,
-    work: &mut [u16],
-    out: &mut [u8],
-) {
+pub fn print_pattern(table: &[u16], answer: &[u16], first: usize, free: usize, out: &mut [u8]) {
     let mut fresh = [0u8; terms::MAX_BITS];
     mark_every(&mut fresh[..], first, 2);
     let len = numbers::lesser(free, terms::MAX_BITS);
     let mut pattern = [0u8; terms::MAX_BITS];
-    let found = matcher::make_pattern(table, answer, &fresh[..len], &mut pattern[..], work);
+    let mut work = [0u16; solver::MEMORY];
+    let found = matcher::make_pattern(
+        table,
+        answer,
+        &fresh[..len],
+        &mut pattern[..],
+        &mut work[..],
+    );
     let bits = numbers::lesser(found.free as usize, terms::MAX_BITS);
     print_bits(found, &pattern[..bits], out);
 }

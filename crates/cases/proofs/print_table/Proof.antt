@@ -67,20 +67,14 @@ array-share-prefix-answer c = search needs
 slice-aggregate-print-pattern : tie.Need-slice-aggregate-print-pattern
 slice-aggregate-print-pattern c = sym (length-take-le _ _ (omega arith))
 
-slice-aggregate-print-pattern-2 : tie.Need-slice-aggregate-print-pattern-2
-slice-aggregate-print-pattern-2 c = search needs
-
 print-pattern-requires : tie.Need-print-pattern-requires
 print-pattern-requires c κs = search needs
 
 array-share-prefix-answer-2 : tie.Need-array-share-prefix-answer-2
 array-share-prefix-answer-2 c = search needs
 
-slice-aggregate-print-pattern-3 : tie.Need-slice-aggregate-print-pattern-3
-slice-aggregate-print-pattern-3 c = sym (length-take-le _ _ (omega arith))
-
-slice-aggregate-print-pattern-4 : tie.Need-slice-aggregate-print-pattern-4
-slice-aggregate-print-pattern-4 c = search needs
+slice-aggregate-print-pattern-2 : tie.Need-slice-aggregate-print-pattern-2
+slice-aggregate-print-pattern-2 c = sym (length-take-le _ _ (omega arith))
 
 print-pattern-requires-2 : tie.Need-print-pattern-requires-2
 print-pattern-requires-2 c κs = search needs
@@ -115,11 +109,9 @@ print-table-spec =
     lesser-requires
     array-share-prefix-answer
     slice-aggregate-print-pattern
-    slice-aggregate-print-pattern-2
     print-pattern-requires
     array-share-prefix-answer-2
-    slice-aggregate-print-pattern-3
-    slice-aggregate-print-pattern-4
+    slice-aggregate-print-pattern-2
     print-pattern-requires-2
     same-length-3
     returns-4)

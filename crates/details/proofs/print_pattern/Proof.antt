@@ -25,6 +25,9 @@ slice-aggregate-make-pattern c = sym (length-take-le _ _ (omega arith))
 slice-aggregate-make-pattern-2 : tie.Need-slice-aggregate-make-pattern-2
 slice-aggregate-make-pattern-2 c = search needs
 
+slice-aggregate-make-pattern-3 : tie.Need-slice-aggregate-make-pattern-3
+slice-aggregate-make-pattern-3 c = search needs
+
 make-pattern-requires : tie.Need-make-pattern-requires
 make-pattern-requires c κs = search needs
 
@@ -46,9 +49,6 @@ print-bits-requires c κs = search needs
 same-length : tie.Need-same-length
 same-length c = search needs
 
-same-length-2 : tie.Need-same-length-2
-same-length-2 c = search needs
-
 returns : tie.Need-returns
 returns c = search needs
 
@@ -62,6 +62,7 @@ print-pattern-spec =
     array-share-prefix-fresh
     slice-aggregate-make-pattern
     slice-aggregate-make-pattern-2
+    slice-aggregate-make-pattern-3
     make-pattern-requires
     cast-lesser
     lesser-requires-2
@@ -69,5 +70,4 @@ print-pattern-spec =
     slice-aggregate-print-bits
     print-bits-requires
     same-length
-    same-length-2
     returns)

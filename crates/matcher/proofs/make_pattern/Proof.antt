@@ -1,4 +1,4 @@
--- `make_pattern` meets its contract: each way in which it ends has its law in assignments/proofs/Matching.antt. Assumes nothing.
+-- `make_pattern` meets its contract: each way in which it ends has its law in proofs/Ends.antt. Assumes nothing.
 use mathlib.Core.Path.{_≡_, sym, _∙_, ap}
 use mathlib.Core.Bool.{true}
 use native.Mathlib.Omega.{arith}
@@ -11,7 +11,7 @@ use Rattle.terms.specs.Calls.{faultRecord}
 use Rattle.terms.proofs.AcceptedTable.{fault-none}
 use Rattle.checker.proofs.Checking.{fault-found}
 use Rattle.assignments.specs.Form.{hasForm}
-use Rattle.assignments.proofs.Matching.{stop-memory, stop-fault, stop-33, stop-46, fill-right}
+use Rattle.matcher.proofs.Ends.{stop-memory, stop-fault, stop-33, stop-46, fill-right}
 use Rattle.maker.proofs.Ending.{form-filled}
 use Rattle.matcher.proofs.make_pattern.Statement.{statement}
 use Rattle.matcher.proofs.make_pattern.Tie as tie

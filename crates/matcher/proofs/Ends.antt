@@ -1,21 +1,18 @@
--- Each way in which the pattern call ends gives the record, the output and the work area of the definitions; and a call on the right answer is one
--- that fills it. Assumes nothing.
+-- Each way in which the pattern call ends gives the record, the output and the work area of the definitions. Assumes nothing.
 use mathlib.Core.Path.{_≡_, refl, sym, _∙_}
-use mathlib.Core.Bool.{Bool, true, false, not, cond}
+use mathlib.Core.Bool.{true, false}
 use mathlib.Core.List.{List}
 use Prim.Native.Nat.{ℕ, _<_, _≤_}
-use lib.Dec.{ltb}
 use lib.ListN.{length, replicate}
 use borrow.Author.Tests.{lt-ltb, le-ltb}
-use Rattle.laws.specs.Buffers.{overwrite}
 use Rattle.terms.specs.declared.Record.{Record}
 use Rattle.terms.specs.declared.Fault.the-variants.{Accepted}
 use Rattle.terms.specs.Calls.{refusal, faultRecord, stopAt, stopped}
 use Rattle.terms.specs.Faults.{isAccepted, firstFault}
-use Rattle.answers.specs.Answer.{answerRowsOf, instantiate}
-use Rattle.assignments.specs.Form.{patternBits, hasForm}
-use Rattle.assignments.specs.Call.{wrongFresh, patternRecord, patternAfter}
+use Rattle.assignments.specs.Form.{hasForm}
+use Rattle.assignments.specs.Call.{patternRecord, patternAfter}
 use Rattle.assignments.specs.Matching.{otherAnswer, makeStops, makeRecord, makeAfter, makeWork}
+use Rattle.assignments.proofs.Matched.{right-record, right-after}
 
 module _ (table answer fresh old work : List ℕ) where
   -- the record, the output and the work area of a call
@@ -43,7 +40,7 @@ module _ (table answer fresh old work : List ℕ) where
 
       module _ (form : hasForm answer ≡ true) where
         -- past 33 the work area is 0
-        pub past-33 : makeWork table answer fresh (length old) work ≡ replicate (length work) 0
+        past-33 : makeWork table answer fresh (length old) work ≡ replicate (length work) 0
         unfolding makeWork makeStops stopped
         past-33 = rw (le-ltb (length work) 16384 memory, accepted, form) refl
 
@@ -54,20 +51,6 @@ module _ (table answer fresh old work : List ℕ) where
 
         module _ (same : otherAnswer table answer ≡ false) where
           -- the right answer is filled
-          pub right-record : makeRecord table answer fresh (length old) (length work) ≡ patternRecord answer fresh (length old)
-          unfolding makeRecord makeStops stopAt patternRecord
-          right-record = rw (le-ltb (length work) 16384 memory, accepted, form, same) refl
-
-          pub right-after : makeAfter table answer fresh old (length work) ≡ patternAfter answer fresh old
-          unfolding makeAfter makeStops stopped patternAfter patternRecord stopAt
-          right-after = go (wrongFresh answer fresh) refl (ltb (length old) (patternBits (answerRowsOf answer))) refl
-            where
-              go : (a : Bool) → wrongFresh answer fresh ≡ a → (b : Bool) → ltb (length old) (patternBits (answerRowsOf answer)) ≡ b
-                  → makeAfter table answer fresh old (length work) ≡ patternAfter answer fresh old
-              go true h b k = rw (le-ltb (length work) 16384 memory, accepted, form, same, h) refl
-              go false h true k = rw (le-ltb (length work) 16384 memory, accepted, form, same, h, k) refl
-              go false h false k = rw (le-ltb (length work) 16384 memory, accepted, form, same, h, k) refl
-
           pub fill-right : (r : Record) (out work′ : List ℕ) → (r ≡ patternRecord answer fresh (length old)) × (out ≡ patternAfter answer fresh old)
               → work′ ≡ replicate (length work) 0 → Ends r out work′
-          fill-right r out work′ k w = (k .0 ∙ sym right-record, (k .1 ∙ sym right-after, w ∙ sym past-33))
+          fill-right r out work′ k w = (k .0 ∙ sym (right-record table answer fresh old (length work) memory accepted form same), (k .1 ∙ sym (right-after table answer fresh old (length work) memory accepted form same), w ∙ sym past-33))
