@@ -29,6 +29,7 @@
 #define MOST_SMALL 2.4       /* both for the smallest tables */
 #define MOST_OPEN_SMALL 0.8
 #define MOST_ALL 1.5         /* all steps, to the solves of the table with the later equations left off */
+#define MOST_PREVIEW 1.05    /* and a preview to the step that it tells of */
 
 /* The time is that of many calls where one of them is short. */
 enum { LONG = 3, SHORT = 30, SHORTEST = 100, ALL_EVERY = 10 /* rounds */ };
@@ -51,16 +52,16 @@ static void make_wide(draft *d, size_t width)
 
 typedef struct {
     subject in;
-    double most, most_open, most_all; /* goals; 0 for none */
+    double most, most_open, most_all, most_preview; /* goals; 0 for none */
     size_t equations;
     uint16_t taken[EQUATIONS][LW_TABLE_NUMBERS]; /* the table with so many equations and one more: the others are fills */
     lw_job before;                               /* the job before its last step, and what holds each bit then */
     uint16_t held[LW_MAX_VARIABLE_BITS];
-    samples solve, open, step, answer, steps, solves;
+    samples solve, open, preview, step, answer, steps, solves;
 } job_subject;
 
-#define SMALL_GOALS .most = MOST_SMALL, .most_open = MOST_OPEN_SMALL
-#define GOALS .most = MOST, .most_open = MOST_OPEN, .most_all = MOST_ALL
+#define SMALL_GOALS .most = MOST_SMALL, .most_open = MOST_OPEN_SMALL, .most_preview = MOST_PREVIEW
+#define GOALS .most = MOST, .most_open = MOST_OPEN, .most_all = MOST_ALL, .most_preview = MOST_PREVIEW
 
 static job_subject subjects[] = {
     {.in = {.name = "bit", .make = make_fixed, .size = 1, .calls = SHORTEST}, SMALL_GOALS},
@@ -101,12 +102,29 @@ static lw_record step(const job_subject *s)
     return lw_job_step(s->in.d.t.numbers, s->in.d.t.len, &job, work, LW_WORK_NUMBERS);
 }
 
-/* The job is first made what it was before that step, which has changed no more of the work area than this. */
-static lw_record last_step(const job_subject *s)
+static lw_record preview(const job_subject *s)
+{
+    return lw_job_preview(s->in.d.t.numbers, s->in.d.t.len, &job, work, LW_WORK_NUMBERS);
+}
+
+/* The job is made what it was before its last step, which has changed no more of the work area than this. */
+static void take_back(const job_subject *s)
 {
     job = s->before;
     memcpy(work, s->held, s->in.facts.bits * sizeof *work);
+}
+
+static lw_record last_step(const job_subject *s)
+{
+    take_back(s);
     return step(s);
+}
+
+/* A preview has nothing to take back; it is done all the same, so that both times have it. */
+static lw_record last_preview(const job_subject *s)
+{
+    take_back(s);
+    return preview(s);
 }
 
 static lw_record job_answer(const job_subject *s)
@@ -132,7 +150,7 @@ static void leave_off(job_subject *s)
     }
 }
 
-/* Makes the table; whether each step's record, and the answer behind it, are those of lw_solve. */
+/* Makes the table; whether each preview's and each step's record, and the answer behind it, are those of lw_solve. */
 static bool prepare_job(job_subject *s)
 {
     if (!prepare(&s->in))
@@ -142,8 +160,9 @@ static bool prepare_job(job_subject *s)
     for (size_t k = 0; k < s->equations; k++) {
         s->before = job;
         memcpy(s->held, work, sizeof s->held);
-        lw_record want = solve_taken(s, k), got = step(s), again = job_answer(s);
-        if (memcmp(&got, &want, sizeof got) != 0 || memcmp(&again, &want, sizeof again) != 0 ||
+        lw_record want = solve_taken(s, k), told = preview(s), got = step(s), again = job_answer(s);
+        if (memcmp(&told, &want, sizeof told) != 0 || memcmp(&got, &want, sizeof got) != 0 ||
+            memcmp(&again, &want, sizeof again) != 0 ||
             memcmp(answer, other_answer, LW_ANSWER_ROW_NUMBERS * want.pieces * sizeof *answer) != 0) {
             fprintf(stderr, "%s: step %zu of its job has not the answer of lw_solve\n", s->in.name, k);
             return false;
@@ -186,6 +205,7 @@ static void time_round(job_subject *s, bool all)
 {
     time_call(solve, s, &s->solve);
     time_call(open_job, s, &s->open);
+    time_call(last_preview, s, &s->preview);
     time_call(last_step, s, &s->step);
     time_call(job_answer, s, &s->answer); /* of the job at its end */
     if (all)
@@ -229,6 +249,26 @@ static bool print_calls(void)
     return met;
 }
 
+static bool print_previews(void)
+{
+    bool met = true;
+
+    printf("\n### Previews\n\n"
+           "A preview of the last step against that step, in the same round. It does what the step does and writes\n"
+           "nothing. Before both, the job is put back to where it was before that step, and that is part of their times.\n\n"
+           "| table | last step, µs | preview, µs | ratio | goal |\n"
+           "|---|---:|---:|---:|---|\n");
+    for (size_t k = 0; k < SUBJECTS; k++) {
+        job_subject *s = &subjects[k];
+        printf("| %s | %s ", s->in.name, micro(median(&s->step)));
+        met &= print_time(&s->preview, &s->step, s->most_preview);
+        printf("|\n");
+    }
+    printf("\nMedians of %zu rounds. Nothing is kept of a preview: the step that follows does the same again.\n",
+           subjects[0].preview.count);
+    return met;
+}
+
 static bool print_all_steps(void)
 {
     bool met = true;
@@ -263,6 +303,7 @@ int main(int argc, char **argv)
         for (size_t k = 0; k < SUBJECTS; k++)
             time_round(&subjects[k], i % ALL_EVERY == 0);
     bool met = print_calls();
+    met &= print_previews();
     met &= print_all_steps();
     return fflush(stdout) != 0 || ferror(stdout) ? 2 : met ? 0 : 1;
 }

@@ -25,6 +25,7 @@ INTERFACE(lw_marker_positions, lw_record, LENT(uint16_t), LENT(uint16_t), OUT(ui
 INTERFACE(lw_page, lw_page_bytes, lw_record, LENT(uint16_t), size_t);
 INTERFACE(lw_job_open, lw_record, LENT(uint16_t), lw_job *, OUT(uint16_t));
 INTERFACE(lw_job_step, lw_record, LENT(uint16_t), lw_job *, OUT(uint16_t));
+INTERFACE(lw_job_preview, lw_record, LENT(uint16_t), const lw_job *, LENT(uint16_t));
 INTERFACE(lw_job_answer, lw_record, LENT(uint16_t), const lw_job *, LENT(uint16_t), OUT(uint16_t));
 INTERFACE(lw_value_rows, lw_record, LENT(lw_row), size_t, LENT(uint8_t), OUT(uint8_t));
 INTERFACE(lw_normal_form_rows, lw_record, LENT(lw_row), size_t, OUT(uint16_t));
@@ -56,6 +57,7 @@ int main()
     lw_job job = {0, 0};
     check("lw_job_open", lw_job_open(NOTHING, &job, NOTHING).outcome, LW_REFUSED_MEMORY);
     check("lw_job_step", lw_job_step(NOTHING, &job, NOTHING).outcome, LW_REFUSED_MEMORY);
+    check("lw_job_preview", lw_job_preview(NOTHING, &job, NOTHING).outcome, LW_REFUSED_MEMORY);
     check("lw_job_answer", lw_job_answer(NOTHING, &job, NOTHING, NOTHING).outcome, LW_REFUSED_MEMORY);
     check("lw_value_rows", lw_value_rows(NOTHING, 0, NOTHING, NOTHING).outcome, LW_REFUSED_ROW);
     check("lw_normal_form_rows", lw_normal_form_rows(NOTHING, 0, NOTHING).outcome, LW_REFUSED_ROW);

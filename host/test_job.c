@@ -1,19 +1,25 @@
 /*
-  test_job.c -- tests of lw_job_open, lw_job_step and lw_job_answer
+  test_job.c -- tests of lw_job_open, lw_job_step, lw_job_preview and lw_job_answer
 
       test_job [TABLES]
 
   First jobs worked by hand, and the refusals in their order. Then TABLES random
   tables of up to 14 variable bits (20000 if not given): each is opened, stepped
-  to its end and answered at each state, over work areas of 16384, 16385 and 20000
-  numbers, and compared with the enumeration of all patterns (enumerate.c), with
-  the plain solver (plain_solver.c) and with lw_solve of the table with the later
-  equations left off. At each state the job is damaged in every way that the calls
-  have to see; what they ought to say is found by a look through all states, since
-  some damaged jobs are good. Last tables of up to 4096 variable bits, on which the
-  library is compared with the plain solver. Every call is made on guarded
-  buffers, and its record, the job and every number of every buffer are compared.
+  to its end, and previewed and answered at each state, over work areas of 16384,
+  16385 and 20000 numbers, and compared with the enumeration of all patterns
+  (enumerate.c), with the plain solver (plain_solver.c) and with lw_solve of the
+  table with the later equations left off. At each state the job is damaged in
+  every way that the calls have to see; what they ought to say is found by a look
+  through all states, since some damaged jobs are good. Last tables of up to 4096
+  variable bits, on which the library is compared with the plain solver. Every call
+  is made on guarded buffers, and its record, the job and every number of every
+  buffer are compared. Previews are made in read-only pages too, where a write ends
+  the test, also one that is taken back.
 */
+
+#define _DEFAULT_SOURCE /* MAP_ANONYMOUS */
+
+#include <sys/mman.h>
 
 #include "enumerate.h"
 #include "guard.h"
@@ -90,9 +96,9 @@ static const uint16_t *area_of(const course *c, const state *s)
 
 /* Calls and what they are compared with. */
 
-typedef enum { OPEN, STEP, ANSWER, CALLS, BOTH = CALLS /* a step and an answer that are refused */ } call_kind;
+typedef enum { OPEN, STEP, PREVIEW, ANSWER, CALLS, EACH = CALLS /* the last three, each refused */ } call_kind;
 
-static const char *const call_names[] = {"open", "step", "answer", "step and answer"};
+static const char *const call_names[] = {"open", "step", "preview", "answer", "step, preview and answer"};
 
 static lw_record make_call(call_kind which, const uint16_t *numbers, size_t len, guarded *job, guarded *work,
                            size_t work_len, guarded *answer, size_t answer_len)
@@ -100,10 +106,45 @@ static lw_record make_call(call_kind which, const uint16_t *numbers, size_t len,
     switch (which) {
     case OPEN: return lw_job_open(numbers, len, guarded_buffer(job), guarded_buffer(work), work_len);
     case STEP: return lw_job_step(numbers, len, guarded_buffer(job), guarded_buffer(work), work_len);
+    case PREVIEW: return lw_job_preview(numbers, len, guarded_buffer(job), guarded_buffer(work), work_len);
     default:
         return lw_job_answer(numbers, len, guarded_buffer(job), guarded_buffer(work), work_len,
                              guarded_buffer(answer), answer_len);
     }
+}
+
+/* Memory in pages of its own; what lies behind it cannot even be read. */
+enum { LOCKED = 1 << 16 };
+static unsigned char *locked;
+
+static void protect(unsigned char *pages, int rights)
+{
+    if (mprotect(pages, LOCKED, rights) != 0) {
+        perror("mprotect");
+        exit(1);
+    }
+}
+
+/* A preview of job, table and work area in read-only pages. The work area is the last that can be read there. */
+static lw_record preview_locked(const uint16_t *numbers, size_t len, const lw_job *job, const uint16_t *work, size_t work_len)
+{
+    if (locked == NULL) {
+        locked = mmap(NULL, 2 * LOCKED, PROT_READ | PROT_WRITE, MAP_PRIVATE | MAP_ANONYMOUS, -1, 0);
+        if (locked == MAP_FAILED) {
+            perror("mmap");
+            exit(1);
+        }
+        protect(locked + LOCKED, PROT_NONE);
+    }
+    void *work_there = locked + LOCKED - work_len * sizeof *work, *job_there = locked;
+    void *table_there = locked + LOCKED - (work_len + len) * sizeof *work;
+    protect(locked, PROT_READ | PROT_WRITE);
+    memcpy(job_there, job, sizeof *job);
+    memcpy(work_there, work, work_len * sizeof *work);
+    if (len != 0)
+        memcpy(table_there, numbers, len * sizeof *numbers);
+    protect(locked, PROT_READ);
+    return lw_job_preview(table_there, len, job_there, work_there, work_len);
 }
 
 /* The buffers that are lent, used again from call to call: a work area of each length. */
@@ -151,8 +192,8 @@ static void put_rubbish(guarded *g, size_t count)
 
 /*
   One call on the course's table and the lent buffers, with the work area of
-  length k. It leaves the state, or, if that is NULL, all as it is; an answer
-  leaves the state's answer table.
+  length k. It leaves the state, or, if that is NULL, all as it is, as a preview
+  always does; an answer leaves the state's answer table.
 */
 static void call(where at, const char *name, call_kind which, const course *c, size_t k, lw_record want,
                  const state *leaves)
@@ -164,8 +205,8 @@ static void call(where at, const char *name, call_kind which, const course *c, s
 
     guard_put(&lent_table, c->t.numbers, c->t.len * sizeof *numbers);
     memcpy(&before, guarded_buffer(&lent_job), sizeof before);
-    if (which == BOTH)
-        check_record(at, "step", make_call(STEP, numbers, c->t.len, &lent_job, work, lengths[k], NULL, 0), want);
+    for (call_kind w = STEP; which == EACH && w < ANSWER; w++)
+        check_record(at, call_names[w], make_call(w, numbers, c->t.len, &lent_job, work, lengths[k], NULL, 0), want);
     lw_record got = make_call(which, numbers, c->t.len, &lent_job, work, lengths[k], &lent_answer, ANSWER_LEAST);
     if (leaves != NULL && which != ANSWER) {
         guard_expect(&lent_job, &leaves->job, sizeof leaves->job);
@@ -186,6 +227,19 @@ static void call(where at, const char *name, call_kind which, const course *c, s
     }
 }
 
+/* What a preview tells at a state: the record of the next one, after a never the same again, and else that none is left. */
+static lw_record told_before(const course *c, const state *s)
+{
+    return s->job.next == c->facts.rows ? REFUSED(45) : s->job.next == NEVER ? s->record : s[1].record;
+}
+
+/* The same preview in read-only pages: of the job and the work area as they are lent. */
+static void call_locked(where at, const course *c, size_t k, lw_record want)
+{
+    lw_record got = preview_locked(ALL(c->t), guarded_buffer(&lent_job), guarded_buffer(&lent_work[k]), lengths[k]);
+    check_record(at, "preview in read-only pages", got, want);
+}
+
 /* The state that job and work area are, up to the last number; NULL if they are none. */
 static const state *lent_state(const course *c, size_t k)
 {
@@ -203,24 +257,27 @@ static const state *lent_state(const course *c, size_t k)
 
 static unsigned long found_good, found_bad; /* among the jobs tried */
 
-/* An answer and a step of the job and the work area as they are lent; these stay so. */
+/* An answer, a preview and a step of the job and the work area as they are lent; these stay so. */
 static void try_job(where at, const char *name, const course *c, size_t k)
 {
     const state *s = lent_state(c, k);
 
     if (s == NULL) {
-        found_bad++;
-        call(at, name, BOTH, c, k, REFUSED(44), NULL);
+        call(at, name, EACH, c, k, REFUSED(44), NULL);
+        if (found_bad++ % 16 == 0)
+            call_locked(at, c, k, REFUSED(44));
         return;
     }
     found_good++;
     put_rubbish(&lent_answer, ANSWER_LEAST);
     call(at, name, ANSWER, c, k, s->record, s);
+    call(at, name, PREVIEW, c, k, told_before(c, s), NULL);
     if (s->job.next == c->facts.rows) {
         call(at, name, STEP, c, k, REFUSED(45), NULL);
     } else {
         const state *after = s->job.next == NEVER ? s : s + 1;
         call(at, name, STEP, c, k, after->record, after);
+        call(at, name, PREVIEW, c, k, told_before(c, after), NULL);
         put_state(c, s, k);
     }
 }
@@ -240,7 +297,11 @@ static void check_solve(where at, const course *c, const state *s)
           "lw_solve of the equations before row %u writes another answer", s->job.next);
 }
 
-/* The job of a course over a work area of length k: opened, answered and stepped, with no buffer made anew between. */
+/*
+  The job of a course over a work area of length k, with no buffer made anew
+  between: opened, and then at each state a preview, an answer, two previews and
+  a step.
+*/
 static void run_job(where at, const course *c, size_t k)
 {
     const state *s = c->states, *last = s + c->count - 1;
@@ -249,22 +310,27 @@ static void run_job(where at, const course *c, size_t k)
     put_rubbish(&lent_work[k], lengths[k]);
     call(at, "opened", OPEN, c, k, s->record, s);
     for (;; s++) {
+        call(at, "on the way", PREVIEW, c, k, told_before(c, s), NULL);
         put_rubbish(&lent_answer, ANSWER_LEAST);
         call(at, "on the way", ANSWER, c, k, s->record, s);
+        for (int i = 0; i < 2; i++)
+            call(at, "on the way, again", PREVIEW, c, k, told_before(c, s), NULL);
         if (s == last)
             break;
         call(at, "on the way", STEP, c, k, s[1].record, &s[1]);
     }
-    for (int i = 0; i < 2; i++) /* a never comes again, and else no equation is left */
+    for (int i = 0; i < 2; i++) { /* a never comes again, and else no equation is left */
         if (s->job.next == NEVER)
             call(at, "after a never", STEP, c, k, s->record, s);
         else
             call(at, "no equation left", STEP, c, k, REFUSED(45), NULL);
+        call(at, "at the end", PREVIEW, c, k, told_before(c, s), NULL);
+    }
     call(at, "at the end", ANSWER, c, k, s->record, s);
     call(at, "opened again", OPEN, c, k, c->states[0].record, &c->states[0]);
 }
 
-/* A call that is refused, whatever stands in job and buffers, which have these lengths: all stays. */
+/* A call that is refused, or a preview, whatever stands in job and buffers, which have these lengths: all stays. */
 static void refuse(where at, call_kind which, const uint16_t *numbers, size_t len, lw_job job, const uint16_t *content,
                    size_t work_len, size_t answer_len, lw_record want)
 {
@@ -418,6 +484,128 @@ static void test_worked(void)
                   {{2, 4, 1, 1, 3, 0}, {7, 3}, {0, 0, 0, 0}}));
 }
 
+/* Previews worked by hand. */
+
+static const uint16_t case_five[] = {VARIABLE(1), VARIABLE(1), FILL(0, 1), FILL(1, 1), EQUATION(0, 1), EQUATION(1, 2),
+                                     EQUATION(0, 3)};
+static const uint16_t overlap[] = {VARIABLE(8), CUT(0, 6, 3), CUT(0, 4, 1), EQUATION(1, 2)}; /* as in examples/ */
+static const uint16_t impossible[] = {VARIABLE(8), CUT(0, 7, 7), FILL(1, 1), EQUATION(1, 2), CUT(0, 7, 4), FILL(0, 4),
+                                      EQUATION(4, 5)};
+static const uint16_t revised_sheet[] = {VARIABLE(12), CUT(0, 11, 8), MARKER(3, 4), LINE(1, 2, 10), CUT(0, 3, 0),
+                                         FILL(0, 4), LINE(4, 5, 20), MARKER(12, 4), LINE(1, 7, 10)};
+static const uint16_t never_between[] = {VARIABLE(2), MARKER(2, 2), CUT(0, 0, 0), FILL(1, 1), EQUATION(2, 3),
+                                         EQUATION(0, 1), EQUATION(0, 0)};
+static const uint16_t filled_sides[] = {VARIABLE(8), VARIABLE(12), MARKER(165, 8), EQUATION(0, 1), EQUATION(1, 1),
+                                        EQUATION(2, 1), FILL(1, 12), EQUATION(1, 6), EQUATION(0, 0)};
+static const uint16_t kind_9[] = {9, 8, 0, 0, CUT(0, 6, 3), CUT(0, 4, 1), EQUATION(1, 2)};
+static const uint16_t kind_9_revised[] = {9, 8, 0, 0, VARIABLE(1), LINE(1, 1, 7)};
+static const uint16_t no_equation[] = {VARIABLE(3), FILL(1, 2)};
+
+#define OPENED_8 {0, 1, 2, 3, 4, 5, 6, 7}
+#define OVERLAPS {0, 1, 2, 1, 2, 1, 2, 7}
+#define FILLED   {0, 1, 2, 3, 4, 5, 6, 7, 4096, 4096, 4096, 4096, 0, 1, 2, 3, 4, 5, 6, 7}
+#define ZEROS_12 {0, 1, 2, 3, 4, 5, 6, 7, 8, 9, 10, 11}
+#define OF(numbers) numbers, COUNT(numbers)
+
+/* A job at its state, and its work area: what holds the first places, how long it is, and which number is 1 behind. */
+static const struct {
+    const uint16_t *numbers;
+    size_t len;
+    lw_job job;
+    uint16_t held[20];
+    size_t work_len, set;
+    lw_record told;
+} previews[] = {
+    {OF(case_five), {4, 0}, {0, 1}, WORK_LEAST, 0, {2, 2, 1, 1, 1, 0}},
+    {OF(case_five), {5, 1}, {0, 0}, WORK_LEAST, 0, {2, 2, 0, 0, 2, 0}},
+    {OF(case_five), {6, 2}, {4096, 4096}, WORK_LEAST, 0, {1, 0, 0, 0, 2, 6}},
+    {OF(case_five), {1000, 2}, {4096, 4096}, WORK_LEAST, 0, {1, 0, 0, 0, 2, 6}},
+    {OF(case_five), {1000, 2}, {4096, 4096}, LONGEST, 0, {1, 0, 0, 0, 2, 6}},
+
+    {OF(overlap), {3, 0}, OPENED_8, WORK_LEAST, 0, {2, 5, 3, 4, 4, 0}},
+    {OF(overlap), {4, 4}, OVERLAPS, WORK_LEAST, 0, {45, 0, 0, 0, 0, 0}},
+    {OF(overlap), {4, 4}, OVERLAPS, LONGEST, 0, {45, 0, 0, 0, 0, 0}},
+    {OF(overlap), {4, 3}, OVERLAPS, WORK_LEAST, 0, {44, 0, 0, 0, 0, 0}}, /* 45 too */
+    {OF(overlap), {4, 4}, OVERLAPS, LONGEST, 19999, {44, 0, 0, 0, 0, 0}},
+    {OF(overlap), {4, 4}, OVERLAPS, WORK_LEAST, 8, {44, 0, 0, 0, 0, 0}},
+    {OF(overlap), {3, 0}, OPENED_8, LONGEST, 16384, {44, 0, 0, 0, 0, 0}},
+    {OF(overlap), {3, 0}, OPENED_8, WORK_LEAST - 1, 0, {10, 0, 0, 0, 0, 0}},
+    {OF(overlap), {4, 4}, OVERLAPS, WORK_LEAST - 1, 0, {10, 0, 0, 0, 0, 0}}, /* 45 too */
+    {OF(overlap), {4, 3}, OVERLAPS, WORK_LEAST - 1, 0, {10, 0, 0, 0, 0, 0}}, /* 44 too */
+    {OF(overlap), {4, 3}, OVERLAPS, 0, 0, {10, 0, 0, 0, 0, 0}},
+    {OF(revised_sheet), {9, 0}, ZEROS_12, WORK_LEAST - 1, 0, {10, 0, 0, 0, 0, 0}}, /* 43 and 44 too */
+    {OF(kind_9), {4, 4}, OVERLAPS, WORK_LEAST - 1, 0, {10, 0, 0, 0, 0, 0}},  /* 12 too */
+    {OF(kind_9), {4, 4}, OVERLAPS, WORK_LEAST, 0, {12, 0, 0, 0, 0, 0}},
+    {OF(kind_9_revised), {7, 7}, {0}, WORK_LEAST, 0, {12, 0, 0, 0, 0, 0}}, /* 43 and 44 too */
+
+    {OF(impossible), {3, 0}, OPENED_8, WORK_LEAST, 0, {2, 2, 1, 7, 1, 0}},
+    {OF(impossible), {6, 1}, {4097, 1, 2, 3, 4, 5, 6, 7}, WORK_LEAST, 0, {1, 0, 0, 0, 1, 6}},
+
+    {OF(never_between), {5, 1}, {0, 4097}, WORK_LEAST, 0, {1, 0, 0, 0, 1, 5}},
+    {OF(never_between), {1000, 1}, {0, 4097}, WORK_LEAST, 0, {1, 0, 0, 0, 1, 5}},
+    {OF(never_between), {6, 1}, {0, 4097}, WORK_LEAST, 0, {44, 0, 0, 0, 0, 0}}, /* though row 6 says nothing */
+    {OF(never_between), {7, 1}, {0, 4097}, WORK_LEAST, 0, {44, 0, 0, 0, 0, 0}}, /* 45 too */
+
+    {OF(filled_sides), {4, 12}, FILLED, WORK_LEAST, 0, {2, 3, 1, 8, 12, 0}}, /* the answer so far: row 4 says nothing */
+    {OF(filled_sides), {5, 12}, FILLED, WORK_LEAST, 0, {2, 15, 0, 0, 20, 0}},
+    {OF(filled_sides), {6, 12}, FILLED, WORK_LEAST, 0, {44, 0, 0, 0, 0, 0}}, /* no equation's row */
+
+    {OF(revised_sheet), {3, 0}, ZEROS_12, WORK_LEAST, 0, {43, 0, 0, 0, 0, 0}},
+    {OF(revised_sheet), {9, 0}, ZEROS_12, LONGEST, 0, {43, 0, 0, 0, 0, 0}}, /* 44 too */
+    {OF(revised_sheet), {9, 8}, {4096, 4096, 4097, 4097, 4, 5, 6, 7, 4096, 4096, 4096, 4096}, WORK_LEAST, 0,
+     {43, 0, 0, 0, 0, 0}}, /* 44 too: the first equation, of the same line, is against the last */
+    {OF(revised_sheet), {1000, 4000000000}, {7}, LONGEST, 19999, {43, 0, 0, 0, 0, 0}},
+
+    {OF(no_equation), {2, 0}, {0, 1, 2}, WORK_LEAST, 0, {45, 0, 0, 0, 0, 0}},
+    {OF(no_equation), {2, 0}, {0, 1, 1}, WORK_LEAST, 0, {44, 0, 0, 0, 0, 0}},
+    {no_equation, 0, {0, 0}, {0}, WORK_LEAST, 0, {45, 0, 0, 0, 0, 0}}, /* no rows */
+    {no_equation, 0, {1000, 0}, {0}, WORK_LEAST, 0, {44, 0, 0, 0, 0, 0}},
+};
+
+/* Each of them in guard zones, and again, and in read-only pages: all stays. */
+static void test_previews(void)
+{
+    static uint16_t area[LONGEST];
+    char name[32];
+
+    for (size_t i = 0; i < COUNT(previews); i++) {
+        unsigned long failed = checks_failed;
+        memset(area, 0, sizeof area);
+        memcpy(area, previews[i].held, sizeof previews[i].held);
+        if (previews[i].set != 0)
+            area[previews[i].set] = 1;
+        for (int again = 0; again < 2; again++)
+            refuse(HERE, PREVIEW, previews[i].numbers, previews[i].len, previews[i].job, area, previews[i].work_len, 0,
+                   previews[i].told);
+        snprintf(name, sizeof name, "preview %zu, read-only", i);
+        check_record(HERE, name, preview_locked(previews[i].numbers, previews[i].len, &previews[i].job, area,
+                                                previews[i].work_len), previews[i].told);
+        if (checks_failed != failed)
+            printf("  this was preview %zu\n", i);
+    }
+}
+
+/* Calls in turn: a job that a never is told of stays, answers as before, and can be stepped. */
+static void test_preview_of_never(void)
+{
+    const lw_record told = {1, 0, 0, 0, 1, 5}, so_far = {2, 2, 1, 1, 1, 0};
+
+    check(find_states(&worked, OF(never_between)) && worked.count == 3, HERE, "%zu states", worked.count);
+    for (size_t k = 0; k < AREAS; k++) {
+        const state *s = &worked.states[1];
+        put_state(&worked, s, k);
+        check(s->job.next == 5 && s->job.ties == 1, HERE, "job %u %u", s->job.next, s->job.ties);
+        for (int again = 0; again < 2; again++) {
+            call(HERE, "of a never", PREVIEW, &worked, k, told, NULL);
+            put_rubbish(&lent_answer, ANSWER_LEAST);
+            call(HERE, "of a never", ANSWER, &worked, k, so_far, s);
+        }
+        call(HERE, "of a never", STEP, &worked, k, told, &worked.states[2]);
+        call(HERE, "after it", PREVIEW, &worked, k, told, NULL);
+        call(HERE, "after it", ANSWER, &worked, k, told, NULL);
+    }
+}
+
 /* What one table left, lent with another. */
 static void test_other_table(void)
 {
@@ -541,9 +729,11 @@ static void test_order(void)
         refuse(HERE, which, numbers, 12, (lw_job){1000, 2}, tied, WORK_LEAST, ANSWER_LEAST, REFUSED(44));
         refuse(HERE, which, numbers, 12, (lw_job){3, 2}, longer, WORK_LEAST + 1, ANSWER_LEAST, REFUSED(44));
     }
-    refuse(HERE, STEP, numbers, 12, (lw_job){3, 2}, longer, WORK_LEAST, ANSWER_LEAST, REFUSED(45));
-    refuse(HERE, STEP, numbers, 12, (lw_job){3, 2}, tied, LONGEST, ANSWER_LEAST, REFUSED(45));
-    refuse(HERE, STEP, NULL, 0, (lw_job){0, 0}, all_zero, WORK_LEAST, ANSWER_LEAST, REFUSED(45));
+    for (call_kind which = STEP; which <= PREVIEW; which++) {
+        refuse(HERE, which, numbers, 12, (lw_job){3, 2}, longer, WORK_LEAST, ANSWER_LEAST, REFUSED(45));
+        refuse(HERE, which, numbers, 12, (lw_job){3, 2}, tied, LONGEST, ANSWER_LEAST, REFUSED(45));
+        refuse(HERE, which, NULL, 0, (lw_job){0, 0}, all_zero, WORK_LEAST, ANSWER_LEAST, REFUSED(45));
+    }
 }
 
 /* NULL with length 0 for each buffer that has a length. */
@@ -555,15 +745,19 @@ static void test_null(void)
 
     check_record(HERE, "open, work NULL", lw_job_open(NULL, 0, &job, NULL, 0), memory);
     check_record(HERE, "step, work NULL", lw_job_step(NULL, 0, &job, NULL, 0), memory);
+    check_record(HERE, "preview, work NULL", lw_job_preview(NULL, 0, &job, NULL, 0), memory);
     check_record(HERE, "answer, both NULL", lw_job_answer(NULL, 0, &job, NULL, 0, NULL, 0), memory);
     check_record(HERE, "answer, answer NULL", lw_job_answer(NULL, 0, &job, work, WORK_LEAST, NULL, 0), memory);
     check_record(HERE, "step, no job", lw_job_step(NULL, 0, &job, work, WORK_LEAST), REFUSED(44));
+    check_record(HERE, "preview, no job", lw_job_preview(NULL, 0, &job, work, WORK_LEAST), REFUSED(44));
     check(job.next == 9 && job.ties == 9, HERE, "a job changed by a refusal");
     check_record(HERE, "open, table NULL", lw_job_open(NULL, 0, &job, work, WORK_LEAST), (lw_record){0});
     check(job.next == 0 && job.ties == 0, HERE, "job %u %u of no rows", job.next, job.ties);
     check_record(HERE, "answer, table NULL", lw_job_answer(NULL, 0, &job, work, WORK_LEAST, answer, ANSWER_LEAST),
                  (lw_record){0});
+    check_record(HERE, "preview, table NULL", lw_job_preview(NULL, 0, &job, work, WORK_LEAST), REFUSED(45));
     check_record(HERE, "step, table NULL", lw_job_step(NULL, 0, &job, work, WORK_LEAST), REFUSED(45));
+    check(job.next == 0 && job.ties == 0, HERE, "job %u %u of no rows", job.next, job.ties);
 }
 
 /* Damaged jobs. */
@@ -742,14 +936,32 @@ static void note_course(const course *c, uint32_t row_ties, bool has[OCCURRENCES
     }
 }
 
-/* Each state is that of the enumeration too. Gives the ties of the equation that leaves no pattern. */
+/* A preview of a state tells this, over each work area, in guard zones and in read-only pages. */
+static void check_preview(const char *name, const course *c, const state *s, lw_record want)
+{
+    for (size_t k = 0; k < AREAS; k++) {
+        put_state(c, s, k);
+        call(HERE, name, PREVIEW, c, k, want, NULL);
+        call_locked(HERE, c, k, want);
+    }
+}
+
+/*
+  Each state is that of the enumeration too, and so is what a preview tells one
+  state before. Gives the ties of the equation that leaves no pattern.
+*/
 static uint32_t check_states(const char *name, const course *c)
 {
     static enumeration found;
     uint32_t row_ties = 0;
+    const state *last = c->states + c->count - 1;
 
-    for (const state *s = c->states; s < c->states + c->count; s++) {
+    for (const state *s = c->states; s <= last; s++) {
         enumerate_to(c->t.numbers, &c->facts, s->job.next, &found);
+        if (s != c->states)
+            check_preview(name, c, s - 1, found.record);
+        if (s == last)
+            check_preview(name, c, s, found.record.outcome == 1 ? found.record : REFUSED(45));
         bool same = same_record(found.record, s->record);
         if (found.record.outcome == 1) { /* the equations before it */
             row_ties = found.row_ties;
@@ -779,6 +991,7 @@ static void test_exchanged(const course *c, size_t k)
     memcpy(t.numbers + 4 * b, c->t.numbers + 4 * a, 4 * sizeof *t.numbers);
     if (!find_states(&other, ALL(t)))
         return; /* a row named there is behind */
+    check_states("equations exchanged", &other);
     for (size_t i = 0; i < c->count; i++) {
         put_state(c, &c->states[i], k);
         try_job(HERE, "equations exchanged", &other, k);
@@ -918,6 +1131,8 @@ const test_list tests = {
     .groups = {
         {.name = "the header's constants", .run = test_constants},
         {.name = "jobs worked by hand", .run = test_worked},
+        {.name = "previews worked by hand", .run = test_previews},
+        {.name = "a never told before", .run = test_preview_of_never},
         {.name = "what another table left", .run = test_other_table},
         {.name = "refusals 10, 11 to 17, 40", .run = test_table_refusals},
         {.name = "refusal 43", .run = test_revised},

@@ -403,7 +403,10 @@ static const test solves[] = {
     BAD_CUT,
     BAD_MARKER,
 };
-/* Jobs with so many equations left: a step takes the last one, an answer finds none. Both have the record of a solve. */
+/*
+  Jobs with so many equations left: a step takes the last one, a preview tells
+  what it would give, and an answer finds none. All have the record of a solve.
+*/
 #define JOBS(left)                                                                                                      \
     {"512 rows, chained cuts", {CUTS, {shift, 1024}, {taken_but, left}}, LW_SOLVED, 1},                                 \
     {"joins chained on the left", {{variable, 1}, {left_joins, 0}, {shift, 508}, {taken_but, left}}, LW_ALWAYS, 1},     \
@@ -434,7 +437,7 @@ static const test opens[] = {
     BAD_MARKER,
     {"refused 43", {{words, 64}, {line_numbers, 64}}, LW_REFUSED_REVISED, 0},
 };
-static const test job_steps[] = {
+static const test job_steps[] = { /* of previews too */
     JOBS(1),
     {"after a never", {{words, 63}, {unequal_fills, 1}, {taken_but, 0}}, LW_NEVER, 0},
     {"refused 45", {{words, 64}, {taken_but, 0}}, LW_REFUSED_STEP, 0},
@@ -575,6 +578,7 @@ RUN(lw_marker_positions, record, TABLE, c->words, c->words_len, c->list, COUNT(c
 RUN(lw_page, page_bytes, c->record, c->answer, c->answer_len, c->number)
 RUN(lw_job_open, record, TABLE, JOB)
 RUN(lw_job_step, record, TABLE, JOB)
+RUN(lw_job_preview, record, TABLE, JOB)
 RUN(lw_job_answer, record, TABLE, JOB, c->answer, LW_ANSWER_NUMBERS)
 RUN(lw_value_rows, record, ROWS, VALUE)
 RUN(lw_normal_form_rows, record, ROWS, FORM)
@@ -598,6 +602,7 @@ static const struct {
     {"lw_page", run_lw_page, LW_STACK_PAGE, pages, COUNT(pages)},
     {"lw_job_open", run_lw_job_open, LW_STACK_JOB_OPEN, opens, COUNT(opens)},
     {"lw_job_step", run_lw_job_step, LW_STACK_JOB_STEP, job_steps, COUNT(job_steps)},
+    {"lw_job_preview", run_lw_job_preview, LW_STACK_JOB_PREVIEW, job_steps, COUNT(job_steps)},
     {"lw_job_answer", run_lw_job_answer, LW_STACK_JOB_ANSWER, job_answers, COUNT(job_answers)},
     {"lw_value_rows", run_lw_value_rows, LW_STACK_VALUE_ROWS, tables, COUNT(tables)},
     {"lw_normal_form_rows", run_lw_normal_form_rows, LW_STACK_NORMAL_FORM_ROWS, tables, COUNT(tables) - 1},
@@ -702,6 +707,7 @@ static void test_calls(void)
               calls[i].name, greatest, stated);
     }
     free(memory);
+    check(LW_STACK_JOB_PREVIEW <= LW_STACK_JOB_STEP + 1000, HERE, "a preview takes more stack than a step");
 }
 
 const test_list tests = {

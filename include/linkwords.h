@@ -11,7 +11,8 @@
   it describes these choices. Another makes such a choice from the description,
   one finds the places of a long run of words at which the words meet them, and
   one prints the description on pages for a line printer. A job takes the
-  equations one by one, and tells after each what is still allowed.
+  equations one by one, and tells after each what is still allowed, or before
+  each what it would leave.
 
   The library is proved: for every input each call yields the record and the
   buffer contents that this header names, and it always returns. It is linked
@@ -304,7 +305,9 @@
      lw_job_step   1 0 0 0 2 6     1000  2    4096 4096  0  ..
 
   After the first step both bits are held by place 0, and the answer so far is
-  0 2 1 0 0 0, 1 2 1 0 0 0: x and y are one fresh piece.
+  0 2 1 0 0 0, 1 2 1 0 0 0: x and y are one fresh piece. Before each of these
+  steps lw_job_preview yields the step's record and leaves the job: at 6 2 that
+  is 1 0 0 0 2 6, row 6 would leave no pattern, and the job is still at 6 2.
 
 
                          Refusals of a term table
@@ -380,8 +383,8 @@ extern "C" {
   The version of the library, as text and as a number that grows from version to
   version: major * 1000000 + minor * 1000 + patch.
 */
-#define LW_VERSION_TEXT "0.21.0"
-#define LW_VERSION      21000
+#define LW_VERSION_TEXT "0.22.0"
+#define LW_VERSION      22000
 
 /* constants */
 
@@ -452,7 +455,7 @@ extern "C" {
 #define LW_REFUSED_RUN       42 /* run over 1048576 words */
 #define LW_REFUSED_REVISED   43 /* an equation of a job's table has a line number */
 #define LW_REFUSED_JOB       44 /* no number of steps leaves this job and this work area */
-#define LW_REFUSED_STEP      45 /* a step with no equation left */
+#define LW_REFUSED_STEP      45 /* a step, or a preview of it, with no equation left */
 
 /*
   Stack: the most bytes that a call was seen to use, on tables made for that; it
@@ -468,7 +471,8 @@ extern "C" {
 #define LW_STACK_MARKER_POSITIONS 172800
 #define LW_STACK_PAGE               2688
 #define LW_STACK_JOB_OPEN           2496
-#define LW_STACK_JOB_STEP         170048
+#define LW_STACK_JOB_STEP         170304
+#define LW_STACK_JOB_PREVIEW      170304
 #define LW_STACK_JOB_ANSWER       170240
 #define LW_STACK_VALUE_ROWS        47616
 #define LW_STACK_NORMAL_FORM_ROWS 145600
@@ -891,6 +895,49 @@ lw_record lw_job_step(const uint16_t *table, size_t table_len,
 
      The table is only read: all equations taken, and the next one. No two of
      table, job and work may overlap.
+*/
+
+lw_record lw_job_preview(const uint16_t *table, size_t table_len,
+                         const lw_job *job, const uint16_t *work, size_t work_len);
+/*
+     Tells what the next step would yield, and takes nothing.
+
+     If the call is accepted, it yields the whole record that lw_job_step yields
+     of the same table, job and work area: LW_ALWAYS, LW_SOLVED with pieces,
+     fresh, free and ties, or LW_NEVER with ties and row. It is not the record of
+     the answer so far, nor what differs from it: with LW_ALWAYS and LW_SOLVED the
+     ties that the equation of the next row brings are the field ties less
+     job->ties. An equation that says nothing new yields the record of the answer
+     so far.
+
+     LW_NEVER is yielded of an equation that would leave no pattern, with its row,
+     and the job stays where it was: the preview can be made again, the step can
+     still be taken, and lw_job_answer gives the answer before it. A job whose
+     next row is LW_JOB_NEVER yields the record of its last step, as a further
+     step does; it is not refused 45.
+
+     Otherwise outcome is the first refusal that applies, in the order below, and
+     is that of the step.
+
+     outcome                 cause                               field row
+     10 LW_REFUSED_MEMORY    work_len is below LW_WORK_NUMBERS   0
+                             (16384), however small the table
+                             is, though nothing is written
+     11 to 17, 40            the table is refused: see Refusals  512, or
+                             of a term table above               that row
+     43 LW_REFUSED_REVISED   as for lw_job_step                  0
+     44 LW_REFUSED_JOB       as for lw_job_step, of all numbers  0
+                             of work, up to its length
+     45 LW_REFUSED_STEP      no equation is left: next is the    0
+                             number of rows
+
+     Nothing is written, whatever the outcome: the table, the job and the work
+     area are only read, and may lie in read-only memory. Threads may preview one
+     job at the same time, as long as none of them changes it. job is not NULL.
+
+     Nothing is kept for the step that follows, which does the same again. So a
+     preview takes the time of a step, and a host that always steps after it should
+     step, and compare the record with the one before.
 */
 
 lw_record lw_job_answer(const uint16_t *table, size_t table_len,
