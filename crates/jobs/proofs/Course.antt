@@ -91,7 +91,7 @@ module _ (table : List ℕ) (accepted : firstFault table ≡ Accepted) (none : N
         reach-of table accepted none k (stateAfter t k .next) (stateAfter t k .ties) (area k)
         (record { next-is = refl; ties-are = refl; area-is = ap (λ (n : ℕ). areaOf n (stateAfter t k .holders)) (area-room k) })
 
-    abbrev lentAt : ℕ → Lent
+    abbrev pub lentAt : ℕ → Lent
     lentAt k = record { job = jobOf (stateAfter (rowsOf table) k); work = areaOf (length (first .work)) (stateAfter (rowsOf table) k .holders) }
 
     state-told : (k : ℕ) → stateOf t (stateAfter t k .next) (stateAfter t k .ties) (area k) ≡ stateAfter t k
@@ -197,17 +197,17 @@ module _ (table : List ℕ) (accepted : firstFault table ≡ Accepted) (none : N
           }
 
     -- ---- the tables of the answers so far
-    never-or-row : (k : ℕ) → (unsatisfiable (upTo (equationRow t k) t) ≡ true) ⊎ (unsatisfiable (upTo (equationRow t k) t) ≡ false)
+    pub never-or-row : (k : ℕ) → (unsatisfiable (upTo (equationRow t k) t) ≡ true) ⊎ (unsatisfiable (upTo (equationRow t k) t) ≡ false)
     never-or-row k = go (unsatisfiable (upTo (equationRow t k) t)) refl
       where
         go : (b : Bool) → unsatisfiable (upTo (equationRow t k) t) ≡ b → (unsatisfiable (upTo (equationRow t k) t) ≡ true) ⊎ (unsatisfiable (upTo (equationRow t k) t) ≡ false)
         go true e = inl e
         go false e = inr e
 
-    next-never : (k : ℕ) → unsatisfiable (upTo (equationRow t k) t) ≡ true → stateAfter t k .next ≡ neverRow
+    pub next-never : (k : ℕ) → unsatisfiable (upTo (equationRow t k) t) ≡ true → stateAfter t k .next ≡ neverRow
     next-never k e = ap (λ (x : State). x .next) (state-never table accepted none k e)
 
-    next-row : (k : ℕ) → unsatisfiable (upTo (equationRow t k) t) ≡ false → stateAfter t k .next ≡ equationRow t k
+    pub next-row : (k : ℕ) → unsatisfiable (upTo (equationRow t k) t) ≡ false → stateAfter t k .next ≡ equationRow t k
     unfolding stateAt
     next-row k e = ap (λ (x : State). x .next) (state-left table accepted none k e)
 
@@ -249,7 +249,7 @@ module _ (table : List ℕ) (accepted : firstFault table ≡ Accepted) (none : N
     not-end k l h =
         ⊎-elim (λ e. absurd (omega (arith, next-never k e, few, h))) (λ e. absurd (omega (arith, row-last t k (sym (next-row k e) ∙ h)))) (never-or-row k)
 
-    step-goes : (k : ℕ) → stateAfter t k .next ≢ length t → stepTold table (lentAt k) ≡ answerRecord (upTo (suc (stateAfter t k .next)) t)
+    pub step-goes : (k : ℕ) → stateAfter t k .next ≢ length t → stepTold table (lentAt k) ≡ answerRecord (upTo (suc (stateAfter t k .next)) t)
     unfolding breaks45
     step-goes k n = step-told k ∙ rw (ne-eqb (stateAfter t k .next) (length t) n)
 

@@ -11,3 +11,4 @@ pub mod Held
 pub mod Holders
 pub mod Course
 pub mod CaseFive
+pub mod Preview

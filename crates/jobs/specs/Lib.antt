@@ -5,3 +5,4 @@ pub mod Claims
 pub mod Course
 pub mod CaseFive
 pub mod Refusals
+pub mod Preview

@@ -6,9 +6,27 @@ ghost use Prim.Native.Nat.{suc};
 ghost use lib.Dec.{eqb};
 ghost use lib.ListN.{length};
 ghost use Rattle.jobs.specs.Call.{openRecord, openJob, openWork, stepRecord, stepJob, stepWork, jobAnswerRecord, jobAnswerAfter};
-ghost use Rattle.steps.specs.inner.Steps.{goesOn, StepsPlaced, PreviewsPlaced, OpensArea, AnswersPlaced};
+ghost use Rattle.steps.specs.inner.Steps.{goesOn, StepsPlaced, PreviewsPlaced, Begins, OpensArea, AnswersPlaced};
 use steps::Step;
 use terms::Record;
+
+// How each call of a job begins, with a work area of so many numbers: 10, the table's refusals, 43; outcome 0 where none of these is met, and
+// then the table is placed.
+fn begin(table: &[u16], room: usize, widths: &mut [u16], places: &mut [u16]) -> Record
+    ensures { λ r. ⌜ Begins (now (table .entry)) room (length (now (widths .entry))) (length (now (places .entry))) (now (widths .exit)) (now (places .exit)) r ⌝ }
+{
+    if room < solver::MEMORY {
+        return records::refuse(10, 0);
+    }
+    let fault = checker::check_and_place(table, widths, places);
+    if !records::accepted(fault) {
+        return records::fault_record(fault);
+    }
+    if states::lined(table) {
+        return records::refuse(43, 0);
+    }
+    records::complete(0, 0)
+}
 
 // Whether a record is that of a step that leaves a pattern.
 fn goes_on(outcome: u32) -> bool
@@ -74,26 +92,12 @@ pub fn step_at(table: &[u16], next: u32, ties: u32, work: &mut [u16]) -> Step
     ensures ties { λ s. ⌜ s .ties ≡ stepJob (now (table .entry)) next ties (now (work .entry)) .ties ⌝ }
     ensures work { λ _. ⌜ now (work .exit) ≡ stepWork (now (table .entry)) next ties (now (work .entry)) ⌝ }
 {
-    if work.len() < solver::MEMORY {
-        return Step {
-            found: records::refuse(10, 0),
-            next: next,
-            ties: ties,
-        };
-    }
     let mut widths = [0u16; 512];
     let mut places = [0u16; 578];
-    let fault = checker::check_and_place(table, &mut widths[..], &mut places[..]);
-    if !records::accepted(fault) {
+    let stop = begin(table, work.len(), &mut widths[..], &mut places[..]);
+    if stop.outcome > 0 {
         return Step {
-            found: records::fault_record(fault),
-            next: next,
-            ties: ties,
-        };
-    }
-    if states::lined(table) {
-        return Step {
-            found: records::refuse(43, 0),
+            found: stop,
             next: next,
             ties: ties,
         };
@@ -133,17 +137,11 @@ fn preview_placed(
 pub fn preview_at(table: &[u16], next: u32, ties: u32, work: &[u16]) -> Record
     ensures record { λ r. ⌜ r ≡ stepRecord (now (table .entry)) next ties (now (work .entry)) ⌝ }
 {
-    if work.len() < solver::MEMORY {
-        return records::refuse(10, 0);
-    }
     let mut widths = [0u16; 512];
     let mut places = [0u16; 578];
-    let fault = checker::check_and_place(table, &mut widths[..], &mut places[..]);
-    if !records::accepted(fault) {
-        return records::fault_record(fault);
-    }
-    if states::lined(table) {
-        return records::refuse(43, 0);
+    let stop = begin(table, work.len(), &mut widths[..], &mut places[..]);
+    if stop.outcome > 0 {
+        return stop;
     }
     let bits = numbers::wide(places[checker::BITS]);
     preview_placed(table, &widths[..], &places[..], bits, next, ties, work)
@@ -165,26 +163,12 @@ pub fn open_at(table: &[u16], next: u32, ties: u32, work: &mut [u16]) -> Step
     ensures ties { λ s. ⌜ s .ties ≡ openJob (now (table .entry)) next ties (length (now (work .entry))) .ties ⌝ }
     ensures work { λ _. ⌜ now (work .exit) ≡ openWork (now (table .entry)) (now (work .entry)) ⌝ }
 {
-    if work.len() < solver::MEMORY {
-        return Step {
-            found: records::refuse(10, 0),
-            next: next,
-            ties: ties,
-        };
-    }
     let mut widths = [0u16; 512];
     let mut places = [0u16; 578];
-    let fault = checker::check_and_place(table, &mut widths[..], &mut places[..]);
-    if !records::accepted(fault) {
+    let stop = begin(table, work.len(), &mut widths[..], &mut places[..]);
+    if stop.outcome > 0 {
         return Step {
-            found: records::fault_record(fault),
-            next: next,
-            ties: ties,
-        };
-    }
-    if states::lined(table) {
-        return Step {
-            found: records::refuse(43, 0),
+            found: stop,
             next: next,
             ties: ties,
         };
@@ -286,20 +270,14 @@ pub fn answer_at(table: &[u16], next: u32, ties: u32, work: &[u16], answer: &mut
     ensures record { λ r. ⌜ r ≡ jobAnswerRecord (now (table .entry)) next ties (now (work .entry)) (length (now (answer .entry))) ⌝ }
     ensures answer { λ _. ⌜ now (answer .exit) ≡ jobAnswerAfter (now (table .entry)) next ties (now (work .entry)) (now (answer .entry)) ⌝ }
 {
-    if work.len() < solver::MEMORY {
-        return records::refuse(10, 0);
-    }
     if answer.len() < solver::ANSWER {
         return records::refuse(10, 0);
     }
     let mut widths = [0u16; 512];
     let mut places = [0u16; 578];
-    let fault = checker::check_and_place(table, &mut widths[..], &mut places[..]);
-    if !records::accepted(fault) {
-        return records::fault_record(fault);
-    }
-    if states::lined(table) {
-        return records::refuse(43, 0);
+    let stop = begin(table, work.len(), &mut widths[..], &mut places[..]);
+    if stop.outcome > 0 {
+        return stop;
     }
     let bits = numbers::wide(places[checker::BITS]);
     answer_placed(

@@ -10,14 +10,14 @@ use Rattle.laws.specs.Buffers.{overwrite}
 use Rattle.terms.specs.declared.Record.{Record}
 use Rattle.terms.specs.declared.Row.{Row}
 use Rattle.terms.specs.Table.{rowsOf, bitsOf, nextEquation}
-use Rattle.terms.specs.Calls.{refusal, stopAt, stopped}
+use Rattle.terms.specs.Calls.{refusal, completed, stopAt, stopped}
 use Rattle.terms.specs.inner.Placed.{Placed}
 use Rattle.answers.specs.Answer.{answerNumbers}
 use Rattle.answers.specs.Solve.{unsatisfiable, solvedRows, answerRecord, tiesTo}
 use Rattle.jobs.specs.declared.Job.{Job}
 use Rattle.jobs.specs.Prefix.{upTo, equationFrom, holders}
 use Rattle.jobs.specs.State.{State, stepped, areaOf, neverRow}
-use Rattle.jobs.specs.Call.{breaks43, breaks44, breaks45, jobOf, stateOf}
+use Rattle.jobs.specs.Call.{breaks43, breaks44, breaks45, jobOf, stateOf, openStops}
 use Rattle.areas.specs.inner.Areas.{heldBy}
 use Rattle.states.specs.inner.Prefixes.{PrefixTaken}
 use Rattle.states.specs.inner.Jobs.{Ready}
@@ -86,6 +86,14 @@ abbrev pub PreviewsPlaced : List ℕ → List ℕ → List ℕ → ℕ → ℕ �
 PreviewsPlaced table widths places bits next ties work found =
     Placed table widths places → breaks43 (rowsOf table) ≡ false → bits ≡ bitsOf (rowsOf table) → 16384 ≤ length work
     → found ≡ placedRecord (rowsOf table) next ties work
+
+-- How a call of a job begins, with a work area of so many numbers: the first refusal that the opening has too, or outcome 0, and then the table is placed.
+pub record Begun (table : List ℕ) (room : ℕ) (widths places : List ℕ) (found : Record) : Type 0 where
+  pub found-is : found ≡ stopAt (openStops table room) (completed 0 0)
+  pub placed : found .outcome ≡ 0 → Placed table widths places
+
+abbrev pub Begins : List ℕ → ℕ → ℕ → ℕ → List ℕ → List ℕ → Record → Type 0
+Begins table room widthsRoom placesRoom widths places found = 512 ≤ widthsRoom → 578 ≤ placesRoom → Begun table room widths places found
 
 -- The area of a job that is opened, with room for so many places: each holds itself, and all else is 0.
 abbrev pub OpensArea : ℕ → List ℕ → List ℕ → Type 0
