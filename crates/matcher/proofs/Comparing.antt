@@ -6,8 +6,8 @@ use Prim.Native.Nat.{ℕ, suc, _+_, _*_, _≤_, _<_}
 use native.Mathlib.Omega.{arith}
 use lib.Bits.{bitOr, bitXor}
 use lib.Dec.{eqb}
-use lib.ListN.{length, getD, take, replicate, length-take}
-use lib.Seq.{getD-take, ext-getD}
+use lib.ListN.{length, getD, take, drop, length-take}
+use lib.Seq.{getD-take, ext-getD, take-at}
 use borrow.Author.Tests.{eqb-true, eq-eqb, ne-eqb}
 use Rattle.laws.specs.Lists.{below}
 use Rattle.laws.proofs.Bools.{same-test}
@@ -15,17 +15,18 @@ use Rattle.laws.proofs.Tallies.{below-of, below-at}
 use Rattle.terms.specs.declared.Record.{Record}
 use Rattle.terms.specs.declared.Fault.the-variants.{Accepted}
 use Rattle.terms.specs.Faults.{firstFault}
-use Rattle.terms.specs.Table.{rowsOf, sameWord}
+use Rattle.terms.specs.Table.{rowsOf, bitsOf, sameWord}
 use Rattle.terms.proofs.Satisfies.{same-word, word-same}
 use Rattle.answers.specs.Answer.{answerNumbers}
-use Rattle.answers.specs.Solve.{solvedRows, answerRecord, solveRecord, answerAfter, workAfter}
+use Rattle.answers.specs.Solve.{solvedRows, answerRecord}
 use Rattle.answers.proofs.AnswerNumbers.{numbers-length}
 use Rattle.answers.proofs.Demands.{demand-3}
-use Rattle.answers.proofs.Lent.{call-record, call-answer, call-work}
+use Rattle.solver.specs.inner.Call.{answerOver, Answered}
+use Rattle.solver.proofs.Concluding.{solved-few}
+use Rattle.laws.proofs.Buffers.{overwrite-fits}
 use Rattle.assignments.specs.Matching.{otherAnswer}
 use Rattle.areas.specs.inner.Areas.{agree}
 use Rattle.areas.proofs.Areas.{or-none, xor-none}
-use Rattle.matcher.specs.inner.Matching.{Compared}
 
 -- one number more of two runs
 pub differ-more : (xs ys : List ℕ) (i d x y : ℕ) → x ≡ getD xs i 0 → y ≡ getD ys i 0 → eqb d 0 ≡ below i (λ k. eqb (getD xs k 0) (getD ys k 0))
@@ -54,18 +55,14 @@ agree-same numbers answer own l t =
     read i k = sym (getD-take (length numbers) own i 0 k) ∙ ap (λ (w : List ℕ). getD w i 0) t
 
 -- what a solve with room has left
-module _ (table answer work own : List ℕ) (accepted : firstFault table ≡ Accepted) (memory : 16384 ≤ length work) (room : 24576 ≤ length own)
-    (r : Record) (own′ work′ : List ℕ) (told : r ≡ solveRecord table (length own) (length work))
-    (left : own′ ≡ answerAfter table own (length work)) (area : work′ ≡ workAfter table (length own) work) where
+module _ (table answer own own′ : List ℕ) (accepted : firstFault table ≡ Accepted) (room : bitsOf (rowsOf table) * 6 ≤ length own)
+    (r : Record) (A : Answered (rowsOf table) own own′ r) where
   solved : r ≡ answerRecord (rowsOf table)
-  solved = told ∙ call-record table accepted own work room memory
+  solved = A .record-is
 
-  zeros : work′ ≡ replicate (length work) 0
-  zeros = area ∙ call-work table accepted own work room memory
-
-  pub no-answer : (r .outcome ≡ 2 → ⊥) → (b : Bool) → b ≡ true → Compared table answer work work′ b
+  pub no-answer : (r .outcome ≡ 2 → ⊥) → (b : Bool) → b ≡ true → b ≡ otherAnswer table answer
   unfolding otherAnswer
-  no-answer n b e = record { other-is = e ∙ rw (← solved, ne-eqb (r .outcome) 2 n) refl; cleared = zeros }
+  no-answer n b e = e ∙ rw (← solved, ne-eqb (r .outcome) 2 n) refl
 
   module _ (two : r .outcome ≡ 2) where
     outcome-is : answerRecord (rowsOf table) .outcome ≡ 2
@@ -74,19 +71,23 @@ module _ (table answer work own : List ℕ) (accepted : firstFault table ≡ Acc
     count : length (answerNumbers (solvedRows (rowsOf table))) ≡ r .pieces * 6
     count = numbers-length (solvedRows (rowsOf table)) ∙ ap (λ (n : ℕ). n * 6) (sym (demand-3 table accepted .solved-pieces outcome-is) ∙ ap (λ (q : Record). q .pieces) (sym solved))
 
-    pub other-count : (length answer ≡ r .pieces * 6 → ⊥) → (b : Bool) → b ≡ true → Compared table answer work work′ b
+    fits : length (answerNumbers (solvedRows (rowsOf table))) ≤ length own
+    fits = omega (arith, numbers-length (solvedRows (rowsOf table)), solved-few (rowsOf table), room)
+
+    pub other-count : (length answer ≡ r .pieces * 6 → ⊥) → (b : Bool) → b ≡ true → b ≡ otherAnswer table answer
     unfolding otherAnswer
-    other-count n b e = record { other-is = e ∙ rw (outcome-is) (sym (ap not (go (sameWord (answerNumbers (solvedRows (rowsOf table))) answer) refl))); cleared = zeros }
+    other-count n b e = e ∙ rw (outcome-is) (sym (ap not (go (sameWord (answerNumbers (solvedRows (rowsOf table))) answer) refl)))
       where
         go : (t : Bool) → sameWord (answerNumbers (solvedRows (rowsOf table))) answer ≡ t → t ≡ false
         go true h = absurd (n (ap length (sym (same-word _ answer h)) ∙ count))
         go false h = refl
 
-    pub compared : length answer ≡ r .pieces * 6 → (d : ℕ) → eqb d 0 ≡ agree answer own′ → (b : Bool) → b ≡ not (eqb d 0) → Compared table answer work work′ b
+    begins : take (length (answerNumbers (solvedRows (rowsOf table)))) own′ ≡ answerNumbers (solvedRows (rowsOf table))
+    unfolding answerOver
+    begins =
+        ap (take (length (answerNumbers (solvedRows (rowsOf table))))) (A .answer-is ∙ rw outcome-is (overwrite-fits (answerNumbers (solvedRows (rowsOf table))) own fits))
+        ∙ take-at (answerNumbers (solvedRows (rowsOf table))) (drop (length (answerNumbers (solvedRows (rowsOf table)))) own) (length (answerNumbers (solvedRows (rowsOf table)))) refl
+
+    pub compared : length answer ≡ r .pieces * 6 → (d : ℕ) → eqb d 0 ≡ agree answer own′ → (b : Bool) → b ≡ not (eqb d 0) → b ≡ otherAnswer table answer
     unfolding otherAnswer
-    compared l d h b e = record { other-is = e ∙ ap not (h ∙ agree-same (answerNumbers (solvedRows (rowsOf table))) answer own′ (l ∙ sym count) begins) ∙ rw outcome-is refl; cleared = zeros }
-      where
-        begins : take (length (answerNumbers (solvedRows (rowsOf table)))) own′ ≡ answerNumbers (solvedRows (rowsOf table))
-        begins =
-            ap₂ (λ (n : ℕ) (w : List ℕ). take n w) (count ∙ ap (λ (q : Record). q .pieces * 6) solved) left
-            ∙ call-answer table accepted own work room memory outcome-is
+    compared l d h b e = e ∙ ap not (h ∙ agree-same (answerNumbers (solvedRows (rowsOf table))) answer own′ (l ∙ sym count) begins) ∙ rw outcome-is refl

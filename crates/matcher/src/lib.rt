@@ -1,11 +1,12 @@
 // The pattern call (document 02, (x)): patterns are made of the answer solved from the term table lent, and of no other. The table is solved again,
 // its answer is compared with the one lent, number by number, and that one is filled (crate maker).
 ghost use mathlib.Core.Path.{_≡_};
+ghost use Prim.Native.Nat.{_*_, _≤_};
 ghost use lib.Dec.{eqb};
 ghost use lib.ListN.{length};
 ghost use Rattle.areas.specs.inner.Areas.{agree};
 ghost use Rattle.assignments.specs.Matching.{makeRecord, makeAfter, makeWork};
-ghost use Rattle.matcher.specs.inner.Matching.{Compares};
+ghost use Rattle.matcher.specs.inner.Matching.{ComparesPlaced};
 use terms::Record;
 
 // The bits in which two runs of numbers differ as far as both go, taken together: 0 if they agree. There is no way out of the loop: it is faster so.
@@ -22,12 +23,20 @@ fn differ(a: &[u16], b: &[u16]) -> u16
     bits
 }
 
-// Whether an answer is another than the one solved from a table, which has one for outcome 2 alone. The work area is 0 afterwards.
-fn is_other(table: &[u16], answer: &[u16], work: &mut [u16]) -> bool
-    ensures { λ b. ⌜ Compares (now (table .entry)) (now (answer .entry)) (now (work .entry)) (now (work .exit)) b ⌝ }
+// Whether an answer is another than the one solved from a table that was checked and placed, which has one for outcome 2 alone. `own` is for
+// that one.
+fn is_not(
+    table: &[u16],
+    widths: &[u16],
+    places: &[u16],
+    bits: usize,
+    answer: &[u16],
+    own: &mut [u16],
+    work: &mut [u16],
+) -> bool
+    ensures { λ b. ⌜ (bits * 6 ≤ length (now (own .entry)) → ComparesPlaced (now (table .entry)) (now (widths .entry)) (now (places .entry)) bits (now (answer .entry)) (length (now (work .entry))) b) ⌝ }
 {
-    let mut own = [0u16; solver::ANSWER];
-    let found = solver::solve(table, &mut own[..], work);
+    let found = solver::solve_placed(table, widths, places, bits, work, own);
     let outcome = found.outcome;
     if outcome != 2 {
         return true;
@@ -35,11 +44,57 @@ fn is_other(table: &[u16], answer: &[u16], work: &mut [u16]) -> bool
     if answer.len() != (found.pieces as usize) * answers::ROW {
         return true;
     }
-    differ(answer, &own[..]) != 0
+    differ(answer, own) != 0
 }
 
-// The pattern that the answer solved from a table gives at fresh bits, as bytes 0 and 1, high bit first. `starts` is lent for the variables' places
-// first, which are not looked at.
+// The same for a small table, of at most 128 variable bits: its answer is short, since each number is set to 0 first.
+fn is_not_few(
+    table: &[u16],
+    widths: &[u16],
+    places: &[u16],
+    bits: usize,
+    answer: &[u16],
+    work: &mut [u16],
+) -> bool
+    ensures { λ b. ⌜ (bits ≤ 128 → ComparesPlaced (now (table .entry)) (now (widths .entry)) (now (places .entry)) bits (now (answer .entry)) (length (now (work .entry))) b) ⌝ }
+{
+    let mut own = [0u16; 768];
+    is_not(table, widths, places, bits, answer, &mut own[..], work)
+}
+
+// The same for any table.
+fn is_not_many(
+    table: &[u16],
+    widths: &[u16],
+    places: &[u16],
+    bits: usize,
+    answer: &[u16],
+    work: &mut [u16],
+) -> bool
+    ensures { λ b. ⌜ ComparesPlaced (now (table .entry)) (now (widths .entry)) (now (places .entry)) bits (now (answer .entry)) (length (now (work .entry))) b ⌝ }
+{
+    let mut own = [0u16; solver::ANSWER];
+    is_not(table, widths, places, bits, answer, &mut own[..], work)
+}
+
+// Whether an answer is another than the one solved from a table that was checked and placed.
+fn is_other(
+    table: &[u16],
+    widths: &[u16],
+    places: &[u16],
+    bits: usize,
+    answer: &[u16],
+    work: &mut [u16],
+) -> bool
+    ensures { λ b. ⌜ ComparesPlaced (now (table .entry)) (now (widths .entry)) (now (places .entry)) bits (now (answer .entry)) (length (now (work .entry))) b ⌝ }
+{
+    if bits <= 128 {
+        return is_not_few(table, widths, places, bits, answer, work);
+    }
+    is_not_many(table, widths, places, bits, answer, work)
+}
+
+// The pattern that the answer solved from a table gives at fresh bits, as bytes 0 and 1, high bit first.
 pub fn make_pattern(
     table: &[u16],
     answer: &[u16],
@@ -55,8 +110,9 @@ pub fn make_pattern(
         return records::refuse(10, 0);
     }
     let mut widths = [0u16; 512];
+    let mut places = [0u16; 578];
+    let fault = checker::check_and_place(table, &mut widths[..], &mut places[..]);
     let mut starts = [0u16; 4096];
-    let fault = checker::check_and_place(table, &mut widths[..], &mut starts[..]);
     let found = shapes::form_of(answer, &mut starts[..]);
     if !records::accepted(fault) {
         return records::fault_record(fault);
@@ -64,7 +120,10 @@ pub fn make_pattern(
     if !found.fine {
         return records::refuse(33, 0);
     }
-    if is_other(table, answer, work) {
+    let bits = numbers::wide(places[checker::BITS]);
+    let other = is_other(table, &widths[..], &places[..], bits, answer, work);
+    numbers::clear(work);
+    if other {
         return records::refuse(46, 0);
     }
     maker::fill(answer, found, fresh, &starts[..], pattern)

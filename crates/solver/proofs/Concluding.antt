@@ -3,21 +3,21 @@ use mathlib.Core.Path.{_≡_, refl, sym, ap, ap₂, _∙_, subst}
 use mathlib.Core.Logic.{_≢_}
 use mathlib.Core.Bool.{false}
 use mathlib.Core.List.{List}
-use Prim.Native.Nat.{ℕ, _-_, _%_, _≤_, _<_}
+use Prim.Native.Nat.{ℕ, _*_, _-_, _%_, _≤_, _<_}
 use native.Mathlib.Omega.{arith}
 use lib.ListN.{length}
 use borrow.Author.Tests.{eq-eqb, ne-eqb}
 use Rattle.terms.specs.declared.Record.{Record}
 use Rattle.terms.specs.declared.Row.{Row}
 use Rattle.terms.specs.declared.Fault.the-variants.{Accepted}
-use Rattle.terms.specs.Table.{rowsOf, bitsOf}
+use Rattle.terms.specs.Table.{rowsOf, bitsOf, satisfies}
 use Rattle.laws.specs.Lists.{tally}
 use Rattle.terms.specs.Faults.{firstFault}
 use Rattle.laws.specs.Buffers.{overwrite}
 use Rattle.terms.specs.Calls.{completed}
 use Rattle.terms.proofs.AcceptedTable.{accepted-table}
 use Rattle.laws.proofs.Tallies.{tally-most}
-use Rattle.answers.specs.Pairs.{Pair, equationPairs}
+use Rattle.answers.specs.Pairs.{Pair, equationPairs, equalUnder}
 use Rattle.answers.specs.inner.Classes.{inClass, Represents}
 use Rattle.answers.specs.declared.AnswerRow.{AnswerRow}
 use Rattle.answers.specs.Answer.{appears, variableWidths, answerRows, answerNumbers, freshPieces, freeBits}
@@ -51,6 +51,9 @@ as-many-bits : {n m : ℕ} {c : List ℕ} {seen : List Pair} → n ≡ m → Rep
 as-many-bits {c = c} {seen = seen} e r = subst (λ (k : ℕ). Represents k c seen) e r
 
 -- the table lent, and one with its variables whose equations were taken
+pub taken-bits : {table other links : List ℕ} {row ties : ℕ} → TakenOf table other links row ties → bitsOf (rowsOf table) ≡ bitsOf (rowsOf other)
+taken-bits {table} {other} F = sym (widths-sum (rowsOf table)) ∙ ap widthSum (sym (F .variables)) ∙ widths-sum (rowsOf other)
+
 module _ (table other links answer : List ℕ) (row ties : ℕ) (F : TakenOf table other links row ties) where
   abbrev t : List Row
   t = rowsOf other
@@ -65,7 +68,7 @@ module _ (table other links answer : List ℕ) (row ties : ℕ) (F : TakenOf tab
   E = F .taken
 
   pub same-bits : bitsOf (rowsOf table) ≡ bitsOf (rowsOf other)
-  same-bits = sym (widths-sum (rowsOf table)) ∙ ap widthSum (sym (F .variables)) ∙ widths-sum (rowsOf other)
+  same-bits = taken-bits F
 
   few-bits : n ≤ 4096
   few-bits = table-bits other accepted
@@ -121,9 +124,14 @@ module _ (table other links answer : List ℕ) (row ties : ℕ) (F : TakenOf tab
         (kept-short (bits - ties) (omega (arith, w, few-bits, same-bits)) ∙ open') (kept-short ties (omega (arith, E .few))) ∙ sym a in
         record { record-is = b; fours-are = rw a written }
 
+-- a solved table has no more rows than bits
+pub solved-few : (t : List Row) → length (solvedRows t) ≤ bitsOf t
+unfolding solvedRows
+solved-few t = rows-few (bitsOf t) (variableWidths t) (equalUnder (bitsOf t) (satisfies t))
+
 -- the homes are set, for outcome 2 alone
 module _ (table : List ℕ) (accepted : firstFault table ≡ Accepted) (answer answer₁ : List ℕ) (r : Record) (D : Concluded (rowsOf table) answer answer₁ r) where
-  pub homes-set : r .outcome ≡ 2 → (answer′ : List ℕ) (pieces room : ℕ) → pieces ≡ r .pieces → PutsHomes pieces answer₁ answer′ room → 4096 ≤ room → 24576 ≤ length answer
+  pub homes-set : r .outcome ≡ 2 → (answer′ : List ℕ) (pieces room : ℕ) → pieces ≡ r .pieces → PutsHomes pieces answer₁ answer′ room → 4096 ≤ room → bitsOf (rowsOf table) * 6 ≤ length answer
       → Answered (rowsOf table) answer answer′ r
   unfolding answerOver foursOver
   homes-set o answer′ pieces room many H space long =
@@ -131,6 +139,7 @@ module _ (table : List ℕ) (accepted : firstFault table ≡ Accepted) (answer a
       let all : pieces ≡ length (solvedRows (rowsOf table)) = many ∙ ap (λ (x : Record). x .pieces) (D .record-is) ∙ demand-3 table accepted .solved-pieces two in
       let tidy : Orderly (solvedRows (rowsOf table)) = orderly-written (solvedRows (rowsOf table)) (solved-form table accepted two) in
       let few : pieces ≤ 4096 = omega (arith, all, tidy .few) in
+      let most : pieces ≤ bitsOf (rowsOf table) = omega (arith, all, solved-few (rowsOf table)) in
       let homed : answer′ ≡ overwrite (answerNumbers (solvedRows (rowsOf table))) answer =
       H (solvedRows (rowsOf table)) answer all tidy (omega arith) (omega arith) (rw (eq-eqb (answerRecord (rowsOf table) .outcome) 2 two) at (D .fours-are)) in
       record { record-is = D .record-is; answer-is = rw (eq-eqb (answerRecord (rowsOf table) .outcome) 2 two) homed }

@@ -127,7 +127,7 @@ fn answer_many(
 }
 
 // The answer of a table that was checked and placed.
-fn solve_placed(
+pub fn solve_placed(
     table: &[u16],
     widths: &[u16],
     places: &[u16],

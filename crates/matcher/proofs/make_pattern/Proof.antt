@@ -1,13 +1,16 @@
 -- `make_pattern` meets its contract: each way in which it ends has its law in proofs/Ends.antt. Assumes nothing.
 use mathlib.Core.Path.{_≡_, sym, _∙_, ap}
 use mathlib.Core.Bool.{true}
+use Prim.Native.Nat.{ℕ}
 use native.Mathlib.Omega.{arith}
+use lib.ListN.{replicate}
 use denote.Ref.{now}
 use borrow.Author.Tests.{not-true, not-false}
 use borrow.Author.Needs.{needs}
 use Rattle.terms.specs.declared.Fault.the-variants.{Accepted}
 use Rattle.terms.specs.Faults.{isAccepted, firstFault}
 use Rattle.terms.specs.Calls.{faultRecord}
+use Rattle.terms.specs.inner.Placed.{Placed}
 use Rattle.terms.proofs.AcceptedTable.{fault-none}
 use Rattle.checker.proofs.Checking.{fault-found}
 use Rattle.assignments.specs.Form.{hasForm}
@@ -23,6 +26,10 @@ found d = d .check-and-place .ensures .0 ∙ fault-found _ _ (omega arith)
 no-fault : (d : tie.Else2) → firstFault (now (d .before .before .before .before .before .before .before .before .before .before .before .before .before .before .before .before .args .table)) ≡ Accepted
 no-fault d = fault-none _ (ap isAccepted (sym (found (d .before .before .before .before .before .before .before))) ∙ sym (d .before .accepted .ensures) ∙ not-false _ (d .if2 .left))
 
+-- the table was placed
+is-placed : (d : tie.Else2) → Placed (now (d .before .before .before .before .before .before .before .before .before .before .before .before .before .before .before .before .args .table)) (d .before .before .before .before .before .before .before .check-and-place .last .1 .0) (d .before .before .before .before .before .before .before .check-and-place .last .1 .1 .0)
+is-placed d = d .before .before .before .before .before .before .before .check-and-place .ensures .1 .1 .0 (found (d .before .before .before .before .before .before .before) ∙ no-fault d) (omega arith)
+
 -- the answer has the form
 is-formed : (d : tie.Else3) → hasForm (now (d .before .before .before .before .before .before .before .before .before .before .before .before .before .before .before .before .before .before .args .answer)) ≡ true
 is-formed d = sym (d .before .before .before .before .before .form-of .ensures (omega arith) .fine-is) ∙ not-false _ (d .if3 .left)
@@ -31,7 +38,8 @@ refuse-requires : tie.Need-refuse-requires
 refuse-requires c κs = search needs
 
 returns : tie.Need-returns
-returns c = stop-memory _ _ _ (now (c .before .before .before .before .before .before .before .args .pattern)) (now (c .before .before .before .before .before .before .before .args .work)) (c .before .if1 .taken) _ (c .refuse .ensures)
+returns c =
+    stop-memory _ _ _ (now (c .before .before .before .before .before .before .before .args .pattern)) (now (c .before .before .before .before .before .before .before .args .work)) (c .before .if1 .taken) _ (c .refuse .ensures)
 
 slice-aggregate-check-and-place : tie.Need-slice-aggregate-check-and-place
 slice-aggregate-check-and-place c = search needs
@@ -67,8 +75,23 @@ returns-3 c =
     stop-33 _ _ _ (now (c .before .before .before .before .before .before .before .before .before .before .before .before .before .before .before .before .before .before .before .args .pattern)) (now (c .before .before .before .before .before .before .before .before .before .before .before .before .before .before .before .before .before .before .before .args .work)) (c .before .before .before .before .before .before .before .before .before .before .before .before .before .if1 .left) (no-fault (c .before .before .before))
     (sym (c .before .before .before .before .before .before .form-of .ensures (omega arith) .fine-is) ∙ not-true _ (c .before .if3 .taken)) _ (c .refuse2 .ensures)
 
+array-read-wide : tie.Need-array-read-wide
+array-read-wide c = search needs
+
+wide-requires : tie.Need-wide-requires
+wide-requires c κs = search needs
+
+slice-aggregate-is-other : tie.Need-slice-aggregate-is-other
+slice-aggregate-is-other c = search needs
+
+slice-aggregate-is-other-2 : tie.Need-slice-aggregate-is-other-2
+slice-aggregate-is-other-2 c = search needs
+
 is-other-requires : tie.Need-is-other-requires
 is-other-requires c κs = search needs
+
+clear-requires : tie.Need-clear-requires
+clear-requires c κs = search needs
 
 refuse-requires-3 : tie.Need-refuse-requires-3
 refuse-requires-3 c κs = search needs
@@ -78,9 +101,10 @@ same-length c = search needs
 
 returns-4 : tie.Need-returns-4
 returns-4 c =
-    let good = no-fault (c .before .before .before .before .before .before .before .before) in
-    let same = c .before .before .before .before .is-other .ensures good (c .before .before .before .before .before .before .before .before .before .before .before .before .before .before .before .before .before .before .if1 .left) in
-    stop-46 _ _ _ (now (c .before .before .before .before .before .before .before .before .before .before .before .before .before .before .before .before .before .before .before .before .before .before .before .before .args .pattern)) _ (c .before .before .before .before .before .before .before .before .before .before .before .before .before .before .before .before .before .before .if1 .left) good (is-formed (c .before .before .before .before .before .before)) (sym (same .other-is) ∙ c .before .if4 .taken) _ _ (c .refuse3 .ensures) (same .cleared)
+    let placed = is-placed (c .before .before .before .before .before .before .before .before .before .before .before .before .before .before .before) in
+    let other = c .before .before .before .before .before .before .before .before .is-other .ensures placed (c .before .before .before .before .before .before .before .before .before .before .before .before .wide .ensures .0 ∙ placed .bits-are) (omega (arith, c .before .before .before .before .before .before .before .before .before .before .before .before .before .before .before .before .before .before .before .before .before .before .before .before .before .if1 .left)) in
+    stop-46 _ _ _ (now (c .before .before .before .before .before .before .before .before .before .before .before .before .before .before .before .before .before .before .before .before .before .before .before .before .before .before .before .before .before .before .before .args .pattern)) _ (c .before .before .before .before .before .before .before .before .before .before .before .before .before .before .before .before .before .before .before .before .before .before .before .before .before .if1 .left) (placed .numbered .accepted) (is-formed (c .before .before .before .before .before .before .before .before .before .before .before .before .before)) (sym other ∙ c .before .if4 .taken) _ _ (c .refuse3 .ensures)
+    (c .before .before .before .before .clear .ensures ∙ ap (λ (n : ℕ). replicate n 0) (c .before .before .before .before .before .before .before .before .is-other .kept .1 .1 .1 .1 .1 .0))
 
 slice-aggregate-fill : tie.Need-slice-aggregate-fill
 slice-aggregate-fill c = search needs
@@ -96,12 +120,12 @@ same-length-3 c = search needs
 
 returns-5 : tie.Need-returns-5
 returns-5 c =
-    let good = no-fault (c .before .before .before .before .before .before .before .before .before .before .before .before) in
-    let formed = is-formed (c .before .before .before .before .before .before .before .before .before .before) in
-    let F = c .before .before .before .before .before .before .before .before .before .before .before .before .before .before .before .form-of .ensures (omega arith) in
-    let same = c .before .before .before .before .before .before .before .before .is-other .ensures good (c .before .before .before .before .before .before .before .before .before .before .before .before .before .before .before .before .before .before .before .before .before .before .if1 .left) in
-    fill-right _ _ _ _ _ (c .before .before .before .before .before .before .before .before .before .before .before .before .before .before .before .before .before .before .before .before .before .before .if1 .left) good formed (sym (same .other-is) ∙ c .before .before .before .before .before .if4 .left) _ _ _
-    (form-filled _ _ _ formed _ _ (c .before .before .fill .ensures (F .shaped formed))) (same .cleared)
+    let placed = is-placed (c .before .before .before .before .before .before .before .before .before .before .before .before .before .before .before .before .before .before .before) in
+    let formed = is-formed (c .before .before .before .before .before .before .before .before .before .before .before .before .before .before .before .before .before) in
+    let F = c .before .before .before .before .before .before .before .before .before .before .before .before .before .before .before .before .before .before .before .before .before .before .form-of .ensures (omega arith) in
+    let other = c .before .before .before .before .before .before .before .before .before .before .before .before .is-other .ensures placed (c .before .before .before .before .before .before .before .before .before .before .before .before .before .before .before .before .wide .ensures .0 ∙ placed .bits-are) (omega (arith, c .before .before .before .before .before .before .before .before .before .before .before .before .before .before .before .before .before .before .before .before .before .before .before .before .before .before .before .before .before .if1 .left)) in
+    fill-right _ _ _ _ _ (c .before .before .before .before .before .before .before .before .before .before .before .before .before .before .before .before .before .before .before .before .before .before .before .before .before .before .before .before .before .if1 .left) (placed .numbered .accepted) formed (sym other ∙ c .before .before .before .before .before .if4 .left) _ _ _
+    (form-filled _ _ _ formed _ _ (c .before .before .fill .ensures (F .shaped formed))) (c .before .before .before .before .before .before .before .before .clear .ensures ∙ ap (λ (n : ℕ). replicate n 0) (c .before .before .before .before .before .before .before .before .before .before .before .before .is-other .kept .1 .1 .1 .1 .1 .0))
 
 pub make-pattern-spec : {M : Type 1} → statement M
 make-pattern-spec =
@@ -119,7 +143,12 @@ make-pattern-spec =
     returns-2
     refuse-requires-2
     returns-3
+    array-read-wide
+    wide-requires
+    slice-aggregate-is-other
+    slice-aggregate-is-other-2
     is-other-requires
+    clear-requires
     refuse-requires-3
     same-length
     returns-4

@@ -3,15 +3,11 @@ use mathlib.Core.Path.{_≡_}
 use mathlib.Core.Bool.{Bool}
 use mathlib.Core.List.{List}
 use Prim.Native.Nat.{ℕ, _≤_}
-use lib.ListN.{length, replicate}
-use Rattle.terms.specs.declared.Fault.the-variants.{Accepted}
-use Rattle.terms.specs.Faults.{firstFault}
+use Rattle.terms.specs.Table.{rowsOf, bitsOf}
+use Rattle.terms.specs.inner.Placed.{Placed}
 use Rattle.assignments.specs.Matching.{otherAnswer}
 
--- An accepted table was solved, in a work area with room, and its answer compared with the one lent.
-pub record Compared (table answer work work′ : List ℕ) (other : Bool) : Type 0 where
-  pub other-is : other ≡ otherAnswer table answer
-  pub cleared : work′ ≡ replicate (length work) 0
-
-abbrev pub Compares : List ℕ → List ℕ → List ℕ → List ℕ → Bool → Type 0
-Compares table answer work work′ other = firstFault table ≡ Accepted → 16384 ≤ length work → Compared table answer work work′ other
+-- A table that was placed was solved, with room for a normal form, and its answer compared with the one lent.
+abbrev pub ComparesPlaced : List ℕ → List ℕ → List ℕ → ℕ → List ℕ → ℕ → Bool → Type 0
+ComparesPlaced table widths places bits answer formRoom other =
+    Placed table widths places → bits ≡ bitsOf (rowsOf table) → 4096 ≤ formRoom → other ≡ otherAnswer table answer

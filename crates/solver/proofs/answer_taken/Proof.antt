@@ -1,7 +1,8 @@
 -- `answer_taken` meets its contract: the homes are set behind the rows, of proofs/Concluding.antt. Assumes nothing.
 use mathlib.Core.Path.{refl}
-use Rattle.solver.proofs.Concluding.{homes-set, no-homes}
+use Rattle.solver.proofs.Concluding.{taken-bits, homes-set, no-homes}
 use borrow.Author.Needs.{needs}
+use native.Mathlib.Omega.{arith}
 use Rattle.solver.proofs.answer_taken.Statement.{statement}
 use Rattle.solver.proofs.answer_taken.Tie as tie
 
@@ -24,7 +25,7 @@ returns : tie.Need-returns
 returns c =
     λ accepted bits space room other F.
     let d = c .before .before .before .before .before .before .before .before .before .before .before .before .conclude in
-    homes-set other (F .accepted) _ _ (d .result) (d .ensures accepted bits other F) (c .before .before .before .before .before .before .before .before .if1 .taken) _ _ _ refl (c .before .before .before .before .put-homes .ensures) space room
+    homes-set other (F .accepted) _ _ (d .result) (d .ensures accepted bits other F) (c .before .before .before .before .before .before .before .before .if1 .taken) _ _ _ refl (c .before .before .before .before .put-homes .ensures) space (omega (arith, room, bits, taken-bits F))
 
 same-length-3 : tie.Need-same-length-3
 same-length-3 c = search needs

@@ -10,7 +10,7 @@ use Rattle.terms.specs.declared.Fault.the-variants.{Accepted}
 use Rattle.terms.specs.Faults.{isAccepted, firstFault}
 use Rattle.terms.specs.Calls.{faultRecord}
 use Rattle.terms.specs.inner.Placed.{Placed}
-use Rattle.terms.proofs.AcceptedTable.{fault-none}
+use Rattle.terms.proofs.AcceptedTable.{fault-none, table-bits}
 use Rattle.checker.proofs.Checking.{fault-found}
 use Rattle.solver.proofs.Stops.{stop-answer, stop-work, stop-fault, stop-accepted}
 use borrow.Author.Needs.{needs}
@@ -87,7 +87,8 @@ same-length-2 c = search needs
 returns-4 : tie.Need-returns-4
 returns-4 c =
     let placed = is-placed (c .before .before .before .before .before .before .before .before .before .before .before .before .before .before) in
-    stop-accepted _ _ _ (c .before .before .before .before .before .before .before .before .before .before .before .before .before .before .before .before .before .before .before .before .before .before .if1 .left) (c .before .before .before .before .before .before .before .before .before .before .before .before .before .before .before .before .before .before .before .before .before .if2 .left) (placed .numbered .accepted) _ _ _ (c .before .before .before .before .before .before .before .before .solve-placed .ensures placed (c .before .before .before .before .before .before .before .before .before .before .before .before .before .wide .ensures .0 ∙ placed .bits-are) (omega (arith, c .before .before .before .before .before .before .before .before .before .before .before .before .before .before .before .before .before .before .before .before .before .if2 .left)) (c .before .before .before .before .before .before .before .before .before .before .before .before .before .before .before .before .before .before .before .before .before .before .if1 .left))
+    let wide = c .before .before .before .before .before .before .before .before .before .before .before .before .before .wide .ensures .0 ∙ placed .bits-are in
+    stop-accepted _ _ _ (c .before .before .before .before .before .before .before .before .before .before .before .before .before .before .before .before .before .before .before .before .before .before .if1 .left) (c .before .before .before .before .before .before .before .before .before .before .before .before .before .before .before .before .before .before .before .before .before .if2 .left) (placed .numbered .accepted) _ _ _ (c .before .before .before .before .before .before .before .before .solve-placed .ensures placed wide (omega (arith, c .before .before .before .before .before .before .before .before .before .before .before .before .before .before .before .before .before .before .before .before .before .if2 .left)) (omega (arith, wide, table-bits _ (placed .numbered .accepted), c .before .before .before .before .before .before .before .before .before .before .before .before .before .before .before .before .before .before .before .before .before .before .if1 .left)))
     (c .before .before .clear .ensures ∙ ap (λ (n : ℕ). replicate n 0) (c .before .before .before .before .before .before .before .before .solve-placed .kept .1 .1 .1 .1 .0))
 
 pub solve-spec : {M : Type 1} → statement M

@@ -2,7 +2,7 @@
 use mathlib.Core.Path.{_≡_}
 use mathlib.Core.Bool.{cond}
 use mathlib.Core.List.{List}
-use Prim.Native.Nat.{ℕ, _≤_}
+use Prim.Native.Nat.{ℕ, _*_, _≤_}
 use lib.Dec.{eqb}
 use lib.ListN.{length}
 use Rattle.terms.specs.declared.Record.{Record}
@@ -48,13 +48,13 @@ Concludes table bits row ties links answer answer′ found =
     firstFault table ≡ Accepted → bits ≡ bitsOf (rowsOf table) → (other : List ℕ) → TakenOf table other links row ties
     → Concluded (rowsOf other) answer answer′ found
 
--- The same with the homes, with room for the first row of each fresh piece and for the answer.
+-- The same with the homes, with room for the first row of each fresh piece and for the answer, six numbers for each variable bit.
 abbrev pub AnswersTaken : List ℕ → ℕ → ℕ → ℕ → List ℕ → ℕ → List ℕ → List ℕ → Record → Type 0
 AnswersTaken table bits row ties links firstsRoom answer answer′ found =
-    firstFault table ≡ Accepted → bits ≡ bitsOf (rowsOf table) → 4096 ≤ firstsRoom → 24576 ≤ length answer → (other : List ℕ) → TakenOf table other links row ties
+    firstFault table ≡ Accepted → bits ≡ bitsOf (rowsOf table) → 4096 ≤ firstsRoom → bits * 6 ≤ length answer → (other : List ℕ) → TakenOf table other links row ties
     → Answered (rowsOf other) answer answer′ found
 
 -- The answer of a table that was placed, with room for the normal form of a side and for the answer.
 abbrev pub AnswersTable : List ℕ → List ℕ → List ℕ → ℕ → ℕ → List ℕ → List ℕ → Record → Type 0
 AnswersTable table widths places bits formRoom answer answer′ found =
-    Placed table widths places → bits ≡ bitsOf (rowsOf table) → 4096 ≤ formRoom → 24576 ≤ length answer → Answered (rowsOf table) answer answer′ found
+    Placed table widths places → bits ≡ bitsOf (rowsOf table) → 4096 ≤ formRoom → bits * 6 ≤ length answer → Answered (rowsOf table) answer answer′ found

@@ -1,7 +1,7 @@
 -- `answer_with` meets its contract: each way has its law in proofs/Trying.antt. Assumes nothing.
 use borrow.Author.Needs.{needs}
 use mathlib.Core.Path.{_≡_, refl, sym, _∙_, ap}
-use Prim.Native.Nat.{ℕ, suc, _+_, _≤_, _<_}
+use Prim.Native.Nat.{ℕ, suc, _+_, _*_, _≤_, _<_}
 use native.Mathlib.Omega.{arith}
 use lib.ListN.{length, take}
 use lib.Seq.{length-take-le}
@@ -12,7 +12,7 @@ use borrow.Author.Tests.{eq-eqb, ne-eqb}
 use Rattle.laws.proofs.Numbers.{dec-eq}
 use Rattle.terms.specs.Table.{rowsOf, bitsOf}
 use Rattle.terms.specs.inner.Placed.{Placed}
-use Rattle.terms.proofs.AcceptedTable.{accepted-table}
+use Rattle.terms.proofs.AcceptedTable.{accepted-table, table-bits}
 use Rattle.terms.proofs.Rows.{rows-length}
 use Rattle.jobs.specs.Call.{breaks43}
 use Rattle.states.specs.inner.Jobs.{Ready, StateRead}
@@ -99,14 +99,15 @@ returns-2 c =
     let inside : c .before .before .before .before .before .before .before .before .before .before .before .before .before .read-state .result ≤ length (rowsOf table) = omega (arith, c .before .before .before .before .before .before .before .before .if1 .left, rows-length table) in
     let kept = c .before .before .before .before .before .before .before .before .before .before .before .before .before .read-state .kept in
     let row = c .before .before .before .before .before .before .before .answer-row .ensures in
+    let fits : c .before .before .before .before .before .before .before .before .before .before .before .before .before .before .before .before .before .before .before .before .before .before .before .before .before .before .before .args .bits * 6 ≤ length (now (c .before .before .before .before .before .before .before .before .before .before .before .before .before .before .before .before .before .before .before .before .before .before .before .before .before .before .before .args .answer)) = omega (arith, wide, table-bits table accepted, room) in
     ⊎-elim
     (λ e.
     answered-never table accepted plain _ _ _ _ _ S inside e _ _ _
-    (c .before .before .before .answer-taken .ensures accepted wide (omega (arith, kept .1 .1 .1 .1 .1 .1 .1 .0)) room table
+    (c .before .before .before .answer-taken .ensures accepted wide (omega (arith, kept .1 .1 .1 .1 .1 .1 .1 .0)) fits table
     (taken-as (sym (row ∙ rw (eq-eqb next 1000 e) refl)) refl (never-taken table accepted plain _ _ _ _ _ S inside e))))
     (λ n.
     answered-row table accepted plain _ _ _ _ _ S inside n _ _ _
-    (c .before .before .before .answer-taken .ensures accepted wide (omega (arith, kept .1 .1 .1 .1 .1 .1 .1 .0)) room _
+    (c .before .before .before .answer-taken .ensures accepted wide (omega (arith, kept .1 .1 .1 .1 .1 .1 .1 .0)) fits _
     (taken-as (sym (row ∙ rw (ne-eqb next 1000 n) (sym (rows-length table)))) refl (whole-taken table accepted plain _ inside _ _ (prefix table accepted plain _ _ _ _ _ S inside)))))
     (dec-eq next 1000)
 
