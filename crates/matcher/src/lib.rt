@@ -114,10 +114,11 @@ pub fn make_pattern(
     let fault = checker::check_and_place(table, &mut widths[..], &mut places[..]);
     let mut starts = [0u16; 4096];
     let found = shapes::form_of(answer, &mut starts[..]);
+    let fine = found.fine;
     if !records::accepted(fault) {
         return records::fault_record(fault);
     }
-    if !found.fine {
+    if !fine {
         return records::refuse(33, 0);
     }
     let bits = numbers::wide(places[checker::BITS]);

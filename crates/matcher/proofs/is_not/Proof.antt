@@ -17,7 +17,7 @@ same-length-2 c = search needs
 
 returns : tie.Need-returns
 returns c =
-    λ fit placed wide form. no-answer _ _ _ _ (placed .numbered .accepted) (omega (arith, fit, wide)) _ (c .before .before .before .before .before .solve-placed .ensures placed wide form fit) (c .if1 .taken) _ refl
+    λ fit placed wide form. no-answer _ _ _ _ (placed .numbered .accepted) (omega (arith, fit, wide)) _ (c .before .before .before .before .before .solve-placed .ensures placed wide form fit) (λ e. omega (arith, e, c .if1 .taken)) _ refl
 
 cast-if2 : tie.Need-cast-if2
 cast-if2 c = search needs
@@ -34,7 +34,7 @@ same-length-4 c = search needs
 returns-2 : tie.Need-returns-2
 returns-2 c =
     λ fit placed wide form.
-    other-count _ _ _ _ (placed .numbered .accepted) (omega (arith, fit, wide)) _ (c .before .before .before .before .before .before .before .solve-placed .ensures placed wide form fit) (c .before .before .if1 .left) (c .if2 .taken) _ refl
+    other-count _ _ _ _ (placed .numbered .accepted) (omega (arith, fit, wide)) _ (c .before .before .before .before .before .before .before .solve-placed .ensures placed wide form fit) (omega (arith, c .before .before .if1 .left)) (λ e. omega (arith, e, c .if2 .taken)) _ refl
 
 differ-requires : tie.Need-differ-requires
 differ-requires c κs = search needs
@@ -48,7 +48,7 @@ same-length-6 c = search needs
 returns-3 : tie.Need-returns-3
 returns-3 c =
     λ fit placed wide form.
-    compared _ _ _ _ (placed .numbered .accepted) (omega (arith, fit, wide)) _ (c .before .before .before .before .before .before .before .before .before .solve-placed .ensures placed wide form fit) (c .before .before .before .before .if1 .left) (c .before .before .if2 .left) (c .differ .result) (c .differ .ensures) _ refl
+    compared _ _ _ _ (placed .numbered .accepted) (omega (arith, fit, wide)) _ (c .before .before .before .before .before .before .before .before .before .solve-placed .ensures placed wide form fit) (omega (arith, c .before .before .before .before .if1 .left)) (omega (arith, c .before .before .if2 .left)) (c .differ .result) (c .differ .ensures) _ refl
 
 pub is-not-spec : {M : Type 1} → statement M
 is-not-spec =

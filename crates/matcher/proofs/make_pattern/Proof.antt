@@ -1,9 +1,9 @@
 -- `make_pattern` meets its contract: each way in which it ends has its law in proofs/Ends.antt. Assumes nothing.
 use mathlib.Core.Path.{_≡_, sym, _∙_, ap}
 use mathlib.Core.Bool.{true}
-use Prim.Native.Nat.{ℕ}
+use Prim.Native.Nat.{ℕ, _≤_}
 use native.Mathlib.Omega.{arith}
-use lib.ListN.{replicate}
+use lib.ListN.{length, replicate}
 use denote.Ref.{now}
 use borrow.Author.Tests.{not-true, not-false}
 use borrow.Author.Needs.{needs}
@@ -30,16 +30,20 @@ no-fault d = fault-none _ (ap isAccepted (sym (found (d .before .before .before 
 is-placed : (d : tie.Else2) → Placed (now (d .before .before .before .before .before .before .before .before .before .before .before .before .before .before .before .before .args .table)) (d .before .before .before .before .before .before .before .check-and-place .last .1 .0) (d .before .before .before .before .before .before .before .check-and-place .last .1 .1 .0)
 is-placed d = d .before .before .before .before .before .before .before .check-and-place .ensures .1 .1 .0 (found (d .before .before .before .before .before .before .before) ∙ no-fault d) (omega arith)
 
+-- the area has room
+memory : (d : tie.Else1) → 16384 ≤ length (now (d .before .before .before .before .before .before .args .work))
+memory d = omega (arith, d .if1 .left)
+
 -- the answer has the form
-is-formed : (d : tie.Else3) → hasForm (now (d .before .before .before .before .before .before .before .before .before .before .before .before .before .before .before .before .before .before .args .answer)) ≡ true
-is-formed d = sym (d .before .before .before .before .before .form-of .ensures (omega arith) .fine-is) ∙ not-false _ (d .if3 .left)
+is-formed : (d : tie.Else3) → hasForm (now (d .before .before .before .before .before .before .before .before .before .before .before .before .before .before .before .before .before .args .answer)) ≡ true
+is-formed d = sym (d .before .before .before .before .form-of .ensures (omega arith) .fine-is) ∙ not-false _ (d .if3 .left)
 
 refuse-requires : tie.Need-refuse-requires
 refuse-requires c κs = search needs
 
 returns : tie.Need-returns
 returns c =
-    stop-memory _ _ _ (now (c .before .before .before .before .before .before .before .args .pattern)) (now (c .before .before .before .before .before .before .before .args .work)) (c .before .if1 .taken) _ (c .refuse .ensures)
+    stop-memory _ _ _ (now (c .before .before .before .before .before .before .before .args .pattern)) (now (c .before .before .before .before .before .before .before .args .work)) (omega (arith, c .before .if1 .taken)) _ (c .refuse .ensures)
 
 slice-aggregate-check-and-place : tie.Need-slice-aggregate-check-and-place
 slice-aggregate-check-and-place c = search needs
@@ -65,15 +69,15 @@ fault-record-requires c κs = search needs
 returns-2 : tie.Need-returns-2
 returns-2 c =
     let bad = ap isAccepted (sym (found (c .before .before .before .before .before .before .before .before))) ∙ sym (c .before .before .accepted .ensures) ∙ not-true _ (c .before .if2 .taken) in
-    stop-fault _ _ _ (now (c .before .before .before .before .before .before .before .before .before .before .before .before .before .before .before .before .before .args .pattern)) (now (c .before .before .before .before .before .before .before .before .before .before .before .before .before .before .before .before .before .args .work)) (c .before .before .before .before .before .before .before .before .before .before .before .if1 .left) bad _ (c .fault-record .ensures ∙ ap faultRecord (found (c .before .before .before .before .before .before .before .before)))
+    stop-fault _ _ _ (now (c .before .before .before .before .before .before .before .before .before .before .before .before .before .before .before .before .before .args .pattern)) (now (c .before .before .before .before .before .before .before .before .before .before .before .before .before .before .before .before .before .args .work)) (memory (c .before .before .before .before .before .before .before .before .before .before .before)) bad _ (c .fault-record .ensures ∙ ap faultRecord (found (c .before .before .before .before .before .before .before .before)))
 
 refuse-requires-2 : tie.Need-refuse-requires-2
 refuse-requires-2 c κs = search needs
 
 returns-3 : tie.Need-returns-3
 returns-3 c =
-    stop-33 _ _ _ (now (c .before .before .before .before .before .before .before .before .before .before .before .before .before .before .before .before .before .before .before .args .pattern)) (now (c .before .before .before .before .before .before .before .before .before .before .before .before .before .before .before .before .before .before .before .args .work)) (c .before .before .before .before .before .before .before .before .before .before .before .before .before .if1 .left) (no-fault (c .before .before .before))
-    (sym (c .before .before .before .before .before .before .form-of .ensures (omega arith) .fine-is) ∙ not-true _ (c .before .if3 .taken)) _ (c .refuse2 .ensures)
+    stop-33 _ _ _ (now (c .before .before .before .before .before .before .before .before .before .before .before .before .before .before .before .before .before .before .args .pattern)) (now (c .before .before .before .before .before .before .before .before .before .before .before .before .before .before .before .before .before .before .args .work)) (memory (c .before .before .before .before .before .before .before .before .before .before .before .before)) (no-fault (c .before .before))
+    (sym (c .before .before .before .before .before .form-of .ensures (omega arith) .fine-is) ∙ not-true _ (c .before .if3 .taken)) _ (c .refuse2 .ensures)
 
 array-read-wide : tie.Need-array-read-wide
 array-read-wide c = search needs
@@ -101,9 +105,10 @@ same-length c = search needs
 
 returns-4 : tie.Need-returns-4
 returns-4 c =
-    let placed = is-placed (c .before .before .before .before .before .before .before .before .before .before .before .before .before .before .before) in
-    let other = c .before .before .before .before .before .before .before .before .is-other .ensures placed (c .before .before .before .before .before .before .before .before .before .before .before .before .wide .ensures .0 ∙ placed .bits-are) (omega (arith, c .before .before .before .before .before .before .before .before .before .before .before .before .before .before .before .before .before .before .before .before .before .before .before .before .before .if1 .left)) in
-    stop-46 _ _ _ (now (c .before .before .before .before .before .before .before .before .before .before .before .before .before .before .before .before .before .before .before .before .before .before .before .before .before .before .before .before .before .before .before .args .pattern)) _ (c .before .before .before .before .before .before .before .before .before .before .before .before .before .before .before .before .before .before .before .before .before .before .before .before .before .if1 .left) (placed .numbered .accepted) (is-formed (c .before .before .before .before .before .before .before .before .before .before .before .before .before)) (sym other ∙ c .before .if4 .taken) _ _ (c .refuse3 .ensures)
+    let placed = is-placed (c .before .before .before .before .before .before .before .before .before .before .before .before .before .before) in
+    let room = memory (c .before .before .before .before .before .before .before .before .before .before .before .before .before .before .before .before .before .before .before .before .before .before .before .before) in
+    let other = c .before .before .before .before .before .before .before .before .is-other .ensures placed (c .before .before .before .before .before .before .before .before .before .before .before .before .wide .ensures .0 ∙ placed .bits-are) (omega (arith, room)) in
+    stop-46 _ _ _ (now (c .before .before .before .before .before .before .before .before .before .before .before .before .before .before .before .before .before .before .before .before .before .before .before .before .before .before .before .before .before .before .args .pattern)) _ room (placed .numbered .accepted) (is-formed (c .before .before .before .before .before .before .before .before .before .before .before .before .before)) (sym other ∙ c .before .if4 .taken) _ _ (c .refuse3 .ensures)
     (c .before .before .before .before .clear .ensures ∙ ap (λ (n : ℕ). replicate n 0) (c .before .before .before .before .before .before .before .before .is-other .kept .1 .1 .1 .1 .1 .0))
 
 slice-aggregate-fill : tie.Need-slice-aggregate-fill
@@ -120,11 +125,12 @@ same-length-3 c = search needs
 
 returns-5 : tie.Need-returns-5
 returns-5 c =
-    let placed = is-placed (c .before .before .before .before .before .before .before .before .before .before .before .before .before .before .before .before .before .before .before) in
+    let placed = is-placed (c .before .before .before .before .before .before .before .before .before .before .before .before .before .before .before .before .before .before) in
+    let room = memory (c .before .before .before .before .before .before .before .before .before .before .before .before .before .before .before .before .before .before .before .before .before .before .before .before .before .before .before .before) in
     let formed = is-formed (c .before .before .before .before .before .before .before .before .before .before .before .before .before .before .before .before .before) in
-    let F = c .before .before .before .before .before .before .before .before .before .before .before .before .before .before .before .before .before .before .before .before .before .before .form-of .ensures (omega arith) in
-    let other = c .before .before .before .before .before .before .before .before .before .before .before .before .is-other .ensures placed (c .before .before .before .before .before .before .before .before .before .before .before .before .before .before .before .before .wide .ensures .0 ∙ placed .bits-are) (omega (arith, c .before .before .before .before .before .before .before .before .before .before .before .before .before .before .before .before .before .before .before .before .before .before .before .before .before .before .before .before .before .if1 .left)) in
-    fill-right _ _ _ _ _ (c .before .before .before .before .before .before .before .before .before .before .before .before .before .before .before .before .before .before .before .before .before .before .before .before .before .before .before .before .before .if1 .left) (placed .numbered .accepted) formed (sym other ∙ c .before .before .before .before .before .if4 .left) _ _ _
+    let F = c .before .before .before .before .before .before .before .before .before .before .before .before .before .before .before .before .before .before .before .before .before .form-of .ensures (omega arith) in
+    let other = c .before .before .before .before .before .before .before .before .before .before .before .before .is-other .ensures placed (c .before .before .before .before .before .before .before .before .before .before .before .before .before .before .before .before .wide .ensures .0 ∙ placed .bits-are) (omega (arith, room)) in
+    fill-right _ _ _ _ _ room (placed .numbered .accepted) formed (sym other ∙ c .before .before .before .before .before .if4 .left) _ _ _
     (form-filled _ _ _ formed _ _ (c .before .before .fill .ensures (F .shaped formed))) (c .before .before .before .before .before .before .before .before .clear .ensures ∙ ap (λ (n : ℕ). replicate n 0) (c .before .before .before .before .before .before .before .before .before .before .before .before .is-other .kept .1 .1 .1 .1 .1 .0))
 
 pub make-pattern-spec : {M : Type 1} → statement M
