@@ -9,10 +9,10 @@
   buffers of the caller. One of them solves the equations: it tells whether
   every, no or some choice of the variables' bits meets them all, and for some
   it describes these choices. Another makes such a choice from the description,
-  one finds the places of a long run of words at which the words meet them, and
-  one prints the description on pages for a line printer. A job takes the
-  equations one by one, and tells after each what is still allowed, or before
-  each what it would leave.
+  one finds the places of a long run of words at which the words meet them, one
+  compares two recordings of frames by them, and one prints the description on
+  pages for a line printer. A job takes the equations one by one, and tells
+  after each what is still allowed, or before each what it would leave.
 
   The library is proved: for every input each call yields the record and the
   buffer contents that this header names, and it always returns. It is linked
@@ -192,6 +192,36 @@
   In the run ace1 0001 ace1 ace1 1231 the windows from 0, 2 and 3 on meet it.
 
 
+                                Recordings
+
+  A recording is a run of records, each of k + 1 16-bit numbers: a frame counter
+  and then k words, k being 1 to 32. The counters of a recording rise strictly;
+  they may leave numbers out, and need not begin at 0. A recording of no records
+  is one. Where a counter goes round past 65535, the host divides the recording
+  there, and has each part compared by itself.
+
+  Two recordings of the same frames, what was sent and what was received, are
+  compared by a table of 2 * k variables, all of 16 bits: variable j is word j as
+  it was sent, and variable k + j is word j as it was received, j being 0 to
+  k - 1. Variables that no equation names count.
+
+  A sent record and a received record with equal counters are a pair, so that a
+  record has at most one partner. A pair meets the table if the pattern does that
+  its words are, the k sent ones and then the k received ones; else it breaks the
+  table. Beside that, and whatever the table says, the bits are counted in which
+  sent word j and received word j differ.
+
+  In this table k is 1, and the word comes back as it was sent:
+
+     0 16 0 0
+     0 16 0 0
+     4 0 1 0
+
+  Sent are the records 1 5, 2 7 and 4 9, and received 1 5, 3 1 and 4 8. Frames 1
+  and 4 are pairs, 2 was only sent and 3 only received; the pair of frame 4
+  breaks the table, and its words 9 and 8 differ in one bit.
+
+
                                   Sheets
 
   A sheet is the numbers of a table as text: a line of names, and then for each
@@ -348,14 +378,15 @@
                                Every call
 
   Lengths count elements, not bytes: 16-bit numbers for a table, for a normal
-  form, for an answer table, for a work area and for a run, 32-bit numbers for a
-  list of starts, bytes for a pattern, for a value, for fresh bits and for a
-  sheet. A table of R rows has length 4 * R, and an answer table of R rows has
+  form, for an answer table, for a work area, for a run and for a recording,
+  32-bit numbers for a list of starts, bytes for a pattern, for a value, for
+  fresh bits and for a sheet. A table of R rows has length 4 * R, and an answer table of R rows has
   length 6 * R. The calls whose names end in _rows take the table as an array of
   row structs instead, and the number of rows.
 
   Each pointer is to as many elements as its length says, aligned for their
-  type. The buffers of one call must not overlap. A pointer may be NULL where
+  type. A buffer that a call writes must not overlap another one of that call;
+  buffers that it only reads may overlap each other. A pointer may be NULL where
   its length is 0. Nothing else is asked of the arguments: a call refuses what
   it cannot work on. A job is the one pointer without a length: it is to one
   lw_job, is not NULL, and overlaps no buffer.
@@ -383,8 +414,8 @@ extern "C" {
   The version of the library, as text and as a number that grows from version to
   version: major * 1000000 + minor * 1000 + patch.
 */
-#define LW_VERSION_TEXT "0.23.0"
-#define LW_VERSION      23000
+#define LW_VERSION_TEXT "0.24.0"
+#define LW_VERSION      24000
 
 /* constants */
 
@@ -417,6 +448,7 @@ extern "C" {
 #define LW_MAX_VARIABLE_BITS 4096
 #define LW_MAX_EQUATIONS       64
 #define LW_MAX_WORDS      1048576 /* words of a run */
+#define LW_MAX_RECORDING    65535 /* numbers of a recording */
 #define LW_PAGE_BYTES        2460 /* of a page */
 #define LW_PAGE_LINES          60
 #define LW_PAGE_PIECES         59 /* lines of a page below the names */
@@ -457,6 +489,8 @@ extern "C" {
 #define LW_REFUSED_JOB       44 /* no number of steps leaves this job and this work area */
 #define LW_REFUSED_STEP      45 /* a step, or a preview of it, with no equation left */
 #define LW_REFUSED_OTHER_ANSWER 46 /* answer table other than the one solved from the table, or the table has none */
+#define LW_REFUSED_RECORDING 47 /* variables that are none, odd in number or not 16 bits; a recording too long or not whole */
+#define LW_REFUSED_COUNTERS  48 /* counters of a recording that do not strictly rise */
 
 /*
   Stack: the most bytes that a call was seen to use, on tables made for that; it
@@ -469,7 +503,7 @@ extern "C" {
 #define LW_STACK_SOLVE            162240
 #define LW_STACK_RIGHT_SIDE           64
 #define LW_STACK_MAKE_PATTERN     220736
-#define LW_STACK_MARKER_POSITIONS 172800
+#define LW_STACK_MARKER_POSITIONS 172928
 #define LW_STACK_PAGE               2688
 #define LW_STACK_JOB_OPEN           2496
 #define LW_STACK_JOB_STEP         170304
@@ -478,13 +512,16 @@ extern "C" {
 #define LW_STACK_VALUE_ROWS        47616
 #define LW_STACK_NORMAL_FORM_ROWS 145600
 #define LW_STACK_SOLVE_ROWS       166400
+#define LW_STACK_COMPARE_RECORDINGS 173120
 
 /* the record */
 
 /*
   What each call but lw_right_side and lw_page yields. Every call says which
   fields it sets; the others are 0. A refusal has its number as outcome, in row
-  the place given at the call, and 0 in all other fields.
+  the place given at the call, and 0 in all other fields. What stands at the
+  fields below is what most calls say by them; after lw_compare_recordings they
+  mean what is said there.
 */
 typedef struct {
     uint32_t outcome; /* 0 to 2, or the number of the refusal */
@@ -820,6 +857,66 @@ lw_record lw_marker_positions(const uint16_t *table, size_t table_len,
      bit that it is tied to, in the other; up to the first that fails.
 
      The table and the run are only read. Neither may overlap list.
+*/
+
+lw_record lw_compare_recordings(const uint16_t *table, size_t table_len,
+                                const uint16_t *sent, size_t sent_len,
+                                const uint16_t *received, size_t received_len);
+/*
+     Compares a sent and a received recording, frame by frame, by a table of 2 * k
+     variables that says how the received words follow from the sent ones, that
+     is by its equations that count (see Recordings).
+
+     If the call is accepted, the fields are
+
+     outcome  LW_ACCEPTED
+     pieces   the number of pairs: of frames that both recordings have
+     fresh    the number of records without a partner, those of both recordings
+              added
+     free     the number of pairs that break the table
+     ties     the number of bits in which sent word j and received word j differ,
+              added over all j and over all pairs, those that meet the table as
+              well as those that break it
+     row      the counter of the first pair that breaks the table, that is the
+              lowest; 0 if none does. It is 0 too where that is the frame with
+              counter 0: free tells the two apart
+
+     So 2 * pieces + fresh is the number of records of both recordings, free is
+     at most pieces, and ties is at most 16 * k * pieces. The record of the two
+     recordings above is 0 2 2 1 1 4.
+
+     A table that every pattern meets, such as one without equations, is broken
+     by no pair, and one that no pattern meets by every pair. The differing bits
+     have nothing to do with the table: also where it asks for swapped bytes, the
+     words are compared bit by bit as they were recorded.
+
+     Otherwise outcome is the first refusal that applies, in the order below. The
+     table is tested first, then its variables and the lengths of both
+     recordings, and last the counters of both. There is no 10: no memory is lent
+     to work in.
+
+     outcome                  cause                              field row
+     11 to 17, 40             the table is refused: see Refusals 512, or
+                              of a term table above              that row
+     47 LW_REFUSED_RECORDING  the table has no variable, or an   0
+                              odd number of them, or one whose
+                              width is not 16, wherever it
+                              stands; or sent_len or
+                              received_len is above
+                              LW_MAX_RECORDING (65535), or is no
+                              multiple of k + 1
+     48 LW_REFUSED_COUNTERS   in one of the two recordings a     0
+                              counter is not above the one
+                              before it
+
+     65535 numbers are whole records for k = 2, 4, 14 and 16; for k = 1 the most
+     are 65534.
+
+     The table is analysed once, and then the recordings are read once, side by
+     side.
+
+     All three are only read, and nothing is written. They may overlap: one
+     recording may be lent as both.
 */
 
 /* The bytes of a page. */

@@ -25,9 +25,10 @@ use Rattle.sheets.specs.Program.{textRecord, programRecord}
 use Rattle.answers.specs.Solve.{valid, unsatisfiable, answerRecord, solveRecord}
 use Rattle.assignments.specs.Matching.{makeStops, makeRecord}
 use Rattle.windows.specs.Call.{positionsRecord}
+use Rattle.recordings.specs.Call.{recordingsRecord}
 use Rattle.jobs.specs.Prefix.{upTo}
 use Rattle.jobs.specs.Call.{openStops, openRecord, stepStops, stepRecord, jobAnswerStops, jobAnswerRecord}
-use Rattle.calls.specs.Calls.{Call, lw-value, lw-normal-form, lw-read-sheet, lw-solve, lw-make-pattern, lw-marker-positions, lw-value-rows, lw-normal-form-rows, lw-solve-rows, lw-job-open, lw-job-step, lw-job-preview, lw-job-answer, program, recordOf}
+use Rattle.calls.specs.Calls.{Call, lw-value, lw-normal-form, lw-read-sheet, lw-solve, lw-make-pattern, lw-marker-positions, lw-compare-recordings, lw-value-rows, lw-normal-form-rows, lw-solve-rows, lw-job-open, lw-job-step, lw-job-preview, lw-job-answer, program, recordOf}
 
 -- A property of these records.
 module _ (P : Record → Type 0) (fine : (r : Record) → r .outcome ≤ 2 → P r) (refused : (n row : ℕ) → 10 ≤ n → n ≢ 18 → P (refusal n row)) where
@@ -89,6 +90,16 @@ module _ (P : Record → Type 0) (fine : (r : Record) → r .outcome ≤ 2 → P
   positions table words =
       first _ _ (more (fault (firstFault table)) (more (refused 41 0 (omega arith) (omega arith)) (more (refused 42 0 (omega arith) (omega arith)) none))) (fine _ (omega arith))
 
+  recordings : (table sent received : List ℕ) → P (recordingsRecord table sent received)
+  unfolding recordingsRecord
+  recordings table sent received =
+      first _ _
+      (more (fault (firstFault table))
+      (more (refused 47 0 (omega arith) (omega arith))
+      (more (refused 47 0 (omega arith) (omega arith))
+      (more (refused 47 0 (omega arith) (omega arith)) (more (refused 48 0 (omega arith) (omega arith)) (more (refused 48 0 (omega arith) (omega arith)) none))))))
+      (fine _ (omega arith))
+
   job-open : (table : List ℕ) (room : ℕ) → P (openRecord table room)
   unfolding openRecord openStops
   job-open table room =
@@ -137,6 +148,7 @@ module _ (P : Record → Type 0) (fine : (r : Record) → r .outcome ≤ 2 → P
   of-every-record (lw-solve table lent work) = solve table _ _
   of-every-record (lw-make-pattern table rows fresh lent work) = pattern-made table rows fresh _ _
   of-every-record (lw-marker-positions table words lent) = positions table words
+  of-every-record (lw-compare-recordings table sent received) = recordings table sent received
   of-every-record (lw-value-rows rows row pattern lent) = value (rowNumbers rows) row pattern _
   of-every-record (lw-normal-form-rows rows row lent) = form (rowNumbers rows) row _
   of-every-record (lw-solve-rows rows lent work) = solve (rowNumbers rows) _ _

@@ -23,10 +23,11 @@ use Rattle.answers.specs.Solve.{solveRecord, answerAfter, workAfter}
 use Rattle.assignments.specs.Matching.{makeStops, makeRecord, makeAfter, makeWork, WorkAfter}
 use Rattle.assignments.proofs.Matched.{refused-output, work-after}
 use Rattle.windows.specs.Call.{positionsRecord, positionsAfter}
+use Rattle.recordings.specs.Call.{recordingsRecord}
 use Rattle.jobs.specs.Call.{openRecord, stepRecord, jobAnswerRecord, jobAnswerAfter}
 use Rattle.jobs.specs.Course.{Lent, afterOpen, afterStep, stepTold, answerTold, answerLeft}
 use Rattle.jobs.proofs.Refusals.{refuses, untouched}
-use Rattle.calls.specs.Calls.{Call, lw-value, lw-normal-form, lw-read-sheet, lw-solve, lw-make-pattern, lw-marker-positions, lw-value-rows, lw-normal-form-rows, lw-solve-rows, lw-job-open, lw-job-step, lw-job-preview, lw-job-answer, program, recordOf, lentTo, leftBy, clears, leftRefused, RefusedWith, Takes, RefusedByEach}
+use Rattle.calls.specs.Calls.{Call, lw-value, lw-normal-form, lw-read-sheet, lw-solve, lw-make-pattern, lw-marker-positions, lw-compare-recordings, lw-value-rows, lw-normal-form-rows, lw-solve-rows, lw-job-open, lw-job-step, lw-job-preview, lw-job-answer, program, recordOf, lentTo, leftBy, clears, leftRefused, RefusedWith, Takes, RefusedByEach}
 use Rattle.calls.proofs.Outcomes.{of-every-record}
 
 -- ---- what is lent stays as it was
@@ -113,6 +114,7 @@ left-by (lw-solve table answer work) l = two (answer-left table answer (length w
 left-by (lw-make-pattern table answer fresh pattern work) l =
     two (pattern-left table answer fresh pattern (length work) l) (area-left table answer fresh (length pattern) work l)
 left-by (lw-marker-positions table words list) l = one (list-left table words list l)
+left-by (lw-compare-recordings table sent received) l = refl
 left-by (lw-value-rows rows row pattern value) l = one (value-left (rowNumbers rows) row pattern value l)
 left-by (lw-normal-form-rows rows row form) l = one (form-left (rowNumbers rows) row form l)
 left-by (lw-solve-rows rows answer work) l = two (answer-left (rowNumbers rows) answer (length work) l) (work-left (rowNumbers rows) (length answer) work l)
@@ -164,6 +166,10 @@ module _ (t : List ℕ) (h : isAccepted (firstFault t) ≡ false) where
   unfolding positionsRecord stopAt
   by-positions words = rw h refl
 
+  by-recordings : (sent received : List ℕ) → recordingsRecord t sent received ≡ faultRecord (firstFault t)
+  unfolding recordingsRecord stopAt
+  by-recordings sent received = rw h refl
+
   at-fault : firstFault t ≢ Accepted
   at-fault e = omega (arith, fault-high (firstFault t) h, ap faultNumber e)
 
@@ -186,6 +192,7 @@ module _ (t : List ℕ) (h : isAccepted (firstFault t) ≡ false) where
   by-each (lw-solve table answer work) e = rw (e .0) (by-solve answer work (e .1) (e .2))
   by-each (lw-make-pattern table answer fresh pattern work) e = rw (e .0) (by-make answer fresh (length pattern) work (e .1))
   by-each (lw-marker-positions table words list) e = rw e (by-positions words)
+  by-each (lw-compare-recordings table sent received) e = rw e (by-recordings sent received)
   by-each (lw-value-rows rows row pattern value) e = rw e (by-value row pattern (length value))
   by-each (lw-normal-form-rows rows row form) e = rw e (by-form row (length form))
   by-each (lw-solve-rows rows answer work) e = rw (e .0) (by-solve answer work (e .1) (e .2))
@@ -202,6 +209,7 @@ module _ (t : List ℕ) (h : isAccepted (firstFault t) ≡ false) where
   as-lent (lw-solve table answer work) = refl
   as-lent (lw-make-pattern table answer fresh pattern work) = rw (fault-keeps (firstFault t)) refl
   as-lent (lw-marker-positions table words list) = refl
+  as-lent (lw-compare-recordings table sent received) = refl
   as-lent (lw-value-rows rows row pattern value) = refl
   as-lent (lw-normal-form-rows rows row form) = refl
   as-lent (lw-solve-rows rows answer work) = refl

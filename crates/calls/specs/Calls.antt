@@ -18,6 +18,7 @@ use Rattle.sheets.specs.Program.{programRecord}
 use Rattle.answers.specs.Solve.{solveRecord, answerAfter, workAfter}
 use Rattle.assignments.specs.Matching.{makeRecord, makeAfter, makeWork}
 use Rattle.windows.specs.Call.{positionsRecord, positionsAfter}
+use Rattle.recordings.specs.Call.{recordingsRecord}
 use Rattle.jobs.specs.Call.{openRecord, openJob, openWork, stepRecord, stepJob, stepWork, jobAnswerRecord, jobAnswerAfter}
 
 -- A call with all that it is lent, in its order, a job as its two numbers; the program with the text that it has read.
@@ -28,6 +29,7 @@ pub data Call : Type 0 where
   lw-solve : (table answer work : List ℕ) → Call
   lw-make-pattern : (table answer fresh pattern work : List ℕ) → Call
   lw-marker-positions : (table words list : List ℕ) → Call
+  lw-compare-recordings : (table sent received : List ℕ) → Call
   lw-value-rows : (rows : List Row) (row : ℕ) (pattern value : List ℕ) → Call
   lw-normal-form-rows : (rows : List Row) (row : ℕ) (form : List ℕ) → Call
   lw-solve-rows : (rows : List Row) (answer work : List ℕ) → Call
@@ -45,6 +47,7 @@ recordOf (lw-read-sheet sheet table) = sheetRecord sheet (length table)
 recordOf (lw-solve table answer work) = solveRecord table (length answer) (length work)
 recordOf (lw-make-pattern table answer fresh pattern work) = makeRecord table answer fresh (length pattern) (length work)
 recordOf (lw-marker-positions table words list) = positionsRecord table words
+recordOf (lw-compare-recordings table sent received) = recordingsRecord table sent received
 recordOf (lw-value-rows rows row pattern value) = valueRecord (rowNumbers rows) row pattern (length value)
 recordOf (lw-normal-form-rows rows row form) = formRecord (rowNumbers rows) row (length form)
 recordOf (lw-solve-rows rows answer work) = solveRecord (rowNumbers rows) (length answer) (length work)
@@ -62,6 +65,7 @@ lentTo (lw-read-sheet sheet table) = table ∷ []
 lentTo (lw-solve table answer work) = answer ∷ work ∷ []
 lentTo (lw-make-pattern table answer fresh pattern work) = pattern ∷ work ∷ []
 lentTo (lw-marker-positions table words list) = list ∷ []
+lentTo (lw-compare-recordings table sent received) = []
 lentTo (lw-value-rows rows row pattern value) = value ∷ []
 lentTo (lw-normal-form-rows rows row form) = form ∷ []
 lentTo (lw-solve-rows rows answer work) = answer ∷ work ∷ []
@@ -80,6 +84,7 @@ leftBy (lw-solve table answer work) = answerAfter table answer (length work) ∷
 leftBy (lw-make-pattern table answer fresh pattern work) =
     makeAfter table answer fresh pattern (length work) ∷ makeWork table answer fresh (length pattern) work ∷ []
 leftBy (lw-marker-positions table words list) = positionsAfter table words list ∷ []
+leftBy (lw-compare-recordings table sent received) = []
 leftBy (lw-value-rows rows row pattern value) = valueAfter (rowNumbers rows) row pattern value ∷ []
 leftBy (lw-normal-form-rows rows row form) = formAfter (rowNumbers rows) row form ∷ []
 leftBy (lw-solve-rows rows answer work) = answerAfter (rowNumbers rows) answer (length work) ∷ workAfter (rowNumbers rows) (length answer) work ∷ []
@@ -104,6 +109,7 @@ leftRefused number (lw-read-sheet sheet table) = lentTo (lw-read-sheet sheet tab
 leftRefused number (lw-solve table answer work) = lentTo (lw-solve table answer work)
 leftRefused number (lw-make-pattern table answer fresh pattern work) = pattern ∷ cond (clears number) (replicate (length work) 0) work ∷ []
 leftRefused number (lw-marker-positions table words list) = lentTo (lw-marker-positions table words list)
+leftRefused number (lw-compare-recordings table sent received) = lentTo (lw-compare-recordings table sent received)
 leftRefused number (lw-value-rows rows row pattern value) = lentTo (lw-value-rows rows row pattern value)
 leftRefused number (lw-normal-form-rows rows row form) = lentTo (lw-normal-form-rows rows row form)
 leftRefused number (lw-solve-rows rows answer work) = lentTo (lw-solve-rows rows answer work)
@@ -130,6 +136,7 @@ Takes t (lw-read-sheet sheet table) = ⊥
 Takes t (lw-solve table answer work) = (table ≡ t) × (24576 ≤ length answer) × (16384 ≤ length work)
 Takes t (lw-make-pattern table answer fresh pattern work) = (table ≡ t) × (16384 ≤ length work)
 Takes t (lw-marker-positions table words list) = table ≡ t
+Takes t (lw-compare-recordings table sent received) = table ≡ t
 Takes t (lw-value-rows rows row pattern value) = rowNumbers rows ≡ t
 Takes t (lw-normal-form-rows rows row form) = rowNumbers rows ≡ t
 Takes t (lw-solve-rows rows answer work) = (rowNumbers rows ≡ t) × (24576 ≤ length answer) × (16384 ≤ length work)

@@ -17,13 +17,14 @@ use denote.Triple.Entry.{Args, Res}
 use denote.Triple.Clauses.{Ended, AtExit, ClausesAt}
 use Rattle.terms.specs.declared.Record.{Record}
 use Rattle.jobs.specs.declared.Job.{Job}
-use Rattle.calls.specs.Calls.{Call, lw-value, lw-normal-form, lw-read-sheet, lw-solve, lw-make-pattern, lw-marker-positions, lw-value-rows, lw-normal-form-rows, lw-solve-rows, lw-job-open, lw-job-step, lw-job-preview, lw-job-answer, recordOf, leftBy}
+use Rattle.calls.specs.Calls.{Call, lw-value, lw-normal-form, lw-read-sheet, lw-solve, lw-make-pattern, lw-marker-positions, lw-compare-recordings, lw-value-rows, lw-normal-form-rows, lw-solve-rows, lw-job-open, lw-job-step, lw-job-preview, lw-job-answer, recordOf, leftBy}
 use Rattle.linkwords.proofs.lw_value as value
 use Rattle.linkwords.proofs.lw_normal_form as normal-form
 use Rattle.linkwords.proofs.lw_read_sheet as read-sheet
 use Rattle.linkwords.proofs.lw_solve as solve
 use Rattle.linkwords.proofs.lw_make_pattern as make-pattern
 use Rattle.linkwords.proofs.lw_marker_positions as marker-positions
+use Rattle.linkwords.proofs.lw_compare_recordings as compare-recordings
 use Rattle.linkwords.proofs.lw_value_rows as value-rows
 use Rattle.linkwords.proofs.lw_normal_form_rows as normal-form-rows
 use Rattle.linkwords.proofs.lw_solve_rows as solve-rows
@@ -73,6 +74,10 @@ module _ {M : Type 1} (𝓤 : URA M) (H : Heap 𝓤) (A : Atoms 𝓤) (mem : Mem
   pub marker-positions-says : (κs : Lfts 3) (a : Args marker-positions.signature κs)
       → marker-positions.clauses 𝓤 H A mem run κs a ≡ Ensures marker-positions.ended κs (λ r e. One (lw-marker-positions (a .0 .now) (a .1 .0 .now) (a .1 .1 .0 .now)) r (e .1 .1 .0 .now))
   marker-positions-says κs a = refl
+
+  pub compare-recordings-says : (κs : Lfts 3) (a : Args compare-recordings.signature κs)
+      → compare-recordings.clauses 𝓤 H A mem run κs a ≡ Ensures compare-recordings.ended κs (λ r e. ⌜ r ≡ recordOf (lw-compare-recordings (a .0 .now) (a .1 .0 .now) (a .1 .1 .0 .now)) ⌝)
+  compare-recordings-says κs a = refl
 
   pub value-rows-says : (κs : Lfts 3) (a : Args value-rows.signature κs)
       → value-rows.clauses 𝓤 H A mem run κs a ≡ Ensures value-rows.ended κs (λ r e. One (lw-value-rows (a .0 .now) (a .1 .0) (a .1 .1 .0 .now) (a .1 .1 .1 .0 .now)) r (e .1 .1 .1 .0 .now))

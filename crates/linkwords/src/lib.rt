@@ -10,6 +10,7 @@ ghost use Rattle.answers.specs.Solve.{solveRecord, answerAfter, workAfter};
 ghost use Rattle.answers.specs.RightSide.{rightSideStart, rightSideLength};
 ghost use Rattle.assignments.specs.Matching.{makeRecord, makeAfter, makeWork};
 ghost use Rattle.windows.specs.Call.{positionsRecord, positionsAfter};
+ghost use Rattle.recordings.specs.Call.{recordingsRecord};
 ghost use Rattle.jobs.specs.Call.{openRecord, openJob, openWork, stepRecord, stepJob, stepWork, jobAnswerRecord, jobAnswerAfter};
 ghost use Rattle.result_sheets.specs.Page.{pageText};
 use answers::Part;
@@ -87,6 +88,14 @@ pub extern "C" fn lw_marker_positions(table: &[u16], words: &[u16], list: &mut [
     ensures list { λ _. ⌜ now (list .exit) ≡ positionsAfter (now (table .entry)) (now (words .entry)) (now (list .entry)) ⌝ }
 {
     positions::marker_positions(table, words, list)
+}
+
+// Two recordings of the same frames, compared by a table.
+#[no_mangle]
+pub extern "C" fn lw_compare_recordings(table: &[u16], sent: &[u16], received: &[u16]) -> Record
+    ensures record { λ r. ⌜ r ≡ recordingsRecord (now (table .entry)) (now (sent .entry)) (now (received .entry)) ⌝ }
+{
+    merger::compare_recordings(table, sent, received)
 }
 
 // A page of the result sheet of a record and an answer table, by its number.

@@ -1,0 +1,13 @@
+pub mod Differing
+pub mod Frames
+pub mod Rising
+pub mod Stops
+pub mod Merging
+pub mod Counted
+pub mod Each
+pub mod AllCounted
+pub mod BitsDiffer
+pub mod BrokenFirst
+pub mod Worked
+pub mod Exchanged
+pub mod Alike

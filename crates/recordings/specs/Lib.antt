@@ -1,0 +1,3 @@
+pub mod Recordings
+pub mod Call
+pub mod Compared
