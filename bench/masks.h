@@ -1,6 +1,6 @@
 /*
-  masks.h -- the starts of a run at which its words meet a table, by masks that
-  were laid out by hand
+  masks.h -- the starts of a run at which its words meet a table, and the pairs of
+  two recordings that meet one, by masks that were laid out by hand
 
   This is what a host would write that knows its layout: for each word a mask and
   a value of its fixed bits, and for two words and a shift a mask of the bits that
@@ -12,6 +12,8 @@
 
 #include <stddef.h>
 #include <stdint.h>
+
+#include "linkwords.h"
 
 typedef struct {
     uint16_t word, mask, value;
@@ -30,5 +32,15 @@ typedef struct {
 
 /* The starts of a run of so many words; the list takes the first of them. Gives their number. */
 size_t masked_starts(const masks *m, const uint16_t *words, size_t count, uint32_t *list, size_t room);
+
+/*
+  What lw_compare_recordings yields of recordings whose records are whole: 48, or
+  by a merge of the two what it finds. The window is the words of both records of a
+  pair. masked_merge is the merge alone, which tests no counters.
+*/
+lw_record masked_comparison(const masks *m, const uint16_t *sent, size_t sent_len, const uint16_t *received,
+                            size_t received_len);
+lw_record masked_merge(const masks *m, const uint16_t *sent, size_t sent_len, const uint16_t *received,
+                       size_t received_len);
 
 #endif /* MASKS_H */

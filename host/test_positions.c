@@ -15,8 +15,6 @@
 */
 
 #include "guard.h"
-#include "plain_pattern.h"
-#include "plain_solver.h"
 #include "refused_tables.h"
 #include "revised_tables.h"
 #include "test_positions.h"
@@ -27,55 +25,7 @@ static const lw_record refused_41 = {.outcome = 41}, refused_42 = {.outcome = 42
 #define WORDS(...) \
     (const uint16_t[]){__VA_ARGS__}, sizeof((const uint16_t[]){__VA_ARGS__}) / sizeof(uint16_t)
 
-/* Tables and words. */
-
-static size_t rows_of(const table *t)
-{
-    return t->len / 4;
-}
-
-void add_words(table *t, size_t count)
-{
-    while (count-- != 0)
-        add(t, VARIABLE(WORD));
-}
-
-void add_equal(table *t, size_t a, size_t high, size_t low, size_t b, size_t b_high)
-{
-    size_t r = rows_of(t);
-    add(t, CUT(a, high, low));
-    add(t, CUT(b, b_high, b_high + low - high));
-    add(t, EQUATION(r, r + 1));
-}
-
-void add_fixed(table *t, size_t a, size_t high, size_t low, size_t value)
-{
-    size_t r = rows_of(t);
-    add(t, CUT(a, high, low));
-    add(t, MARKER(value, high - low + 1));
-    add(t, EQUATION(r, r + 1));
-}
-
-void solve_plainly(const uint16_t *numbers, size_t len, solved_table *s)
-{
-    static ref_table facts;
-
-    ref_check(numbers, len, &facts);
-    s->bits = facts.bits;
-    s->record = plain_solve(numbers, &facts, s->answer);
-}
-
-void meeting_words(const solved_table *s, uint16_t words[WINDOW])
-{
-    uint8_t fresh[WORD * WINDOW], pattern[WORD * WINDOW];
-
-    for (size_t i = 0; i < s->bits; i++)
-        pattern[i] = fresh[i] = (uint8_t)below(2);
-    if (s->record.outcome == 2)
-        plain_fill(s->answer, 6 * (size_t)s->record.pieces, fresh, s->record.free, pattern, s->bits);
-    for (size_t i = 0; i < s->bits; i++)
-        words[i / WORD] = (uint16_t)(2 * (i % WORD == 0 ? 0 : words[i / WORD]) + pattern[i]);
-}
+/* Words. */
 
 static guarded long_words;
 

@@ -4,36 +4,13 @@
 #define TEST_POSITIONS_H
 
 #include "plain_positions.h"
-#include "random_table.h"
 #include "test.h"
+#include "word_tables.h"
 
 enum {
-    WORD = 16,      /* bits of a word */
-    WINDOW = 64,    /* words of the longest window */
     RUN = 1048576,  /* words of the longest run */
     LONG = RUN + 64 /* words of long_run */
 };
-
-/* So many variables of 16 bits, rows 0 and so on. */
-void add_words(table *t, size_t count);
-
-/* An equation of bits high down to low of row a and as many bits of row b, the high one b_high. */
-void add_equal(table *t, size_t a, size_t high, size_t low, size_t b, size_t b_high);
-
-/* Bits high down to low of row a are those of a number. */
-void add_fixed(table *t, size_t a, size_t high, size_t low, size_t value);
-
-/* An accepted table of 16-bit variables, solved by plain_solver.c. */
-typedef struct {
-    size_t bits;
-    lw_record record;
-    uint16_t answer[6 * WORD * WINDOW];
-} solved_table;
-
-void solve_plainly(const uint16_t *numbers, size_t len, solved_table *s);
-
-/* Words that meet it, with random bits where they are free; any words if none meet it. */
-void meeting_words(const solved_table *s, uint16_t words[WINDOW]);
 
 /* LONG words, with guards; check_long_run tests that no call has changed them. */
 const uint16_t *long_run(void);

@@ -7,7 +7,6 @@
   rare nor all there are.
 */
 
-#include "large_table.h"
 #include "test_positions.h"
 
 enum { MOST_WORDS = 700 /* of a random run */, WORK = 5000 /* rows and words to be looked at by the plain search */ };
@@ -29,47 +28,6 @@ static unsigned long seen[FEATURES], outcomes[43], windows[WINDOW + 1];
 static size_t some_window(void)
 {
     return 1 + below(one_in(12) ? WINDOW : one_in(3) ? 16 : 4);
-}
-
-static void add_equation(plan *p, bool holds)
-{
-    switch (below(8)) {
-    case 0:  plan_same(p); break;
-    case 1:  plan_fixed(p, holds); break;
-    case 2:
-    case 3:  plan_marked(p, holds); break;
-    case 4:  plan_words(p, holds); break;
-    default: plan_parts(p, holds); break;
-    }
-}
-
-static void make_windowed(plan *p, size_t window)
-{
-    size_t first = one_in(3) ? 1 + below(window) : window, equations = below(one_in(3) ? 20 : 5);
-    size_t period = one_in(2) ? WORD : 1 + below(20);
-    bool never = one_in(12);
-
-    clear(&p->d);
-    p->one_for_all = one_in(4);
-    for (size_t i = 0; i < 1024; i++)
-        p->hidden[i] = i < period ? (uint8_t)below(2) : p->hidden[i - period];
-    if (one_in(6))
-        plan_fill(p, below(2), 1 + below(20));
-    while (p->d.variables < first)
-        plan_variable(p, WORD);
-    for (size_t i = 0; i < equations; i++) {
-        if (one_in(3) && p->d.variables < window)
-            plan_variable(p, WORD);
-        if (one_in(6))
-            plan_turned(p);
-        else if (one_in(8))
-            plan_doubled(p);
-        add_equation(p, !never || one_in(2));
-    }
-    while (p->d.variables < window)
-        plan_variable(p, WORD);
-    if (one_in(3))
-        number_lines(&p->d);
 }
 
 /* Something that is refused, mostly. */

@@ -190,6 +190,24 @@ static void equal_words(call *c, size_t count)
     c->words_len = 1000;
 }
 
+/* In place of the last rows two words, and an equation of this row with itself. */
+static void two_words(call *c, size_t row)
+{
+    c->table_len = 4 * 509;
+    add(c, LW_VARIABLE, 16, 0, 0);
+    add(c, LW_VARIABLE, 16, 0, 0);
+    add(c, LW_EQUATION, row, row, 0);
+}
+
+/* The longest recording of so many words that are all 0. It is lent as both. */
+static void recorded(call *c, size_t words)
+{
+    size_t records = LW_MAX_RECORDING / (words + 1);
+    for (size_t i = 0; i < records; i++)
+        c->words[i * (words + 1)] = (uint16_t)i;
+    c->words_len = records * (words + 1);
+}
+
 /* Gives the equations line numbers, so many different ones. */
 static void line_numbers(call *c, size_t lines)
 {
@@ -473,6 +491,27 @@ static const test searches[] = {
     {"refused 41", {{variable, 1024}, {set_words_len, LW_MAX_WORDS}}, LW_REFUSED_WINDOW, 0},
     {"refused 42", {{variable, 16}, {set_words_len, LW_MAX_WORDS + 1}}, LW_REFUSED_RUN, 0},
 };
+#define FRAMES {recorded, 1}
+static const test comparisons[] = {
+    {"two variables", {{variable, 16}, {variable, 16}, FRAMES}, LW_ACCEPTED, 0},
+    {"512 rows, chained cuts", {{variable, 16}, {cuts, 16}, {search, 16}, FRAMES}, LW_ACCEPTED, 0},
+    {"joins of a word's bit, on the left", {{variable, 16}, {left_joins, 1}, {search, 508}, FRAMES}, LW_ACCEPTED, 0},
+    {"joins of a word's bit, on the right", {{variable, 16}, {right_joins, 1}, {search, 508}, FRAMES}, LW_ACCEPTED, 0},
+    {"cuts and joins of a word's bit", {{variable, 16}, {cuts_and_joins, 1}, {search, 255}, FRAMES}, LW_ACCEPTED, 0},
+    {"joins of a marker's bit, on the left", {{marker, 16}, {left_joins, 1}, {two_words, 508}, FRAMES}, LW_ACCEPTED, 0},
+    {"joins of a marker's bit, on the right", {{marker, 16}, {right_joins, 1}, {two_words, 508}, FRAMES}, LW_ACCEPTED, 0},
+    {"cuts and joins of a marker's bit", {{marker, 16}, {cuts_and_joins, 1}, {two_words, 508}, FRAMES}, LW_ACCEPTED, 0},
+    {"64 words of equal bits", {{equal_words, 64}, {recorded, 32}}, LW_ACCEPTED, 0},
+    {"32 of 64 equations revised", {{equal_words, 64}, {line_numbers, 32}, {recorded, 32}}, LW_ACCEPTED, 0},
+    {"never at the last of 64 equations", {{equal_words, 63}, {unequal_marker, 16}, {recorded, 32}}, LW_ACCEPTED, 1985},
+    NOT_WHOLE_ROWS,
+    BAD_CUT,
+    BAD_MARKER,
+    {"refused 47, no words of 16 bits", {{variable, 1024}, FRAMES}, LW_REFUSED_RECORDING, 0},
+    {"refused 47, a number too many", {{variable, 16}, {variable, 16}, {set_words_len, LW_MAX_RECORDING + 1}},
+     LW_REFUSED_RECORDING, 0},
+    {"refused 48", {{variable, 16}, {variable, 16}, {set_words_len, LW_MAX_RECORDING - 1}}, LW_REFUSED_COUNTERS, 0},
+};
 static const test parts[] = {
     {"4096 rows of one variable", {{set_rows_in_use, 4096}}, 0, LW_ANSWER_NUMBERS},
     {"no such variable", {{set_rows_in_use, 4096}, {set_variable, 1}}, 0, 0},
@@ -607,6 +646,7 @@ RUN(lw_right_side, part, c->answer, LW_ANSWER_NUMBERS, c->rows_in_use, c->variab
 RUN(lw_make_pattern, record, TABLE, c->answer, c->answer_len, c->fresh, c->fresh_len, c->pattern, c->pattern_len, c->work,
     c->work_len)
 RUN(lw_marker_positions, record, TABLE, c->words, c->words_len, c->list, COUNT(c->list))
+RUN(lw_compare_recordings, record, TABLE, c->words, c->words_len, c->words, c->words_len)
 RUN(lw_page, page_bytes, c->record, c->answer, c->answer_len, c->number)
 RUN(lw_job_open, record, TABLE, JOB)
 RUN(lw_job_step, record, TABLE, JOB)
@@ -631,6 +671,7 @@ static const struct {
     {"lw_right_side", run_lw_right_side, LW_STACK_RIGHT_SIDE, parts, COUNT(parts)},
     {"lw_make_pattern", run_lw_make_pattern, LW_STACK_MAKE_PATTERN, patterns, COUNT(patterns)},
     {"lw_marker_positions", run_lw_marker_positions, LW_STACK_MARKER_POSITIONS, searches, COUNT(searches)},
+    {"lw_compare_recordings", run_lw_compare_recordings, LW_STACK_COMPARE_RECORDINGS, comparisons, COUNT(comparisons)},
     {"lw_page", run_lw_page, LW_STACK_PAGE, pages, COUNT(pages)},
     {"lw_job_open", run_lw_job_open, LW_STACK_JOB_OPEN, opens, COUNT(opens)},
     {"lw_job_step", run_lw_job_step, LW_STACK_JOB_STEP, job_steps, COUNT(job_steps)},
