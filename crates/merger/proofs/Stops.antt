@@ -9,8 +9,7 @@ use lib.Dec.{eqb, ltb}
 use lib.ListN.{length}
 use borrow.Author.Tests.{eq-eqb, ne-eqb, lt-ltb, le-ltb, ltb-false, eqb-true, not-true, not-false}
 use Rattle.laws.proofs.Bools.{or-first, or-second}
-use Rattle.recordings.specs.Recordings.{framesOf, rising}
-use Rattle.recordings.specs.Call.{wrongRecording, notRising}
+use Rattle.recordings.specs.Call.{wrongRecording}
 use Rattle.merger.specs.inner.Passing.{stopNumber}
 
 module _ (k : ℕ) (numbers : List ℕ) where
@@ -60,16 +59,6 @@ module _ (n : ℕ) (sent received : List ℕ) where
         unfolding stopNumber
         received-wrong w = rw (ne-eqb n 0 some, ne-eqb (n % 2) 1 even, good, w)
 
-        module _ (fine : wrongRecording (n / 2) received ≡ false) where
-          pub sent-falls : rising (framesOf (n / 2) sent) ≡ false → Stop 48
-          unfolding stopNumber notRising
-          sent-falls h = rw (ne-eqb n 0 some, ne-eqb (n % 2) 1 even, good, fine, h)
-
-          module _ (rise : rising (framesOf (n / 2) sent) ≡ true) where
-            pub received-falls : rising (framesOf (n / 2) received) ≡ false → Stop 48
-            unfolding stopNumber notRising
-            received-falls h = rw (ne-eqb n 0 some, ne-eqb (n % 2) 1 even, good, fine, rise, h)
-
-            pub no-stop : rising (framesOf (n / 2) received) ≡ true → Stop 0
-            unfolding stopNumber notRising
-            no-stop h = rw (ne-eqb n 0 some, ne-eqb (n % 2) 1 even, good, fine, rise, h)
+        pub no-stop : wrongRecording (n / 2) received ≡ false → Stop 0
+        unfolding stopNumber
+        no-stop fine = rw (ne-eqb n 0 some, ne-eqb (n % 2) 1 even, good, fine)

@@ -72,7 +72,7 @@ side-by-side window a b l =
 pub pair-made : (plan a b window : List ℕ) (counter : ℕ) (s : Pass) (meets : Bool) (broken first bits : ℕ)
     → window ≡ a ++ b → meets ≡ meetsPlan plan window
     → bits ≡ differingWords a b → broken ≡ s .broken + cond meets 0 1 → first ≡ cond meets (s .first) (cond (eqb (s .broken) 0) counter (s .first))
-    → record { i = s .i + (length a + 1); j = s .j + (length b + 1); pairs = s .pairs + 1; broken = broken; first = first; ties = s .ties + bits } ≡ pairTaken plan a b counter s
+    → record { i = s .i + (length a + 1); j = s .j + (length b + 1); pairs = s .pairs + 1; broken = broken; first = first; ties = s .ties + bits; fell = s .fell } ≡ pairTaken plan a b counter s
 unfolding pairTaken
 pair-made plan a b window counter s meets broken first bits laid m d n f =
     let met : meets ≡ meetsPlan plan (a ++ b) = m ∙ ap (meetsPlan plan) laid in

@@ -1,8 +1,9 @@
 // Two recordings compared (document 02, (xi)). Counters rise, so one pass over both finds the pairs: where the counters that stand first differ
-// the lower record is passed, where they are equal the two are a pair. A pair's words are laid side by side and tested against a plan of the
-// sheet, which is made once (crate words). What stands on one side only needs no pass: it is what the pairs leave.
+// the lower record is passed, where they are equal the two are a pair; and each counter is tested as it is passed. A pair's words are laid side
+// by side and tested against a plan of the sheet, which is made once (crate words). What stands on one side only needs no pass: it is what the
+// pairs leave.
 ghost use mathlib.Core.Path.{_≡_};
-ghost use mathlib.Core.Bool.{false, not, cond};
+ghost use mathlib.Core.Bool.{true, false, not, _&&_, cond};
 ghost use mathlib.Core.List.{_++_};
 ghost use Prim.Native.Nat.{_+_, _≤_};
 ghost use lib.Bits.{bitXor};
@@ -13,7 +14,7 @@ ghost use Rattle.terms.specs.Table.{rowsOf, bitsOf};
 ghost use Rattle.terms.specs.inner.Placed.{Placed};
 ghost use Rattle.recordings.specs.Recordings.{framesOf, matched, rising, differingWords};
 ghost use Rattle.recordings.specs.Call.{wrongRecording, recordingsRecord};
-ghost use Rattle.merger.specs.inner.Passing.{Countable, pairTaken, lowerPassed, Ahead, Passed, Stands, Stepping, pairAt, Comparable, Merges, stopNumber, concluded};
+ghost use Rattle.merger.specs.inner.Passing.{Countable, pairTaken, movedTo, climbsAt, Tested, Falls, Sought, Stepping, pairAt, Comparable, Merged, stopNumber, concluded};
 use terms::Record;
 
 // How many numbers a recording has at most.
@@ -57,7 +58,7 @@ fn lay(sent: &[u16], received: &[u16], window: &mut [u16])
 }
 
 // How far a pass has come in either recording, and what it has found: pairs, those that break the sheet and the counter of the first of these,
-// and the bits that differ.
+// and the bits that differ; or that a counter is not above the one before it.
 struct Pass {
     i: usize,
     j: usize,
@@ -65,6 +66,7 @@ struct Pass {
     broken: u32,
     first: u32,
     ties: u32,
+    fell: bool,
 }
 
 // One more, if a pair breaks the sheet.
@@ -122,84 +124,127 @@ fn take_pair(
         broken: broken,
         first: first,
         ties: ties,
+        fell: s.fell,
     }
 }
 
-// Passes the lower of the two records at the offsets, whose counters are a and b.
-fn pass_lower(mut s: Pass, k: usize, a: u16, b: u16) -> Pass
-    requires { ⌜ s .i ≤ 65535 ⌝ }
-    requires { ⌜ s .j ≤ 65535 ⌝ }
-    requires { ⌜ k ≤ 32 ⌝ }
-    ensures { λ r. ⌜ r ≡ lowerPassed k a b s ⌝ }
+// A state with other offsets.
+fn moved(s: Pass, i: usize, j: usize) -> Pass
+    ensures { λ r. ⌜ r ≡ movedTo s i j ⌝ }
 {
-    let i = s.i;
-    let j = s.j;
-    let over_i = i + (k + 1);
-    let over_j = j + (k + 1);
-    if a < b {
-        s.i = over_i;
-        s.j = j;
-        return s;
+    Pass {
+        i: i,
+        j: j,
+        pairs: s.pairs,
+        broken: s.broken,
+        first: s.first,
+        ties: s.ties,
+        fell: s.fell,
     }
-    s.i = i;
-    s.j = over_j;
+}
+
+// A state in which a counter is not above the one before it.
+fn fallen(mut s: Pass) -> Pass
+    ensures fell { λ r. ⌜ r .fell ≡ true ⌝ }
+    ensures stays { λ r. ⌜ (r .i ≡ s .i) × (r .j ≡ s .j) ⌝ }
+{
+    s.fell = true;
     s
 }
 
-// Goes on to the next pair, past records that are in none; or to the end of one recording.
-fn seek(sent: &[u16], received: &[u16], k: usize, mut s: Pass) -> Pass
+// Goes on to the next pair, past records that are in none; or to the end of one recording, or to a counter that is not above the one before it.
+fn seek(sent: &[u16], received: &[u16], k: usize, s: Pass) -> Pass
     requires { ⌜ k ≤ 32 ⌝ }
     requires { ⌜ length (now sent) ≤ 65535 ⌝ }
     requires { ⌜ length (now received) ≤ 65535 ⌝ }
-    requires { ⌜ Ahead k (now sent) (s .i) ⌝ }
-    requires { ⌜ Ahead k (now received) (s .j) ⌝ }
-    ensures passed { λ r. ⌜ Passed k (now (sent .entry)) (now (received .entry)) s r ⌝ }
-    ensures stands { λ r. ⌜ Stands (now (sent .entry)) (now (received .entry)) r ⌝ }
+    requires { ⌜ Tested k (now sent) (s .i) ⌝ }
+    requires { ⌜ Tested k (now received) (s .j) ⌝ }
+    requires { ⌜ s .fell ≡ false ⌝ }
+    ensures { λ r. ⌜ Sought k (now (sent .entry)) (now (received .entry)) s r ⌝ }
 {
-    while s.i < sent.len() {
-        if received.len() <= s.j {
-            return s;
-        }
-        let i = s.i;
-        let j = s.j;
-        let a = sent[i];
-        let b = received[j];
-        if a == b {
-            return s;
-        }
-        s = pass_lower(s, k, a, b);
+    if sent.len() <= s.i {
+        return s;
     }
-    s
+    if received.len() <= s.j {
+        return s;
+    }
+    let mut i = s.i;
+    let mut j = s.j;
+    let mut a = sent[i];
+    let mut b = received[j];
+    while a != b {
+        let over_i = i + (k + 1);
+        let over_j = j + (k + 1);
+        if a < b {
+            i = over_i;
+            if sent.len() <= i {
+                return moved(s, i, j);
+            }
+            let next = sent[i];
+            if next <= a {
+                return fallen(moved(s, i, j));
+            }
+            a = next;
+            continue;
+        }
+        j = over_j;
+        if received.len() <= j {
+            return moved(s, i, j);
+        }
+        let next = received[j];
+        if next <= b {
+            return fallen(moved(s, i, j));
+        }
+        b = next;
+    }
+    moved(s, i, j)
+}
+
+// Whether the counter at an offset is above c, where there is one.
+fn climbs(numbers: &[u16], i: usize, c: u16) -> bool
+    requires { ⌜ i ≤ 65535 ⌝ }
+    ensures { λ r. ⌜ r ≡ climbsAt (now (numbers .entry)) i c ⌝ }
+{
+    if numbers.len() <= i {
+        return true;
+    }
+    c < numbers[i]
 }
 
 // Takes the pair at the offsets and goes on to the next.
 fn step(plan: &[u16], sent: &[u16], received: &[u16], k: usize, window: &mut [u16], s: Pass) -> Pass
     requires { ⌜ Stepping k (now sent) (now received) s ⌝ }
     requires { ⌜ length (now window) ≡ k + k ⌝ }
-    ensures passed { λ r. ⌜ Passed k (now (sent .entry)) (now (received .entry)) (pairAt (now (plan .entry)) k (now (sent .entry)) (now (received .entry)) s) r ⌝ }
-    ensures stands { λ r. ⌜ Stands (now (sent .entry)) (now (received .entry)) r ⌝ }
+    ensures { λ r. ⌜ Sought k (now (sent .entry)) (now (received .entry)) (pairAt (now (plan .entry)) k (now (sent .entry)) (now (received .entry)) s) r ⌝ }
 {
     let i = s.i;
     let j = s.j;
+    let counter = sent[i];
     let taken = take_pair(
         plan,
         &sent[i + 1..i + 1 + k],
         &received[j + 1..j + 1 + k],
-        sent[i],
+        counter,
         window,
         s,
     );
+    if !climbs(sent, taken.i, counter) {
+        return fallen(taken);
+    }
+    if !climbs(received, taken.j, counter) {
+        return fallen(taken);
+    }
     seek(sent, received, k, taken)
 }
 
-// The pass, to the end of one recording: what stands behind it in the other is in no pair.
+// The pass, to the end of one recording: what stands behind it in the other is in no pair. Or to a counter that is not above the one before it.
 fn merge(plan: &[u16], sent: &[u16], received: &[u16], k: usize, window: &mut [u16]) -> Pass
     requires { ⌜ 1 ≤ k ⌝ }
     requires { ⌜ k ≤ 32 ⌝ }
     requires { ⌜ length (now window) ≡ k + k ⌝ }
     requires { ⌜ Comparable k (now sent) ⌝ }
     requires { ⌜ Comparable k (now received) ⌝ }
-    ensures { λ r. ⌜ Merges (now (plan .entry)) (matched (framesOf k (now (sent .entry))) (framesOf k (now (received .entry)))) r ⌝ }
+    ensures { λ r. ⌜ Merged (now (plan .entry)) k (now (sent .entry)) (now (received .entry)) r ⌝ }
 {
     let start = Pass {
         i: 0,
@@ -208,15 +253,55 @@ fn merge(plan: &[u16], sent: &[u16], received: &[u16], k: usize, window: &mut [u
         broken: 0,
         first: 0,
         ties: 0,
+        fell: false,
     };
     let mut s = seek(sent, received, k, start);
     while s.i < sent.len() {
         if received.len() <= s.j {
             return s;
         }
+        if s.fell {
+            return s;
+        }
         s = step(plan, sent, received, k, window, s);
     }
     s
+}
+
+// Whether the counters of a recording strictly rise, each above the one before it, where they do so up to an offset.
+fn rises(numbers: &[u16], k: usize, from: usize) -> bool
+    requires { ⌜ k ≤ 32 ⌝ }
+    requires { ⌜ length (now numbers) ≤ 65535 ⌝ }
+    requires { ⌜ Tested k (now numbers) from ⌝ }
+    ensures { λ r. ⌜ r ≡ rising (framesOf k (now (numbers .entry))) ⌝ }
+{
+    let mut i = from;
+    while i + (k + 1) < numbers.len() {
+        if numbers[i + (k + 1)] <= numbers[i] {
+            return false;
+        }
+        i += k + 1;
+    }
+    true
+}
+
+// Whether both recordings rise, where a pass over both has ended.
+fn both_rise(s: Pass, sent: &[u16], received: &[u16], k: usize) -> bool
+    requires { ⌜ k ≤ 32 ⌝ }
+    requires { ⌜ length (now sent) ≤ 65535 ⌝ }
+    requires { ⌜ length (now received) ≤ 65535 ⌝ }
+    requires { ⌜ (s .fell ≡ true → Falls k (now sent) (now received)) ⌝ }
+    requires { ⌜ (s .fell ≡ false → Tested k (now sent) (s .i)) ⌝ }
+    requires { ⌜ (s .fell ≡ false → Tested k (now received) (s .j)) ⌝ }
+    ensures { λ r. ⌜ r ≡ rising (framesOf k (now (sent .entry))) && rising (framesOf k (now (received .entry))) ⌝ }
+{
+    if s.fell {
+        return false;
+    }
+    if !rises(sent, k, s.i) {
+        return false;
+    }
+    rises(received, k, s.j)
 }
 
 // Whether a recording is not too long, and whole records of a counter and k words.
@@ -231,23 +316,7 @@ fn whole(numbers: &[u16], k: usize) -> bool
     numbers.len() % (k + 1) == 0
 }
 
-// Whether the counters of a recording strictly rise: each is above the one before it.
-fn rises(numbers: &[u16], k: usize) -> bool
-    requires { ⌜ k ≤ 32 ⌝ }
-    requires { ⌜ wrongRecording k (now numbers) ≡ false ⌝ }
-    ensures { λ r. ⌜ r ≡ rising (framesOf k (now (numbers .entry))) ⌝ }
-{
-    let mut i = 0;
-    while i + (k + 1) < numbers.len() {
-        if numbers[i + (k + 1)] <= numbers[i] {
-            return false;
-        }
-        i += k + 1;
-    }
-    true
-}
-
-// The number at which a call stops, 0 where it does not: n is the number of variables, 0 if one has not 16 bits.
+// The number at which a call stops before its pass, 0 where it does not: n is the number of variables, 0 if one has not 16 bits.
 fn stop_of(n: usize, sent: &[u16], received: &[u16]) -> u32
     requires { ⌜ n ≤ 64 ⌝ }
     ensures { λ r. ⌜ r ≡ stopNumber n (now (sent .entry)) (now (received .entry)) ⌝ }
@@ -264,12 +333,6 @@ fn stop_of(n: usize, sent: &[u16], received: &[u16]) -> u32
     }
     if !whole(received, k) {
         return 47;
-    }
-    if !rises(sent, k) {
-        return 48;
-    }
-    if !rises(received, k) {
-        return 48;
     }
     0
 }
@@ -317,6 +380,9 @@ fn compare_in(
     words::prepare(table, widths, places, bits, &mut plan[..]);
     let mut window = [0u16; 64];
     let found = merge(&plan[..], sent, received, k, &mut window[..n]);
+    if !both_rise(found, sent, received, k) {
+        return records::refuse(48, 0);
+    }
     conclude(sent.len() / (k + 1), received.len() / (k + 1), found)
 }
 

@@ -8,13 +8,15 @@ use native.Mathlib.Omega.{arith}
 use lib.ListN.{length, replicate, length-replicate}
 use lib.Seq.{length-take-le}
 use denote.Ref.{now}
+use borrow.Author.Tests.{not-true, not-false}
 use Rattle.terms.specs.Faults.{isAccepted, firstFault}
 use Rattle.terms.specs.Table.{rowsOf}
 use Rattle.terms.specs.inner.Placed.{Placed}
 use Rattle.terms.proofs.AcceptedTable.{table-totals}
 use Rattle.words.specs.inner.Windows.{windowOf}
 use Rattle.words.proofs.Windows.{window-there}
-use Rattle.merger.proofs.Concluding.{unstopped, window-few, stopped-at, pass-fits, pass-found}
+use Rattle.merger.proofs.Passing.{merged-found}
+use Rattle.merger.proofs.Concluding.{unstopped, window-few, stopped-at, stopped-falls, pass-fits, pass-found}
 use borrow.Author.Needs.{needs}
 use Rattle.merger.proofs.compare_in.Statement.{statement}
 use Rattle.merger.proofs.compare_in.Tie as tie
@@ -61,6 +63,21 @@ merge-requires c κs =
     let whole = length-take-le {A = ℕ} (n .result) (replicate 64 0) (omega (arith, length-replicate {A = ℕ} 64 0)) in
     (omega (arith, u .some, u .even), (omega arith, (whole ∙ omega (arith, u .some, u .even), (u .sent-good, u .received-good))))
 
+both-rise-requires : tie.Need-both-rise-requires
+both-rise-requires c κs =
+    let n = c .before .before .before .before .before .before .before .before .before .window-of in
+    let u = unstopped (n .result) _ _ (sym (c .before .before .before .before .before .before .before .if1 .left) ∙ c .before .before .before .before .before .before .before .before .stop-of .ensures) in
+    let m = c .before .merge .ensures in
+    (omega (arith, few _ (c .before .before .before .before .before .before .before .before .before .before .before .before .before .before .before .pre .0) _ (n .ensures)), (u .sent-good .short, (u .received-good .short, (m .fell, (m .sent-tested, m .received-tested)))))
+
+refuse-requires-2 : tie.Need-refuse-requires-2
+refuse-requires-2 c κs = tt
+
+returns-2 : tie.Need-returns-2
+returns-2 c =
+    let n = c .before .before .before .before .before .before .before .before .before .before .before .before .window-of in
+    stopped-falls _ _ _ (is-good _ (c .before .before .before .before .before .before .before .before .before .before .before .before .before .before .before .before .before .before .pre .0)) _ (n .ensures) (sym (c .before .before .before .before .before .before .before .before .before .before .if1 .left) ∙ c .before .before .before .before .before .before .before .before .before .before .before .stop-of .ensures) (sym (c .before .before .both-rise .ensures) ∙ not-true _ (c .before .if2 .taken)) _ (c .refuse2 .ensures)
+
 add-conclude : tie.Need-add-conclude
 add-conclude c = omega arith
 
@@ -75,23 +92,25 @@ div-conclude-2 c = omega arith
 
 conclude-requires : tie.Need-conclude-requires
 conclude-requires c κs =
-    let a = c .before .before .before .before .before .before .before .before .before .before .before .before .before .before .before .args in
-    let n = c .before .before .before .before .before .before .before .before .before .window-of in
-    let stop = sym (c .before .before .before .before .before .before .before .if1 .left) ∙ c .before .before .before .before .before .before .before .before .stop-of .ensures in
-    let u = unstopped (n .result) (now (a .sent)) (now (a .received)) stop in (
+    let a = c .before .before .before .before .before .before .before .before .before .before .before .before .before .before .before .before .before .args in
+    let n = c .before .before .before .before .before .before .before .before .before .before .before .window-of in
+    let stop = sym (c .before .before .before .before .before .before .before .before .before .if1 .left) ∙ c .before .before .before .before .before .before .before .before .before .before .stop-of .ensures in
+    let u = unstopped (n .result) (now (a .sent)) (now (a .received)) stop in
+    let up = sym (c .before .both-rise .ensures) ∙ not-false _ (c .if2 .left) in (
       omega (arith, div-le-self (length (now (a .sent))) (n .result / 2 + 1), u .sent-good .short),
-      (omega (arith, div-le-self (length (now (a .received))) (n .result / 2 + 1), u .received-good .short), pass-fits (now (a .table)) (now (a .sent)) (now (a .received)) (is-good _ (c .before .before .before .before .before .before .before .before .before .before .before .before .before .before .before .pre .0)) (n .result) (n .ensures) stop _ _ (c .before .merge .ensures)),
+      (omega (arith, div-le-self (length (now (a .received))) (n .result / 2 + 1), u .received-good .short), pass-fits (now (a .table)) (now (a .sent)) (now (a .received)) (is-good _ (c .before .before .before .before .before .before .before .before .before .before .before .before .before .before .before .before .before .pre .0)) (n .result) (n .ensures) stop up _ _ (merged-found _ _ _ _ _ (c .before .before .before .merge .ensures) up)),
     )
 
-returns-2 : tie.Need-returns-2
-returns-2 c =
-    let start = c .before .before .before .before .before .before .before .before .before .before .before .before .before .before .before .before in
+returns-3 : tie.Need-returns-3
+returns-3 c =
+    let start = c .before .before .before .before .before .before .before .before .before .before .before .before .before .before .before .before .before .before in
     let a = start .args in
-    let n = c .before .before .before .before .before .before .before .before .before .before .window-of in
-    let stop = sym (c .before .before .before .before .before .before .before .before .if1 .left) ∙ c .before .before .before .before .before .before .before .before .before .stop-of .ensures in
+    let n = c .before .before .before .before .before .before .before .before .before .before .before .before .window-of in
+    let stop = sym (c .before .before .before .before .before .before .before .before .before .before .if1 .left) ∙ c .before .before .before .before .before .before .before .before .before .before .before .stop-of .ensures in
     let u = unstopped (n .result) (now (a .sent)) (now (a .received)) stop in
-    let tells = c .before .before .before .before .before .before .prepare .ensures (start .pre .0) (start .pre .1) (window-there _ _ (n .ensures) (u .some) .0) (omega arith) .0 in
-    pass-found (now (a .table)) (now (a .sent)) (now (a .received)) (is-good _ (start .pre .0)) (n .result) (n .ensures) stop _ _ (c .before .before .merge .ensures) tells _ (c .conclude .ensures)
+    let up = sym (c .before .before .both-rise .ensures) ∙ not-false _ (c .before .if2 .left) in
+    let tells = c .before .before .before .before .before .before .before .before .prepare .ensures (start .pre .0) (start .pre .1) (window-there _ _ (n .ensures) (u .some) .0) (omega arith) .0 in
+    pass-found (now (a .table)) (now (a .sent)) (now (a .received)) (is-good _ (start .pre .0)) (n .result) (n .ensures) stop up _ _ (merged-found _ _ _ _ _ (c .before .before .before .before .merge .ensures) up) tells _ (c .conclude .ensures)
 
 pub compare-in-spec : {M : Type 1} → statement M
 compare-in-spec =
@@ -107,9 +126,12 @@ compare-in-spec =
     array-borrow-prefix-window
     slice-aggregate-merge-2
     merge-requires
+    both-rise-requires
+    refuse-requires-2
+    returns-2
     add-conclude
     div-conclude
     add-conclude-2
     div-conclude-2
     conclude-requires
-    returns-2)
+    returns-3)

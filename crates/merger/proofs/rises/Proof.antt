@@ -1,24 +1,23 @@
 -- `rises` meets its contract: from the record at i on the counters rise exactly if all do. Assumes nothing.
-use mathlib.Core.Path.{_≡_, refl, sym, _∙_}
-use Prim.Native.Nat.{suc, _-_, _%_, _≤_}
+use mathlib.Core.Path.{sym, _∙_}
+use Prim.Native.Nat.{_-_, _≤_}
 use native.Mathlib.Omega.{arith}
-use lib.ListN.{length, drop}
+use lib.ListN.{length}
 use denote.Ref.{now}
-use Rattle.recordings.specs.Recordings.{framesOf, rising}
-use Rattle.merger.proofs.Rests.{rest-whole, rise-falls, rise-goes, rise-last}
-use Rattle.merger.proofs.Stops.{not-wrong}
+use Rattle.merger.specs.inner.Passing.{Tested}
+use Rattle.merger.proofs.Rests.{rise-falls, rise-last}
+use Rattle.merger.proofs.Passing.{tested-next}
 use Rattle.merger.proofs.rises.Statement.{statement}
 use Rattle.merger.proofs.rises.Tie as tie
 
 abbrev Inv-loop : tie.InvT-loop
-Inv-loop numbers k i₀ i =
-    (i ≤ length numbers) × (length (drop i numbers) % suc k ≡ 0) × (length numbers ≤ 65535) × (rising (framesOf k (drop i numbers)) ≡ rising (framesOf k numbers))
+Inv-loop numbers k from i₀ i = Tested k numbers i × (length numbers ≤ 65535)
 
 abbrev μ-loop : tie.MeasureT-loop
-μ-loop numbers k i₀ i = length numbers - i
+μ-loop numbers k from i₀ i = length numbers - i
 
 loop-holds : tie.Need-loop-holds Inv-loop μ-loop
-loop-holds c = let w = not-wrong _ _ (c .pre .1) in (omega arith, w .1, w .0, refl)
+loop-holds c = (c .pre .1 .1, c .pre .1 .0)
 
 add-loop : tie.Need-add-loop Inv-loop μ-loop
 add-loop c = omega arith
@@ -47,7 +46,7 @@ shared-slice-read-if1-2 c = omega arith
 returns : tie.Need-returns Inv-loop μ-loop
 returns c =
     let l = c .before .before .before .before .loop in
-    rise-falls (c .before .before .before .before .before .args .k) (now (c .before .before .before .before .before .args .numbers)) (l .i) (l .inv .1) (omega arith) (c .if1 .taken) ∙ l .inv .3
+    rise-falls (c .before .before .before .before .before .args .k) (now (c .before .before .before .before .before .args .numbers)) (l .i) (l .inv .0 .whole) (omega arith) (c .if1 .taken) ∙ l .inv .0 .same
 
 add-i : tie.Need-add-i Inv-loop μ-loop
 add-i c = omega arith
@@ -61,18 +60,14 @@ loop-less c = omega arith
 loop-again : tie.Need-loop-again Inv-loop μ-loop
 loop-again c =
     let l = c .before .before .before .before .loop in
-    let a = c .before .before .before .before .before .args in (
-      omega arith,
-      rest-whole (a .k) (now (a .numbers)) (l .i) (l .inv .1) (omega arith),
-      l .inv .2,
-      rise-goes (a .k) (now (a .numbers)) (l .i) (l .inv .1) (omega arith) (c .if1 .left) ∙ l .inv .3,
-    )
+    let a = c .before .before .before .before .before .args in
+    (tested-next (a .k) (now (a .numbers)) (l .i) (l .inv .0) (omega arith) (omega arith) (c .if1 .left), l .inv .1)
 
 returns-2 : tie.Need-returns-2 Inv-loop μ-loop
 returns-2 c =
     let l = c .before .loop in
     let a = c .before .before .args in
-    sym (rise-last (a .k) (now (a .numbers)) (l .i) (l .inv .1) (omega arith)) ∙ l .inv .3
+    sym (rise-last (a .k) (now (a .numbers)) (l .i) (l .inv .0 .whole) (omega arith)) ∙ l .inv .0 .same
 
 pub rises-spec : {M : Type 1} → statement M
 rises-spec =

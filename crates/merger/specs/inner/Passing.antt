@@ -1,6 +1,6 @@
 -- What the inner functions of the call promise: a pass over two recordings, from offset to offset.
 use mathlib.Core.Path.{_≡_}
-use mathlib.Core.Bool.{true, cond}
+use mathlib.Core.Bool.{Bool, true, false, cond}
 use mathlib.Core.List.{List, [], _∷_, _++_}
 use mathlib.Core.Logic.{_⊎_}
 use Prim.Native.Nat.{ℕ, suc, _+_, _-_, _*_, _/_, _%_, _≤_, _<_}
@@ -9,7 +9,7 @@ use lib.ListN.{length, getD, take, drop}
 use Rattle.terms.specs.declared.Record.{Record}
 use Rattle.words.specs.inner.Plan.{meetsPlan}
 use Rattle.recordings.specs.Recordings.{Match, framesOf, matched, rising, differingWords, differences, firstCounter}
-use Rattle.recordings.specs.Call.{wrongRecording, notRising}
+use Rattle.recordings.specs.Call.{wrongRecording}
 use Rattle.merger.specs.declared.Pass.{Pass}
 
 -- What has been found stays within its widths.
@@ -30,6 +30,7 @@ pairTaken plan a b counter s =
       broken = s .broken + cond (meetsPlan plan (a ++ b)) 0 1;
       first = cond (meetsPlan plan (a ++ b)) (s .first) (cond (eqb (s .broken) 0) counter (s .first));
       ties = s .ties + differingWords a b;
+      fell = s .fell;
     }
 
 -- The words of the record at an offset; a state after the pair at its offsets.
@@ -39,52 +40,67 @@ wordsAt k numbers i = take k (drop (i + 1) numbers)
 abbrev pub pairAt : List ℕ → ℕ → List ℕ → List ℕ → Pass → Pass
 pairAt plan k sent received s = pairTaken plan (wordsAt k sent (s .i)) (wordsAt k received (s .j)) (getD sent (s .i) 0) s
 
--- A state with other offsets; past the lower of the records with counters a and b.
+-- A state with other offsets.
 abbrev pub movedTo : Pass → ℕ → ℕ → Pass
-movedTo s i j = record { i = i; j = j; pairs = s .pairs; broken = s .broken; first = s .first; ties = s .ties }
+movedTo s i j = record { i = i; j = j; pairs = s .pairs; broken = s .broken; first = s .first; ties = s .ties; fell = s .fell }
 
-unfoldable pub lowerPassed : ℕ → ℕ → ℕ → Pass → Pass
-lowerPassed k a b s = cond (ltb a b) (movedTo s (s .i + (k + 1)) (s .j)) (movedTo s (s .i) (s .j + (k + 1)))
+-- Whether the counter at an offset is above c, where there is one.
+unfoldable pub climbsAt : List ℕ → ℕ → ℕ → Bool
+climbsAt numbers i c = cond (ltb i (length numbers)) (ltb c (getD numbers i 0)) true
 
--- From an offset on a recording is whole records, whose counters rise.
-pub record Ahead (k : ℕ) (numbers : List ℕ) (i : ℕ) : Type 0 where
+-- From an offset on a recording is whole records, and up to it its counters rise: all do exactly if those from it on do.
+pub record Tested (k : ℕ) (numbers : List ℕ) (i : ℕ) : Type 0 where
   pub inside : i ≤ length numbers
   pub whole : length (drop i numbers) % suc k ≡ 0
-  pub rises : rising (framesOf k (drop i numbers)) ≡ true
+  pub same : rising (framesOf k (drop i numbers)) ≡ rising (framesOf k numbers)
+
+-- The counters of both recordings rise; those of one do not.
+abbrev pub Rise : ℕ → List ℕ → List ℕ → Type 0
+Rise k sent received = (rising (framesOf k sent) ≡ true) × (rising (framesOf k received) ≡ true)
+
+abbrev pub Falls : ℕ → List ℕ → List ℕ → Type 0
+Falls k sent received = (rising (framesOf k sent) ≡ false) ⊎ (rising (framesOf k received) ≡ false)
 
 -- The pairs that are left.
 abbrev pub leftOf : ℕ → List ℕ → List ℕ → Pass → List Match
 leftOf k sent received s = matched (framesOf k (drop (s .i) sent)) (framesOf k (drop (s .j) received))
 
--- A state r further on than s, past records that are in no pair: as much was found, and the same pairs are left.
+-- A state r further on than s, past records that are in no pair: as much was found, and where both recordings rise the same pairs are left.
 pub record Passed (k : ℕ) (sent received : List ℕ) (s r : Pass) : Type 0 where
-  pub sent-ahead : Ahead k sent (r .i)
-  pub received-ahead : Ahead k received (r .j)
-  pub on : s .i ≤ r .i
-  pub received-on : s .j ≤ r .j
+  pub sent-tested : Tested k sent (r .i)
+  pub received-tested : Tested k received (r .j)
   pub same-found : r ≡ movedTo s (r .i) (r .j)
-  pub same-left : leftOf k sent received r ≡ leftOf k sent received s
+  pub same-left : Rise k sent received → leftOf k sent received r ≡ leftOf k sent received s
 
 -- One recording has ended, or the records at the offsets are a pair.
 abbrev pub Stands : List ℕ → List ℕ → Pass → Type 0
 Stands sent received s = (length sent ≤ s .i) ⊎ ((length received ≤ s .j) ⊎ (getD received (s .j) 0 ≡ getD sent (s .i) 0))
 
+-- A state r to which a search from s has come: it stands at a pair or at an end, or a counter fell.
+pub record Sought (k : ℕ) (sent received : List ℕ) (s r : Pass) : Type 0 where
+  pub on : s .i ≤ r .i
+  pub received-on : s .j ≤ r .j
+  pub fell : r .fell ≡ true → Falls k sent received
+  pub passed : r .fell ≡ false → Passed k sent received s r
+  pub stands : r .fell ≡ false → Stands sent received r
+
 -- A state at which a pair can be taken.
 pub record Stepping (k : ℕ) (sent received : List ℕ) (s : Pass) : Type 0 where
   pub countable : Countable s
+  pub rose : s .fell ≡ false
   pub few-words : k ≤ 32
   pub sent-short : length sent ≤ 65535
   pub received-short : length received ≤ 65535
-  pub sent-ahead : Ahead k sent (s .i)
-  pub received-ahead : Ahead k received (s .j)
+  pub sent-tested : Tested k sent (s .i)
+  pub received-tested : Tested k received (s .j)
   pub sent-more : s .i < length sent
   pub received-more : s .j < length received
+  pub equal : getD received (s .j) 0 ≡ getD sent (s .i) 0
 
--- Recordings that can be compared: whole records of k words, not too many, whose counters rise.
+-- Recordings over which a pass can go: whole records of k words, not too many.
 pub record Comparable (k : ℕ) (numbers : List ℕ) : Type 0 where
   pub short : length numbers ≤ 65535
   pub whole : length numbers % suc k ≡ 0
-  pub rises : rising (framesOf k numbers) ≡ true
 
 -- The pairs that do not meet a plan.
 unfoldable pub failing : List ℕ → List Match → List Match
@@ -98,13 +114,17 @@ pub record Merges (plan : List ℕ) (ms : List Match) (s : Pass) : Type 0 where
   pub first-is : s .first ≡ firstCounter (failing plan ms)
   pub ties-are : s .ties ≡ differences ms
 
--- The number at which a call with n variables of 16 bits stops, 0 where it does not.
+-- A pass that has ended: a counter fell; or one recording has ended, the counters rise so far, and where both rise all was found.
+pub record Merged (plan : List ℕ) (k : ℕ) (sent received : List ℕ) (s : Pass) : Type 0 where
+  pub fell : s .fell ≡ true → Falls k sent received
+  pub sent-tested : s .fell ≡ false → Tested k sent (s .i)
+  pub received-tested : s .fell ≡ false → Tested k received (s .j)
+  pub found : s .fell ≡ false → Rise k sent received → Merges plan (matched (framesOf k sent) (framesOf k received)) s
+
+-- The number at which a call with n variables of 16 bits stops before its pass, 0 where it does not.
 unfoldable pub stopNumber : ℕ → List ℕ → List ℕ → ℕ
 stopNumber n sent received =
-    cond (eqb n 0) 47
-    (cond (eqb (n % 2) 1) 47
-    (cond (wrongRecording (n / 2) sent) 47
-    (cond (wrongRecording (n / 2) received) 47 (cond (notRising (n / 2) sent) 48 (cond (notRising (n / 2) received) 48 0)))))
+    cond (eqb n 0) 47 (cond (eqb (n % 2) 1) 47 (cond (wrongRecording (n / 2) sent) 47 (cond (wrongRecording (n / 2) received) 47 0)))
 
 -- The record of a pass over two recordings of so many records.
 unfoldable pub concluded : ℕ → ℕ → Pass → Record
