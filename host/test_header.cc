@@ -23,6 +23,7 @@ INTERFACE(lw_right_side, lw_part, LENT(uint16_t), size_t, size_t);
 INTERFACE(lw_make_pattern, lw_record, LENT(uint16_t), LENT(uint16_t), LENT(uint8_t), OUT(uint8_t), OUT(uint16_t));
 INTERFACE(lw_marker_positions, lw_record, LENT(uint16_t), LENT(uint16_t), OUT(uint32_t));
 INTERFACE(lw_compare_recordings, lw_record, LENT(uint16_t), LENT(uint16_t), LENT(uint16_t));
+INTERFACE(lw_compare_tables, lw_record, LENT(uint16_t), LENT(uint16_t), OUT(uint16_t));
 INTERFACE(lw_page, lw_page_bytes, lw_record, LENT(uint16_t), size_t);
 INTERFACE(lw_job_open, lw_record, LENT(uint16_t), lw_job *, OUT(uint16_t));
 INTERFACE(lw_job_step, lw_record, LENT(uint16_t), lw_job *, OUT(uint16_t));
@@ -55,6 +56,7 @@ int main()
     check("lw_make_pattern", lw_make_pattern(NOTHING, NOTHING, NOTHING, NOTHING, NOTHING).outcome, LW_REFUSED_MEMORY);
     check("lw_marker_positions", lw_marker_positions(NOTHING, NOTHING, NOTHING).outcome, LW_REFUSED_WINDOW);
     check("lw_compare_recordings", lw_compare_recordings(NOTHING, NOTHING, NOTHING).outcome, LW_REFUSED_RECORDING);
+    check("lw_compare_tables", lw_compare_tables(NOTHING, NOTHING, NOTHING).outcome, LW_REFUSED_MEMORY);
     check("lw_page", lw_page(lw_record(), NOTHING, 0).bytes[2], 'v');
     lw_job job = {0, 0};
     check("lw_job_open", lw_job_open(NOTHING, &job, NOTHING).outcome, LW_REFUSED_MEMORY);

@@ -23,6 +23,7 @@
 typedef struct {
     uint16_t table[4 * LW_MAX_ROWS];
     size_t table_len, row;
+    size_t left_off; /* numbers of the table that the second table has not */
     lw_row rows[LW_MAX_ROWS + 1]; /* the table as records */
     size_t row_count;
     uint8_t pattern[LW_MAX_VARIABLE_BITS];
@@ -356,6 +357,7 @@ LINES(empty, "\n")
     }
 
 SET(words_len)
+SET(left_off)
 SET(rows_in_use)
 SET(variable)
 SET(number)
@@ -512,6 +514,31 @@ static const test comparisons[] = {
      LW_REFUSED_RECORDING, 0},
     {"refused 48", {{variable, 16}, {variable, 16}, {set_words_len, LW_MAX_RECORDING - 1}}, LW_REFUSED_COUNTERS, 0},
 };
+/* A table with itself, or with itself without its last rows. */
+static const test likes[] = {
+    {"one variable", {{variable, 1024}}, LW_SAME, 0},
+    {"512 rows, chained cuts", {CUTS, {shift, 1024}}, LW_SAME, 0},
+    {"512 rows, joins chained on the left", {{variable, 1}, {left_joins, 0}, {shift, 508}}, LW_SAME, 0},
+    {"512 rows, joins chained on the right", {{variable, 1}, {right_joins, 0}, {shift, 508}}, LW_SAME, 0},
+    {"512 rows, cuts and joins in turn", {{variable, 1}, {cuts_and_joins, 0}, {shift, 255}}, LW_SAME, 0},
+    {"chained cuts of a marker", {{marker, 16}, {cuts, 16}, {shift, 16}}, LW_SAME, 0},
+    {"joins of a word's bit, on the left", {{variable, 16}, {left_joins, 1}, {search, 508}}, LW_SAME, 0},
+    {"joins of a word's bit, on the right", {{variable, 16}, {right_joins, 1}, {search, 508}}, LW_SAME, 0},
+    {"joins of a marker's bit, on the left", {{marker, 16}, {left_joins, 1}, {search, 508}}, LW_SAME, 0},
+    {"joins of a marker's bit, on the right", {{marker, 16}, {right_joins, 1}, {search, 508}}, LW_SAME, 0},
+    {"sides of unequal width", {{marker, 1}, {left_joins, 0}, {uneven_shift, 508}}, LW_SAME, 0},
+    {"64 equations of 1024 bits", {{words, 64}}, LW_SAME, 0},
+    {"64 equations and none", {{words, 64}, {set_left_off, 4 * 64}}, LW_STRICTER, 0},
+    {"32 of 64 equations revised", {{words, 64}, {line_numbers, 32}}, LW_SAME, 0},
+    {"never at the last of 64 equations", {{words, 63}, {unequal_fills, 1}}, LW_SAME, 0},
+    {"never at the last, and without it", {{words, 63}, {unequal_fills, 1}, {set_left_off, 4}}, LW_STRICTER, 0},
+    {"refused 10", {{words, 64}, {less_work_len, 1}}, LW_REFUSED_MEMORY, 0},
+    NOT_WHOLE_ROWS,
+    BAD_CUT,
+    BAD_MARKER,
+    {"refused 11 in the second", {{words, 64}, {set_left_off, 1}}, LW_REFUSED_TABLE, 0},
+    {"refused 49", {{variable, 1024}, {set_left_off, 4}}, LW_REFUSED_LAYOUT, 0},
+};
 static const test parts[] = {
     {"4096 rows of one variable", {{set_rows_in_use, 4096}}, 0, LW_ANSWER_NUMBERS},
     {"no such variable", {{set_rows_in_use, 4096}, {set_variable, 1}}, 0, 0},
@@ -647,6 +674,7 @@ RUN(lw_make_pattern, record, TABLE, c->answer, c->answer_len, c->fresh, c->fresh
     c->work_len)
 RUN(lw_marker_positions, record, TABLE, c->words, c->words_len, c->list, COUNT(c->list))
 RUN(lw_compare_recordings, record, TABLE, c->words, c->words_len, c->words, c->words_len)
+RUN(lw_compare_tables, record, TABLE, c->table, c->table_len - c->left_off, c->work, c->work_len)
 RUN(lw_page, page_bytes, c->record, c->answer, c->answer_len, c->number)
 RUN(lw_job_open, record, TABLE, JOB)
 RUN(lw_job_step, record, TABLE, JOB)
@@ -672,6 +700,7 @@ static const struct {
     {"lw_make_pattern", run_lw_make_pattern, LW_STACK_MAKE_PATTERN, patterns, COUNT(patterns)},
     {"lw_marker_positions", run_lw_marker_positions, LW_STACK_MARKER_POSITIONS, searches, COUNT(searches)},
     {"lw_compare_recordings", run_lw_compare_recordings, LW_STACK_COMPARE_RECORDINGS, comparisons, COUNT(comparisons)},
+    {"lw_compare_tables", run_lw_compare_tables, LW_STACK_COMPARE_TABLES, likes, COUNT(likes)},
     {"lw_page", run_lw_page, LW_STACK_PAGE, pages, COUNT(pages)},
     {"lw_job_open", run_lw_job_open, LW_STACK_JOB_OPEN, opens, COUNT(opens)},
     {"lw_job_step", run_lw_job_step, LW_STACK_JOB_STEP, job_steps, COUNT(job_steps)},
@@ -781,6 +810,7 @@ static void test_calls(void)
     }
     free(memory);
     check(LW_STACK_JOB_PREVIEW <= LW_STACK_JOB_STEP + 1000, HERE, "a preview takes more stack than a step");
+    check(LW_STACK_COMPARE_TABLES <= LW_STACK_SOLVE, HERE, "a comparison of tables takes more stack than a solve");
 }
 
 const test_list tests = {

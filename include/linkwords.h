@@ -10,9 +10,10 @@
   every, no or some choice of the variables' bits meets them all, and for some
   it describes these choices. Another makes such a choice from the description,
   one finds the places of a long run of words at which the words meet them, one
-  compares two recordings of frames by them, and one prints the description on
-  pages for a line printer. A job takes the equations one by one, and tells
-  after each what is still allowed, or before each what it would leave.
+  compares two recordings of frames by them, one compares two such tables, and
+  one prints the description on pages for a line printer. A job takes the
+  equations one by one, and tells after each what is still allowed, or before
+  each what it would leave.
 
   The library is proved: for every input each call yields the record and the
   buffer contents that this header names, and it always returns. It is linked
@@ -414,8 +415,8 @@ extern "C" {
   The version of the library, as text and as a number that grows from version to
   version: major * 1000000 + minor * 1000 + patch.
 */
-#define LW_VERSION_TEXT "0.24.0"
-#define LW_VERSION      24000
+#define LW_VERSION_TEXT "0.25.0"
+#define LW_VERSION      25000
 
 /* constants */
 
@@ -457,11 +458,17 @@ extern "C" {
 #define LW_JOB_NEVER  1000
 #define LW_HELD_FIXED 4096
 
-/* Outcomes of an accepted call: of lw_solve and of a job's calls the last three, of the others the first. */
+/* Outcomes of an accepted call: of lw_solve and of a job's calls the last three, of most others the first. */
 #define LW_ACCEPTED 0
 #define LW_ALWAYS   0 /* every pattern meets the table */
 #define LW_NEVER    1 /* no pattern does */
 #define LW_SOLVED   2 /* every other table */
+
+/* Outcomes of two tables compared; all four are accepted. */
+#define LW_SAME     0 /* the same patterns meet both */
+#define LW_STRICTER 1 /* every pattern that meets the first meets the second, and some pattern meets the second only */
+#define LW_LOOSER   2 /* every pattern that meets the second meets the first, and some pattern meets the first only */
+#define LW_NEITHER  3 /* some pattern meets the first only, and some the second only */
 
 /* Refusals. */
 #define LW_REFUSED_MEMORY    10 /* answer table below 24576 numbers, or work area below 16384 */
@@ -491,6 +498,7 @@ extern "C" {
 #define LW_REFUSED_OTHER_ANSWER 46 /* answer table other than the one solved from the table, or the table has none */
 #define LW_REFUSED_RECORDING 47 /* variables that are none, odd in number or not 16 bits; a recording too long or not whole */
 #define LW_REFUSED_COUNTERS  48 /* counters of a recording that do not strictly rise */
+#define LW_REFUSED_LAYOUT    49 /* two tables whose variables differ in number or width */
 
 /*
   Stack: the most bytes that a call was seen to use, on tables made for that; it
@@ -513,6 +521,7 @@ extern "C" {
 #define LW_STACK_NORMAL_FORM_ROWS 145600
 #define LW_STACK_SOLVE_ROWS       166400
 #define LW_STACK_COMPARE_RECORDINGS 173120
+#define LW_STACK_COMPARE_TABLES   161984
 
 /* the record */
 
@@ -524,7 +533,7 @@ extern "C" {
   mean what is said there.
 */
 typedef struct {
-    uint32_t outcome; /* 0 to 2, or the number of the refusal */
+    uint32_t outcome; /* 0 to 3, or the number of the refusal */
     uint32_t pieces;
     uint32_t fresh;   /* a number of fresh pieces */
     uint32_t free;    /* a number of bits */
@@ -917,6 +926,68 @@ lw_record lw_compare_recordings(const uint16_t *table, size_t table_len,
 
      All three are only read, and nothing is written. They may overlap: one
      recording may be lent as both.
+*/
+
+lw_record lw_compare_tables(const uint16_t *first, size_t first_len,
+                            const uint16_t *second, size_t second_len,
+                            uint16_t *work, size_t work_len);
+/*
+     Compares the patterns that meet two tables, such as an old layout and its
+     revision. The tables may be written quite differently; what counts is which
+     patterns meet them.
+
+     Two tables can be compared if they have as many variables, and the variables
+     have the same widths in the same order, each as it appears. The rows between
+     them, how the terms are built, the equations, their number and order, and
+     their line numbers need not agree. In each table by itself the equations that
+     count hold.
+
+     If the call is accepted, all fields but outcome are 0, and outcome is
+
+     0 LW_SAME      A pattern meets the first exactly if it meets the second.
+     1 LW_STRICTER  Every pattern that meets the first meets the second, and some
+                    pattern meets the second and not the first: the first allows
+                    fewer.
+     2 LW_LOOSER    Every pattern that meets the second meets the first, and some
+                    pattern meets the first and not the second: the first allows
+                    more.
+     3 LW_NEITHER   Some pattern meets the first and not the second, and some the
+                    second and not the first.
+
+     These are not the outcomes of lw_solve, and 3 is no refusal. With the tables
+     exchanged 1 and 2 are exchanged, and 0 and 3 stay.
+
+     A table that no pattern meets is stricter than every table that some pattern
+     meets, and the same as every other that no pattern meets, wherever their
+     equations fail. Tables without variables have one pattern, that of no bits.
+     Two tables for which lw_solve yields LW_SOLVED are the same exactly if the
+     answer tables that it writes are equal, number by number.
+
+     work is memory for the call to work in, and may hold anything before it.
+     After an accepted call, whatever the outcome, each number of work is 0, all
+     work_len of them, also those past the 16384th.
+
+     Otherwise outcome is the first refusal that applies, in the order below, and
+     nothing is written to work. Its length is tested first, then the first table,
+     then the second, and last whether the two can be compared. Which table it is
+     that is refused is not told: if lw_value or another call refuses the first
+     one so, it is that.
+
+     outcome                 cause                               field row
+     10 LW_REFUSED_MEMORY    work_len is below LW_WORK_NUMBERS   0
+                             (16384), however small the tables
+                             are
+     11 to 17, 40            the first table is refused: see     512, or
+                             Refusals of a term table above      that row
+     11 to 17, 40            the second table is refused, and    512, or
+                             the first is not                    that row
+     49 LW_REFUSED_LAYOUT    the tables have not as many         0
+                             variables, or a variable of one has
+                             another width than that of the same
+                             number in the other
+
+     The tables are only read. They may overlap, and one table may be lent as
+     both; work may overlap neither.
 */
 
 /* The bytes of a page. */

@@ -1,4 +1,4 @@
--- What holds of every record with outcome 0, 1 or 2, and of every refusal from 10 on but 18, holds of the record of every call: so no call
+-- What holds of every record with outcome 0 to 3, and of every refusal from 10 on but 18, holds of the record of every call: so no call
 -- yields 18, whatever it is lent (document 02, (iii)). Assumes nothing.
 use mathlib.Core.Path.{_≡_, refl}
 use mathlib.Core.Bool.{Bool, true, false, cond}
@@ -26,12 +26,14 @@ use Rattle.answers.specs.Solve.{valid, unsatisfiable, answerRecord, solveRecord
 use Rattle.assignments.specs.Matching.{makeStops, makeRecord}
 use Rattle.windows.specs.Call.{positionsRecord}
 use Rattle.recordings.specs.Call.{recordingsRecord}
+use Rattle.inclusion.specs.Call.{compareStops, compareRecord}
+use Rattle.inclusion.proofs.Patterns.{one-of-four}
 use Rattle.jobs.specs.Prefix.{upTo}
 use Rattle.jobs.specs.Call.{openStops, openRecord, stepStops, stepRecord, jobAnswerStops, jobAnswerRecord}
-use Rattle.calls.specs.Calls.{Call, lw-value, lw-normal-form, lw-read-sheet, lw-solve, lw-make-pattern, lw-marker-positions, lw-compare-recordings, lw-value-rows, lw-normal-form-rows, lw-solve-rows, lw-job-open, lw-job-step, lw-job-preview, lw-job-answer, program, recordOf}
+use Rattle.calls.specs.Calls.{Call, lw-value, lw-normal-form, lw-read-sheet, lw-solve, lw-make-pattern, lw-marker-positions, lw-compare-recordings, lw-compare-tables, lw-value-rows, lw-normal-form-rows, lw-solve-rows, lw-job-open, lw-job-step, lw-job-preview, lw-job-answer, program, recordOf}
 
 -- A property of these records.
-module _ (P : Record → Type 0) (fine : (r : Record) → r .outcome ≤ 2 → P r) (refused : (n row : ℕ) → 10 ≤ n → n ≢ 18 → P (refusal n row)) where
+module _ (P : Record → Type 0) (fine : (r : Record) → r .outcome ≤ 3 → P r) (refused : (n row : ℕ) → 10 ≤ n → n ≢ 18 → P (refusal n row)) where
   -- each record of a list of conditions has it
   data All : List (Bool × Record) → Type 0 where
     none : All []
@@ -100,6 +102,14 @@ module _ (P : Record → Type 0) (fine : (r : Record) → r .outcome ≤ 2 → P
       (more (refused 47 0 (omega arith) (omega arith)) (more (refused 48 0 (omega arith) (omega arith)) (more (refused 48 0 (omega arith) (omega arith)) none))))))
       (fine _ (omega arith))
 
+  compare : (left right : List ℕ) (room : ℕ) → P (compareRecord left right room)
+  unfolding compareRecord compareStops
+  compare left right room =
+      first _ _
+      (more (refused 10 0 (omega arith) (omega arith))
+      (more (fault (firstFault left)) (more (fault (firstFault right)) (more (refused 49 0 (omega arith) (omega arith)) none))))
+      (fine _ (one-of-four (rowsOf left) (rowsOf right)))
+
   job-open : (table : List ℕ) (room : ℕ) → P (openRecord table room)
   unfolding openRecord openStops
   job-open table room =
@@ -149,6 +159,7 @@ module _ (P : Record → Type 0) (fine : (r : Record) → r .outcome ≤ 2 → P
   of-every-record (lw-make-pattern table rows fresh lent work) = pattern-made table rows fresh _ _
   of-every-record (lw-marker-positions table words lent) = positions table words
   of-every-record (lw-compare-recordings table sent received) = recordings table sent received
+  of-every-record (lw-compare-tables left right lent) = compare left right _
   of-every-record (lw-value-rows rows row pattern lent) = value (rowNumbers rows) row pattern _
   of-every-record (lw-normal-form-rows rows row lent) = form (rowNumbers rows) row _
   of-every-record (lw-solve-rows rows lent work) = solve (rowNumbers rows) _ _

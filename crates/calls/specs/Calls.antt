@@ -4,12 +4,15 @@
 use mathlib.Core.Path.{_≡_}
 use mathlib.Core.Bool.{Bool, _||_, cond}
 use mathlib.Core.List.{List, [], _∷_}
+use mathlib.Core.Logic.{_⊎_}
 use Prim.Native.Nat.{ℕ, _≤_}
 use lib.Dec.{eqb}
 use lib.ListN.{length, replicate}
 use Rattle.terms.specs.declared.Record.{Record}
 use Rattle.terms.specs.declared.Row.{Row}
+use Rattle.terms.specs.declared.Fault.the-variants.{Accepted}
 use Rattle.terms.specs.Calls.{refusal}
+use Rattle.terms.specs.Faults.{firstFault}
 use Rattle.terms.specs.Table.{rowNumbers}
 use Rattle.terms.specs.Value.{valueRecord, valueAfter}
 use Rattle.forms.specs.Call.{formRecord, formAfter}
@@ -19,6 +22,7 @@ use Rattle.answers.specs.Solve.{solveRecord, answerAfter, workAfter}
 use Rattle.assignments.specs.Matching.{makeRecord, makeAfter, makeWork}
 use Rattle.windows.specs.Call.{positionsRecord, positionsAfter}
 use Rattle.recordings.specs.Call.{recordingsRecord}
+use Rattle.inclusion.specs.Call.{compareRecord, compareWork}
 use Rattle.jobs.specs.Call.{openRecord, openJob, openWork, stepRecord, stepJob, stepWork, jobAnswerRecord, jobAnswerAfter}
 
 -- A call with all that it is lent, in its order, a job as its two numbers; the program with the text that it has read.
@@ -30,6 +34,7 @@ pub data Call : Type 0 where
   lw-make-pattern : (table answer fresh pattern work : List ℕ) → Call
   lw-marker-positions : (table words list : List ℕ) → Call
   lw-compare-recordings : (table sent received : List ℕ) → Call
+  lw-compare-tables : (first second work : List ℕ) → Call
   lw-value-rows : (rows : List Row) (row : ℕ) (pattern value : List ℕ) → Call
   lw-normal-form-rows : (rows : List Row) (row : ℕ) (form : List ℕ) → Call
   lw-solve-rows : (rows : List Row) (answer work : List ℕ) → Call
@@ -48,6 +53,7 @@ recordOf (lw-solve table answer work) = solveRecord table (length answer) (lengt
 recordOf (lw-make-pattern table answer fresh pattern work) = makeRecord table answer fresh (length pattern) (length work)
 recordOf (lw-marker-positions table words list) = positionsRecord table words
 recordOf (lw-compare-recordings table sent received) = recordingsRecord table sent received
+recordOf (lw-compare-tables first second work) = compareRecord first second (length work)
 recordOf (lw-value-rows rows row pattern value) = valueRecord (rowNumbers rows) row pattern (length value)
 recordOf (lw-normal-form-rows rows row form) = formRecord (rowNumbers rows) row (length form)
 recordOf (lw-solve-rows rows answer work) = solveRecord (rowNumbers rows) (length answer) (length work)
@@ -66,6 +72,7 @@ lentTo (lw-solve table answer work) = answer ∷ work ∷ []
 lentTo (lw-make-pattern table answer fresh pattern work) = pattern ∷ work ∷ []
 lentTo (lw-marker-positions table words list) = list ∷ []
 lentTo (lw-compare-recordings table sent received) = []
+lentTo (lw-compare-tables first second work) = work ∷ []
 lentTo (lw-value-rows rows row pattern value) = value ∷ []
 lentTo (lw-normal-form-rows rows row form) = form ∷ []
 lentTo (lw-solve-rows rows answer work) = answer ∷ work ∷ []
@@ -85,6 +92,7 @@ leftBy (lw-make-pattern table answer fresh pattern work) =
     makeAfter table answer fresh pattern (length work) ∷ makeWork table answer fresh (length pattern) work ∷ []
 leftBy (lw-marker-positions table words list) = positionsAfter table words list ∷ []
 leftBy (lw-compare-recordings table sent received) = []
+leftBy (lw-compare-tables first second work) = compareWork first second work ∷ []
 leftBy (lw-value-rows rows row pattern value) = valueAfter (rowNumbers rows) row pattern value ∷ []
 leftBy (lw-normal-form-rows rows row form) = formAfter (rowNumbers rows) row form ∷ []
 leftBy (lw-solve-rows rows answer work) = answerAfter (rowNumbers rows) answer (length work) ∷ workAfter (rowNumbers rows) (length answer) work ∷ []
@@ -110,6 +118,7 @@ leftRefused number (lw-solve table answer work) = lentTo (lw-solve table answer 
 leftRefused number (lw-make-pattern table answer fresh pattern work) = pattern ∷ cond (clears number) (replicate (length work) 0) work ∷ []
 leftRefused number (lw-marker-positions table words list) = lentTo (lw-marker-positions table words list)
 leftRefused number (lw-compare-recordings table sent received) = lentTo (lw-compare-recordings table sent received)
+leftRefused number (lw-compare-tables first second work) = lentTo (lw-compare-tables first second work)
 leftRefused number (lw-value-rows rows row pattern value) = lentTo (lw-value-rows rows row pattern value)
 leftRefused number (lw-normal-form-rows rows row form) = lentTo (lw-normal-form-rows rows row form)
 leftRefused number (lw-solve-rows rows answer work) = lentTo (lw-solve-rows rows answer work)
@@ -119,7 +128,7 @@ leftRefused number (lw-job-preview table next ties work) = lentTo (lw-job-previe
 leftRefused number (lw-job-answer table next ties work answer) = lentTo (lw-job-answer table next ties work answer)
 leftRefused number (program text) = lentTo (program text)
 
--- A call is refused with this record and leaves what a refusal leaves. The outcome of a call that is not refused is 0, 1 or 2; the number of a refusal
+-- A call is refused with this record and leaves what a refusal leaves. The outcome of a call that is not refused is 0 to 3; the number of a refusal
 -- is 10 or above, and the other numbers of its record are 0 but row.
 pub record RefusedWith (found : Record) (c : Call) : Type 0 where
   pub record-is : recordOf c ≡ found
@@ -127,8 +136,8 @@ pub record RefusedWith (found : Record) (c : Call) : Type 0 where
   pub alone : found ≡ refusal (found .outcome) (found .row)
   pub left : leftBy c ≡ leftRefused (found .outcome) c
 
--- Whether a call takes this term table and comes to look at it: a solve, a pattern call or a call of a job has the room that it asks for before (10). One line
--- for each call.
+-- Whether a call takes this term table and comes to look at it: a solve, a pattern call, a comparison of tables or a call of a job has the room that it asks
+-- for before (10), and such a comparison looks at its second table if its first is accepted. One line for each call.
 abbrev pub Takes : List ℕ → Call → Type 0
 Takes t (lw-value table row pattern value) = table ≡ t
 Takes t (lw-normal-form table row form) = table ≡ t
@@ -137,6 +146,7 @@ Takes t (lw-solve table answer work) = (table ≡ t) × (24576 ≤ length answer
 Takes t (lw-make-pattern table answer fresh pattern work) = (table ≡ t) × (16384 ≤ length work)
 Takes t (lw-marker-positions table words list) = table ≡ t
 Takes t (lw-compare-recordings table sent received) = table ≡ t
+Takes t (lw-compare-tables first second work) = ((first ≡ t) ⊎ ((firstFault first ≡ Accepted) × (second ≡ t))) × (16384 ≤ length work)
 Takes t (lw-value-rows rows row pattern value) = rowNumbers rows ≡ t
 Takes t (lw-normal-form-rows rows row form) = rowNumbers rows ≡ t
 Takes t (lw-solve-rows rows answer work) = (rowNumbers rows ≡ t) × (24576 ≤ length answer) × (16384 ≤ length work)

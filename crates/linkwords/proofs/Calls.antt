@@ -17,7 +17,7 @@ use denote.Triple.Entry.{Args, Res}
 use denote.Triple.Clauses.{Ended, AtExit, ClausesAt}
 use Rattle.terms.specs.declared.Record.{Record}
 use Rattle.jobs.specs.declared.Job.{Job}
-use Rattle.calls.specs.Calls.{Call, lw-value, lw-normal-form, lw-read-sheet, lw-solve, lw-make-pattern, lw-marker-positions, lw-compare-recordings, lw-value-rows, lw-normal-form-rows, lw-solve-rows, lw-job-open, lw-job-step, lw-job-preview, lw-job-answer, recordOf, leftBy}
+use Rattle.calls.specs.Calls.{Call, lw-value, lw-normal-form, lw-read-sheet, lw-solve, lw-make-pattern, lw-marker-positions, lw-compare-recordings, lw-compare-tables, lw-value-rows, lw-normal-form-rows, lw-solve-rows, lw-job-open, lw-job-step, lw-job-preview, lw-job-answer, recordOf, leftBy}
 use Rattle.linkwords.proofs.lw_value as value
 use Rattle.linkwords.proofs.lw_normal_form as normal-form
 use Rattle.linkwords.proofs.lw_read_sheet as read-sheet
@@ -25,6 +25,7 @@ use Rattle.linkwords.proofs.lw_solve as solve
 use Rattle.linkwords.proofs.lw_make_pattern as make-pattern
 use Rattle.linkwords.proofs.lw_marker_positions as marker-positions
 use Rattle.linkwords.proofs.lw_compare_recordings as compare-recordings
+use Rattle.linkwords.proofs.lw_compare_tables as compare-tables
 use Rattle.linkwords.proofs.lw_value_rows as value-rows
 use Rattle.linkwords.proofs.lw_normal_form_rows as normal-form-rows
 use Rattle.linkwords.proofs.lw_solve_rows as solve-rows
@@ -78,6 +79,10 @@ module _ {M : Type 1} (𝓤 : URA M) (H : Heap 𝓤) (A : Atoms 𝓤) (mem : Mem
   pub compare-recordings-says : (κs : Lfts 3) (a : Args compare-recordings.signature κs)
       → compare-recordings.clauses 𝓤 H A mem run κs a ≡ Ensures compare-recordings.ended κs (λ r e. ⌜ r ≡ recordOf (lw-compare-recordings (a .0 .now) (a .1 .0 .now) (a .1 .1 .0 .now)) ⌝)
   compare-recordings-says κs a = refl
+
+  pub compare-tables-says : (κs : Lfts 3) (a : Args compare-tables.signature κs)
+      → compare-tables.clauses 𝓤 H A mem run κs a ≡ Ensures compare-tables.ended κs (λ r e. One (lw-compare-tables (a .0 .now) (a .1 .0 .now) (a .1 .1 .0 .now)) r (e .1 .1 .0 .now))
+  compare-tables-says κs a = refl
 
   pub value-rows-says : (κs : Lfts 3) (a : Args value-rows.signature κs)
       → value-rows.clauses 𝓤 H A mem run κs a ≡ Ensures value-rows.ended κs (λ r e. One (lw-value-rows (a .0 .now) (a .1 .0) (a .1 .1 .0 .now) (a .1 .1 .1 .0 .now)) r (e .1 .1 .1 .0 .now))

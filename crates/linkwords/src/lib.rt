@@ -11,6 +11,7 @@ ghost use Rattle.answers.specs.RightSide.{rightSideStart, rightSideLength};
 ghost use Rattle.assignments.specs.Matching.{makeRecord, makeAfter, makeWork};
 ghost use Rattle.windows.specs.Call.{positionsRecord, positionsAfter};
 ghost use Rattle.recordings.specs.Call.{recordingsRecord};
+ghost use Rattle.inclusion.specs.Call.{compareRecord, compareWork};
 ghost use Rattle.jobs.specs.Call.{openRecord, openJob, openWork, stepRecord, stepJob, stepWork, jobAnswerRecord, jobAnswerAfter};
 ghost use Rattle.result_sheets.specs.Page.{pageText};
 use answers::Part;
@@ -96,6 +97,15 @@ pub extern "C" fn lw_compare_recordings(table: &[u16], sent: &[u16], received: &
     ensures record { λ r. ⌜ r ≡ recordingsRecord (now (table .entry)) (now (sent .entry)) (now (received .entry)) ⌝ }
 {
     merger::compare_recordings(table, sent, received)
+}
+
+// Compares two tables with the same variables by the patterns that meet them. They may be the same memory.
+#[no_mangle]
+pub extern "C" fn lw_compare_tables(first: &[u16], second: &[u16], work: &mut [u16]) -> Record
+    ensures record { λ r. ⌜ r ≡ compareRecord (now (first .entry)) (now (second .entry)) (length (now (work .entry))) ⌝ }
+    ensures work { λ _. ⌜ now (work .exit) ≡ compareWork (now (first .entry)) (now (second .entry)) (now (work .entry)) ⌝ }
+{
+    comparer::compare_tables(first, second, work)
 }
 
 // A page of the result sheet of a record and an answer table, by its number.

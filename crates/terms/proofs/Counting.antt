@@ -9,7 +9,7 @@ use native.Mathlib.Omega.{arith}
 use lib.Dec.{eqb, ltb}
 use lib.ListN.{length, drop, length-drop, List·getD-eq-default}
 use lib.Seq.{getD-drop, ext-getD}
-use borrow.Author.Tests.{eqb-true, eq-eqb, ltb-true, lt-ltb}
+use borrow.Author.Tests.{eqb-true, eq-eqb, ne-eqb, ltb-true, lt-ltb}
 use Rattle.laws.proofs.Bools.{not-both, and-parts, and-both, or-left, or-right}
 use Rattle.laws.proofs.Numbers.{lt-or-le, dec-eq}
 use Rattle.terms.specs.declared.Row.{Row}
@@ -333,6 +333,10 @@ some-append f (x ∷ xs) ys = go (some-append f xs ys) (f x)
     go behind true = refl
     go behind false = behind
 
+none-behind : (e : Row) → revised e [] ≡ false
+unfolding revised someRow
+none-behind e = rw (and-false (ltb 0 (e .c)), and-false (eqb (e .kind) 4))
+
 module _ (e : Row) (equation : e .kind ≡ 4) (above : 0 < e .c) where
   alone-behind : (n : ℕ) → someRow (ofLine n) (e ∷ []) ≡ ofLine n e
   unfolding someRow
@@ -391,11 +395,29 @@ module _ (e : Row) (equation : e .kind ≡ 4) (above : 0 < e .c) where
       go false h false k true m = absurd (not-both (revised-before r rs h m) k)
       go false h false k false m = rw k refl
 
-  none-behind : revised e [] ≡ false
-  unfolding revised someRow
-  none-behind = rw (and-false (ltb 0 (e .c)), and-false (eqb (e .kind) 4))
-
   pub counting-behind : (t : List Row) → counting (t ++ (e ∷ [])) ≡ withoutLine (e .c) (counting t) ++ (e ∷ [])
   unfolding counting withoutLine leavingOff
-  counting-behind [] = rw none-behind
+  counting-behind [] = rw (none-behind e)
   counting-behind (r ∷ t) = ap₂ (λ (x : Row) (xs : List Row). x ∷ xs) (one-more r t) (counting-behind t)
+
+-- one without a line number takes no place: all that counted before still counts
+module _ (e : Row) (plain : e .c ≡ 0) where
+  other-line : (r : Row) → ltb 0 (r .c) ≡ true → someRow (ofLine (r .c)) (e ∷ []) ≡ false
+  unfolding someRow ofLine
+  other-line r h = rw (ne-eqb (e .c) (r .c) (λ k. omega (arith, ltb-true 0 (r .c) h, plain)), and-false (eqb (e .kind) 4))
+
+  revised-plain : (r : Row) (rs : List Row) → revised r (rs ++ (e ∷ [])) ≡ revised r rs
+  unfolding revised
+  revised-plain r rs = go (ltb 0 (r .c)) refl
+    where
+      go : (b : Bool) → ltb 0 (r .c) ≡ b
+          → eqb (r .kind) 4 && (b && someRow (ofLine (r .c)) (rs ++ (e ∷ []))) ≡ eqb (r .kind) 4 && (b && someRow (ofLine (r .c)) rs)
+      go true h =
+          ap (λ (x : Bool). eqb (r .kind) 4 && x)
+          (some-append (ofLine (r .c)) rs (e ∷ []) ∙ rw (other-line r h) (or-false (someRow (ofLine (r .c)) rs)))
+      go false h = refl
+
+  pub counting-plain : (t : List Row) → counting (t ++ (e ∷ [])) ≡ counting t ++ (e ∷ [])
+  unfolding counting leavingOff
+  counting-plain [] = rw (none-behind e)
+  counting-plain (r ∷ t) = ap₂ (λ (b : Bool) (xs : List Row). cond b silentRow r ∷ xs) (revised-plain r t) (counting-plain t)

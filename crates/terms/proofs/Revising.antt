@@ -14,7 +14,7 @@ use Rattle.terms.specs.Counting.{LeftOff, withoutLine, TakesItsPlace}
 use Rattle.terms.proofs.ByRows.{rows-snoc}
 use Rattle.terms.proofs.LeavingOff.{alike-values}
 use Rattle.terms.proofs.Satisfies.{agree-at, agree-of}
-use Rattle.terms.proofs.Counting.{unmoved, counting-alike, counting-distinct, counting-once, counting-accepted, without-distinct, without-alike, counting-behind}
+use Rattle.terms.proofs.Counting.{unmoved, counting-alike, counting-distinct, counting-once, counting-accepted, without-distinct, without-alike, counting-behind, counting-plain}
 
 -- the same assignments satisfy what counts
 pub counting-satisfies : (t : List Row) (p : List ℕ) → satisfies (counting t) p ≡ satisfies t p
@@ -54,11 +54,25 @@ agree-blank : (vs : List (List ℕ)) (r : Row) → sidesAgree (vs ++ ([] ∷ [])
 unfolding sidesAgree
 agree-blank vs r = rw (read-blank vs (r .a), read-blank vs (r .b))
 
-module _ (t : List Row) (e : Row) (p : List ℕ) (equation : e .kind ≡ 4) (above : 0 < e .c) where
+-- what counts with the equation behind the table are other rows and the equation
+module _ (t : List Row) (e : Row) (p : List ℕ) (equation : e .kind ≡ 4) where
   values-behind : valuesOf (t ++ (e ∷ [])) p ≡ valuesOf t p ++ ([] ∷ [])
   unfolding valuesOf valueIn byKind
   values-behind = rows-snoc (valueIn p) t e ∙ rw equation
 
+  rest-and : (rest : List Row) → counting (t ++ (e ∷ [])) ≡ rest ++ (e ∷ [])
+      → satisfies (t ++ (e ∷ [])) p ≡ allRows (sidesAgree (valuesOf t p)) rest && sidesAgree (valuesOf t p) e
+  unfolding satisfies
+  rest-and rest counts =
+      ap₂ (λ (vs : List (List ℕ)) (rs : List Row). allRows (sidesAgree vs) rs) values-behind counts
+      ∙ all-same (sidesAgree (valuesOf t p ++ ([] ∷ []))) (sidesAgree (valuesOf t p)) (agree-blank (valuesOf t p)) (rest ++ (e ∷ []))
+      ∙ all-behind (sidesAgree (valuesOf t p)) rest e
+
+  -- without a line number they are all that counted before
+  pub plain-behind : e .c ≡ 0 → satisfies (t ++ (e ∷ [])) p ≡ satisfies t p && sidesAgree (valuesOf t p) e
+  plain-behind plain = rest-and (counting t) (counting-plain e plain t) ∙ unfold satisfies in refl
+
+module _ (t : List Row) (e : Row) (p : List ℕ) (equation : e .kind ≡ 4) (above : 0 < e .c) where
   rest : List Row
   rest = withoutLine (e .c) (counting t)
 
@@ -72,11 +86,9 @@ module _ (t : List Row) (e : Row) (p : List ℕ) (equation : e .kind ≡ 4) (abo
       )
 
   behind-satisfies : satisfies (t ++ (e ∷ [])) p ≡ satisfies rest p && sidesAgree (valuesOf t p) e
-  unfolding satisfies rest
+  unfolding rest
   behind-satisfies =
-      ap₂ (λ (vs : List (List ℕ)) (rs : List Row). allRows (sidesAgree vs) rs) values-behind (counting-behind e equation above t)
-      ∙ all-same (sidesAgree (valuesOf t p ++ ([] ∷ []))) (sidesAgree (valuesOf t p)) (agree-blank (valuesOf t p)) (rest ++ (e ∷ []))
-      ∙ all-behind (sidesAgree (valuesOf t p)) rest e
+      rest-and t e p equation rest (counting-behind e equation above t)
       ∙ ap (λ (b : Bool). b && sidesAgree (valuesOf t p) e) (sym rest-satisfies)
 
   -- an equation behind a table takes the place of the one of its line
