@@ -223,11 +223,11 @@ static void time_round(void)
 static void print_subjects(void)
 {
     printf("\n## Recordings\n\n"
-           "`lw_compare_recordings` on two recordings as long as they can be, beside a merge in C over masks that were\n"
-           "laid out by hand ([bench/masks.c](../bench/masks.c)): it is given no table, and so has nothing to analyse;\n"
-           "that the counters rise it tests first, as the call has to, since a merge goes wrong where they do not. What\n"
-           "it takes without that test is shown too. Its bits are counted by `__builtin_popcount`. Both give the same\n"
-           "record, which is looked at first. The analysis of the sheet is the call without records; it is taken off from\n"
+           "`lw_compare_recordings` on two recordings as long as they can be, beside a merge in C over masks. These were\n"
+           "laid out by hand, and the merge stands in [bench/masks.c](../bench/masks.c): it is given no table, and so has\n"
+           "nothing to analyse; that the counters rise it tests first, as the call has to, since a merge goes wrong where\n"
+           "they do not. What it takes without that test is shown too. Its bits are counted by `__builtin_popcount`. Both\n"
+           "give the same record, which is looked at first. The analysis of the sheet is the call without records; it is taken off from\n"
            "the call's time here and shown apart, since without pairs it can be more than half of it.\n\n"
            "The sheets: in *equal* each of the k words comes back as it was sent; in *marked* so do all but the last,\n"
            "and the last received word is the marker ace1. The words are random, and every %dth pair breaks its sheet.\n"
