@@ -30,7 +30,7 @@ use Rattle.inclusion.specs.Call.{compareStops, compareRecord}
 use Rattle.inclusion.proofs.Patterns.{one-of-four}
 use Rattle.jobs.specs.Prefix.{upTo}
 use Rattle.jobs.specs.Call.{openStops, openRecord, stepStops, stepRecord, jobAnswerStops, jobAnswerRecord}
-use Rattle.calls.specs.Calls.{Call, lw-value, lw-normal-form, lw-read-sheet, lw-solve, lw-make-pattern, lw-marker-positions, lw-compare-recordings, lw-compare-tables, lw-value-rows, lw-normal-form-rows, lw-solve-rows, lw-job-open, lw-job-step, lw-job-preview, lw-job-answer, program, recordOf}
+use Rattle.calls.specs.Calls.{Call, lw-value, lw-normal-form, lw-read-sheet, lw-solve, lw-solve-pieces, lw-make-pattern, lw-marker-positions, lw-compare-recordings, lw-compare-tables, lw-value-rows, lw-normal-form-rows, lw-solve-rows, lw-job-open, lw-job-step, lw-job-preview, lw-job-answer, program, recordOf}
 
 -- A property of these records.
 module _ (P : Record → Type 0) (fine : (r : Record) → r .outcome ≤ 3 → P r) (refused : (n row : ℕ) → 10 ≤ n → n ≢ 18 → P (refusal n row)) where
@@ -156,6 +156,7 @@ module _ (P : Record → Type 0) (fine : (r : Record) → r .outcome ≤ 3 → P
   of-every-record (lw-normal-form table row lent) = form table row _
   of-every-record (lw-read-sheet text lent) = sheet text _
   of-every-record (lw-solve table lent work) = solve table _ _
+  of-every-record (lw-solve-pieces table lent work) = solve table _ _
   of-every-record (lw-make-pattern table rows fresh lent work) = pattern-made table rows fresh _ _
   of-every-record (lw-marker-positions table words lent) = positions table words
   of-every-record (lw-compare-recordings table sent received) = recordings table sent received

@@ -31,7 +31,7 @@ use Rattle.inclusion.proofs.Stops.{stop-first, stop-second}
 use Rattle.jobs.specs.Call.{openRecord, stepRecord, jobAnswerRecord, jobAnswerAfter}
 use Rattle.jobs.specs.Course.{Lent, afterOpen, afterStep, stepTold, answerTold, answerLeft}
 use Rattle.jobs.proofs.Refusals.{refuses, untouched}
-use Rattle.calls.specs.Calls.{Call, lw-value, lw-normal-form, lw-read-sheet, lw-solve, lw-make-pattern, lw-marker-positions, lw-compare-recordings, lw-compare-tables, lw-value-rows, lw-normal-form-rows, lw-solve-rows, lw-job-open, lw-job-step, lw-job-preview, lw-job-answer, program, recordOf, lentTo, leftBy, clears, leftRefused, RefusedWith, Takes, RefusedByEach}
+use Rattle.calls.specs.Calls.{Call, lw-value, lw-normal-form, lw-read-sheet, lw-solve, lw-solve-pieces, lw-make-pattern, lw-marker-positions, lw-compare-recordings, lw-compare-tables, lw-value-rows, lw-normal-form-rows, lw-solve-rows, lw-job-open, lw-job-step, lw-job-preview, lw-job-answer, program, recordOf, lentTo, leftBy, clears, leftRefused, RefusedWith, Takes, RefusedByEach}
 use Rattle.calls.proofs.Outcomes.{of-every-record}
 
 -- ---- what is lent stays as it was
@@ -125,6 +125,7 @@ left-by (lw-value table row pattern value) l = one (value-left table row pattern
 left-by (lw-normal-form table row form) l = one (form-left table row form l)
 left-by (lw-read-sheet sheet table) l = one (table-left sheet table l)
 left-by (lw-solve table answer work) l = two (answer-left table answer (length work) l) (work-left table (length answer) work l)
+left-by (lw-solve-pieces table answer work) l = two (answer-left table answer (length work) l) (work-left table (length answer) work l)
 left-by (lw-make-pattern table answer fresh pattern work) l =
     two (pattern-left table answer fresh pattern (length work) l) (area-left table answer fresh (length pattern) work l)
 left-by (lw-marker-positions table words list) l = one (list-left table words list l)
@@ -210,6 +211,7 @@ module _ (t : List ℕ) (h : isAccepted (firstFault t) ≡ false) where
   by-each (lw-normal-form table row form) e = rw e (by-form row (length form))
   by-each (lw-read-sheet sheet table) e = absurd e
   by-each (lw-solve table answer work) e = rw (e .0) (by-solve answer work (e .1) (e .2))
+  by-each (lw-solve-pieces table answer work) e = rw (e .0) (by-solve answer work (e .1) (e .2))
   by-each (lw-make-pattern table answer fresh pattern work) e = rw (e .0) (by-make answer fresh (length pattern) work (e .1))
   by-each (lw-marker-positions table words list) e = rw e (by-positions words)
   by-each (lw-compare-recordings table sent received) e = rw e (by-recordings sent received)
@@ -228,6 +230,7 @@ module _ (t : List ℕ) (h : isAccepted (firstFault t) ≡ false) where
   as-lent (lw-normal-form table row form) = refl
   as-lent (lw-read-sheet sheet table) = refl
   as-lent (lw-solve table answer work) = refl
+  as-lent (lw-solve-pieces table answer work) = refl
   as-lent (lw-make-pattern table answer fresh pattern work) = rw (fault-keeps (firstFault t)) refl
   as-lent (lw-marker-positions table words list) = refl
   as-lent (lw-compare-recordings table sent received) = refl

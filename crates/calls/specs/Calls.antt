@@ -31,6 +31,7 @@ pub data Call : Type 0 where
   lw-normal-form : (table : List ℕ) (row : ℕ) (form : List ℕ) → Call
   lw-read-sheet : (sheet table : List ℕ) → Call
   lw-solve : (table answer work : List ℕ) → Call
+  lw-solve-pieces : (table answer work : List ℕ) → Call
   lw-make-pattern : (table answer fresh pattern work : List ℕ) → Call
   lw-marker-positions : (table words list : List ℕ) → Call
   lw-compare-recordings : (table sent received : List ℕ) → Call
@@ -50,6 +51,7 @@ recordOf (lw-value table row pattern value) = valueRecord table row pattern (len
 recordOf (lw-normal-form table row form) = formRecord table row (length form)
 recordOf (lw-read-sheet sheet table) = sheetRecord sheet (length table)
 recordOf (lw-solve table answer work) = solveRecord table (length answer) (length work)
+recordOf (lw-solve-pieces table answer work) = solveRecord table (length answer) (length work)
 recordOf (lw-make-pattern table answer fresh pattern work) = makeRecord table answer fresh (length pattern) (length work)
 recordOf (lw-marker-positions table words list) = positionsRecord table words
 recordOf (lw-compare-recordings table sent received) = recordingsRecord table sent received
@@ -69,6 +71,7 @@ lentTo (lw-value table row pattern value) = value ∷ []
 lentTo (lw-normal-form table row form) = form ∷ []
 lentTo (lw-read-sheet sheet table) = table ∷ []
 lentTo (lw-solve table answer work) = answer ∷ work ∷ []
+lentTo (lw-solve-pieces table answer work) = answer ∷ work ∷ []
 lentTo (lw-make-pattern table answer fresh pattern work) = pattern ∷ work ∷ []
 lentTo (lw-marker-positions table words list) = list ∷ []
 lentTo (lw-compare-recordings table sent received) = []
@@ -88,6 +91,7 @@ leftBy (lw-value table row pattern value) = valueAfter table row pattern value �
 leftBy (lw-normal-form table row form) = formAfter table row form ∷ []
 leftBy (lw-read-sheet sheet table) = tableAfter sheet table ∷ []
 leftBy (lw-solve table answer work) = answerAfter table answer (length work) ∷ workAfter table (length answer) work ∷ []
+leftBy (lw-solve-pieces table answer work) = answerAfter table answer (length work) ∷ workAfter table (length answer) work ∷ []
 leftBy (lw-make-pattern table answer fresh pattern work) =
     makeAfter table answer fresh pattern (length work) ∷ makeWork table answer fresh (length pattern) work ∷ []
 leftBy (lw-marker-positions table words list) = positionsAfter table words list ∷ []
@@ -115,6 +119,7 @@ leftRefused number (lw-value table row pattern value) = lentTo (lw-value table r
 leftRefused number (lw-normal-form table row form) = lentTo (lw-normal-form table row form)
 leftRefused number (lw-read-sheet sheet table) = lentTo (lw-read-sheet sheet table)
 leftRefused number (lw-solve table answer work) = lentTo (lw-solve table answer work)
+leftRefused number (lw-solve-pieces table answer work) = lentTo (lw-solve-pieces table answer work)
 leftRefused number (lw-make-pattern table answer fresh pattern work) = pattern ∷ cond (clears number) (replicate (length work) 0) work ∷ []
 leftRefused number (lw-marker-positions table words list) = lentTo (lw-marker-positions table words list)
 leftRefused number (lw-compare-recordings table sent received) = lentTo (lw-compare-recordings table sent received)
@@ -143,6 +148,7 @@ Takes t (lw-value table row pattern value) = table ≡ t
 Takes t (lw-normal-form table row form) = table ≡ t
 Takes t (lw-read-sheet sheet table) = ⊥
 Takes t (lw-solve table answer work) = (table ≡ t) × (24576 ≤ length answer) × (16384 ≤ length work)
+Takes t (lw-solve-pieces table answer work) = (table ≡ t) × (24576 ≤ length answer) × (16384 ≤ length work)
 Takes t (lw-make-pattern table answer fresh pattern work) = (table ≡ t) × (16384 ≤ length work)
 Takes t (lw-marker-positions table words list) = table ≡ t
 Takes t (lw-compare-recordings table sent received) = table ≡ t

@@ -17,11 +17,12 @@ use denote.Triple.Entry.{Args, Res}
 use denote.Triple.Clauses.{Ended, AtExit, ClausesAt}
 use Rattle.terms.specs.declared.Record.{Record}
 use Rattle.jobs.specs.declared.Job.{Job}
-use Rattle.calls.specs.Calls.{Call, lw-value, lw-normal-form, lw-read-sheet, lw-solve, lw-make-pattern, lw-marker-positions, lw-compare-recordings, lw-compare-tables, lw-value-rows, lw-normal-form-rows, lw-solve-rows, lw-job-open, lw-job-step, lw-job-preview, lw-job-answer, recordOf, leftBy}
+use Rattle.calls.specs.Calls.{Call, lw-value, lw-normal-form, lw-read-sheet, lw-solve, lw-solve-pieces, lw-make-pattern, lw-marker-positions, lw-compare-recordings, lw-compare-tables, lw-value-rows, lw-normal-form-rows, lw-solve-rows, lw-job-open, lw-job-step, lw-job-preview, lw-job-answer, recordOf, leftBy}
 use Rattle.linkwords.proofs.lw_value as value
 use Rattle.linkwords.proofs.lw_normal_form as normal-form
 use Rattle.linkwords.proofs.lw_read_sheet as read-sheet
 use Rattle.linkwords.proofs.lw_solve as solve
+use Rattle.linkwords.proofs.lw_solve_pieces as solve-pieces
 use Rattle.linkwords.proofs.lw_make_pattern as make-pattern
 use Rattle.linkwords.proofs.lw_marker_positions as marker-positions
 use Rattle.linkwords.proofs.lw_compare_recordings as compare-recordings
@@ -67,6 +68,10 @@ module _ {M : Type 1} (𝓤 : URA M) (H : Heap 𝓤) (A : Atoms 𝓤) (mem : Mem
   pub solve-says : (κs : Lfts 3) (a : Args solve.signature κs)
       → solve.clauses 𝓤 H A mem run κs a ≡ Ensures solve.ended κs (λ r e. Two (lw-solve (a .0 .now) (a .1 .0 .now) (a .1 .1 .0 .now)) r (e .1 .0 .now) (e .1 .1 .0 .now))
   solve-says κs a = refl
+
+  pub solve-pieces-says : (κs : Lfts 3) (a : Args solve-pieces.signature κs)
+      → solve-pieces.clauses 𝓤 H A mem run κs a ≡ Ensures solve-pieces.ended κs (λ r e. Two (lw-solve-pieces (a .0 .now) (a .1 .0 .now) (a .1 .1 .0 .now)) r (e .1 .0 .now) (e .1 .1 .0 .now))
+  solve-pieces-says κs a = refl
 
   pub make-pattern-says : (κs : Lfts 5) (a : Args make-pattern.signature κs)
       → make-pattern.clauses 𝓤 H A mem run κs a ≡ Ensures make-pattern.ended κs (λ r e. Two (lw-make-pattern (a .0 .now) (a .1 .0 .now) (a .1 .1 .0 .now) (a .1 .1 .1 .0 .now) (a .1 .1 .1 .1 .0 .now)) r (e .1 .1 .1 .0 .now) (e .1 .1 .1 .1 .0 .now))

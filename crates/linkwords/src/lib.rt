@@ -57,6 +57,16 @@ pub extern "C" fn lw_solve(table: &[u16], answer: &mut [u16], work: &mut [u16]) 
     solver::solve(table, answer, work)
 }
 
+// Solves a table in whole pieces: what `lw_solve` says of it, number by number.
+#[no_mangle]
+pub extern "C" fn lw_solve_pieces(table: &[u16], answer: &mut [u16], work: &mut [u16]) -> Record
+    ensures record { λ r. ⌜ r ≡ solveRecord (now (table .entry)) (length (now (answer .entry))) (length (now (work .entry))) ⌝ }
+    ensures answer { λ _. ⌜ now (answer .exit) ≡ answerAfter (now (table .entry)) (now (answer .entry)) (length (now (work .entry))) ⌝ }
+    ensures work { λ _. ⌜ now (work .exit) ≡ workAfter (now (table .entry)) (length (now (answer .entry))) (now (work .entry)) ⌝ }
+{
+    piecewise::solve(table, answer, work)
+}
+
 // Where the right side of a variable stands in an answer table.
 #[no_mangle]
 pub extern "C" fn lw_right_side(answer: &[u16], rows_in_use: usize, variable: usize) -> Part

@@ -17,7 +17,7 @@ use Rattle.pieces.specs.inner.Pieces.{pieceAt}
 use Rattle.sides.specs.declared.Reader.{Reader}
 use Rattle.sides.specs.inner.Reading.{stepped, sourcesIn, spelled, firstIn, nextIn, risen, Stands}
 
-stepped-length : (x step n : ℕ) → length (stepped x step n) ≡ n
+pub stepped-length : (x step n : ℕ) → length (stepped x step n) ≡ n
 unfolding stepped
 stepped-length x step zero = refl
 stepped-length x step (suc n) = ap suc (stepped-length ((x + step) % 65536) step n)
@@ -112,7 +112,7 @@ module _ (lows form : List ℕ) where
   spelled-early n zero k l = ap (λ (m : ℕ). getD (spelled lows form m) k 0) (zero-add n)
   spelled-early n (suc d) k l = rw (suc-add d n) (spelled-one (d + n) k (omega (arith, spelled-longer n d)) ∙ spelled-early n d k l)
 
-  longer : (m n : ℕ) → n ≤ m → length (spelled lows form n) ≤ length (spelled lows form m)
+  pub longer : (m n : ℕ) → n ≤ m → length (spelled lows form n) ≤ length (spelled lows form m)
   longer m n h = let e : m - n + n ≡ m = omega arith in omega (arith, spelled-longer n (m - n), ap (λ (j : ℕ). length (spelled lows form j)) e)
 
   -- the source of a reader that stands at bit k is source k of what the pieces spell

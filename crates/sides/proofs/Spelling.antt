@@ -32,10 +32,10 @@ unfoldable pub namedAll : List ℕ → List Piece → List ℕ
 namedAll ls [] = []
 namedAll ls (p ∷ form) = named ls p ++ namedAll ls form
 
--- a piece that is a fill or lies within a variable; no low source is above n
+-- a piece that is a fill or lies within a variable, whose sources are 2 at least; no low source is above n
 pub record Lies (n : ℕ) (ls : List ℕ) (p : Piece) : Type 0 where
   pub in-order : p .low ≤ p .high
-  pub inside : ltb (p .kind) 2 ≡ false → p .high ≤ getD ls (p .variable) 0
+  pub inside : ltb (p .kind) 2 ≡ false → p .high + 2 ≤ getD ls (p .variable) 0
   pub small : ltb (p .kind) 2 ≡ false → getD ls (p .variable) 0 ≤ n
 
 pub data AllLie (n : ℕ) (ls : List ℕ) : List Piece → Type 0 where

@@ -15,7 +15,7 @@ pub struct Reader {
 }
 
 // The reader at the first bit of a piece.
-fn begin(lows: &[u16], form: &[u16], piece: u16) -> Reader
+pub fn begin(lows: &[u16], form: &[u16], piece: u16) -> Reader
     ensures { λ at. ⌜ at ≡ firstIn (now (lows .entry)) (now (form .entry)) piece ⌝ }
 {
     let p = pieces::piece_at(form, numbers::wide(piece));

@@ -1,0 +1,3 @@
+pub mod SideBySide
+pub mod Ends
+pub mod Cuts
