@@ -4,7 +4,7 @@
 
       compare_bench [ROUNDS]
 
-  Prints a part of docs/BENCHMARKS.md, in medians of ROUNDS rounds (301 if not
+  Prints a part of docs/BENCHMARKS-CALLS.md, in medians of ROUNDS rounds (301 if not
   given). The tables are those of solve_bench, each compared with itself and with
   itself without its last equation.
 
@@ -138,7 +138,7 @@ static bool print_comparisons(void)
     bool met = true;
 
     printf("\n## Two tables compared\n\n"
-           "`lw_compare_tables` on the tables above, each with itself and with itself without its last equation (in its\n"
+           "`lw_compare_tables` on tables of that page, each with itself and with itself without its last equation (in its\n"
            "place stands a fill of one bit), beside `lw_solve` of both, and beside the plain comparison in C (`ref_check`\n"
            "of both, then `plain_compare_classes` of [host/plain_compare.c](../host/plain_compare.c)). Its outcome is first\n"
            "compared with that of the latter. Ratios are the call's time to the other.\n\n"

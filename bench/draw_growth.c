@@ -1,20 +1,22 @@
 /*
-  draw_growth.c -- the picture docs/growth.svg, from what solve_bench measured
+  draw_growth.c -- the pictures docs/growth.svg and docs/pieces.svg, from what
+  solve_bench and pieces_bench measured
 
       draw_growth <build/growth.points >growth.svg
 
-  A line of the input begins a panel, whose horizontal axis it names, or a line
-  of the panel, which it names too, or is a point of that line, its amount and
-  its time in microseconds:
+  The first line of the input is the title. Each other one begins a panel, whose
+  horizontal axis it names, or a line of the panel, which it names too, or is a
+  point of that line, its amount and its time in microseconds:
 
+      title How the time of lw_solve grows
       panel bit pairs
       line Equations, in turned
       8192 101.250
 
-  Both axes are logarithmic, and the panels have one vertical axis. A dashed line
-  shows what growth in proportion would be, from the least point of a panel on.
-  Each line has a colour that a colour-blind reader can tell from the others, and
-  a mark of its own.
+  There are two panels, or one, which is wider then. Both axes are logarithmic, and
+  the panels have one vertical axis. A dashed line shows what growth in proportion
+  would be, from the least point of a panel on. Each line has a colour that a
+  colour-blind reader can tell from the others, and a mark of its own.
 
   The exit status is 0, or 2 if the input is none or the output fails.
 */
@@ -43,6 +45,7 @@ typedef struct {
     size_t count;
 } panel;
 
+static char title[NAME];
 static panel panels[PANELS];
 static size_t panel_count, styles;
 
@@ -63,6 +66,12 @@ static bool take(const char *text)
     char name[NAME] = "";
     point at;
 
+    if (named(text, "title", name)) {
+        if (title[0] != '\0' || panel_count != 0)
+            return false;
+        memcpy(title, name, NAME);
+        return true;
+    }
     if (named(text, "panel", name)) {
         if (panel_count == PANELS)
             return false;
@@ -91,7 +100,7 @@ static bool read_all(void)
     for (size_t i = 0; i < panel_count; i++)
         if (panels[i].count == 0 || panels[i].lines[0].count == 0)
             return false;
-    return panel_count == PANELS;
+    return panel_count != 0 && title[0] != '\0';
 }
 
 /* Places in the picture. */
@@ -100,13 +109,19 @@ enum { WIDTH = 960, HEIGHT = 520, TOP = 76, PLOT_WIDTH = 360, PLOT_HEIGHT = 300,
 
 static double low_y, high_y; /* of the vertical axis */
 
+/* Of a panel: one alone is as wide as two with the room between them. */
+static double plot_width(void)
+{
+    return panel_count == 1 ? STEP + PLOT_WIDTH : PLOT_WIDTH;
+}
+
 typedef struct {
     double left, low, high; /* where the panel begins, and the ends of its horizontal axis */
 } frame;
 
 static double place_x(frame f, double x)
 {
-    return f.left + INSET + (PLOT_WIDTH - 2 * INSET) * log(x / f.low) / log(f.high / f.low);
+    return f.left + INSET + (plot_width() - 2 * INSET) * log(x / f.low) / log(f.high / f.low);
 }
 
 static double place_y(double y)
@@ -210,7 +225,7 @@ static void mark(size_t style, double x, double y)
 static void draw_heights(frame f, bool numbers)
 {
     for (double y = low_y; y <= high_y * 1.001; y = after(y)) {
-        rule(f.left, place_y(y), f.left + PLOT_WIDTH, place_y(y), "stroke=\"#e0e0e0\"");
+        rule(f.left, place_y(y), f.left + plot_width(), place_y(y), "stroke=\"#e0e0e0\"");
         if (numbers)
             number_at(f.left - 8, place_y(y) + 4, "end", y);
     }
@@ -224,7 +239,7 @@ static void draw_amounts(const panel *p, frame f)
         rule(place_x(f, x), TOP + PLOT_HEIGHT, place_x(f, x), TOP + PLOT_HEIGHT + 5, "stroke=\"#404040\"");
         number_at(place_x(f, x), TOP + PLOT_HEIGHT + 20, "middle", x);
     }
-    text_at(f.left + PLOT_WIDTH / 2.0, TOP + PLOT_HEIGHT + 42, "middle", 14, p->label);
+    text_at(f.left + plot_width() / 2.0, TOP + PLOT_HEIGHT + 42, "middle", 14, p->label);
 }
 
 static void draw_line(const line *l, frame f)
@@ -263,8 +278,8 @@ static void draw_panel(size_t i)
 
     draw_heights(f, i == 0);
     draw_amounts(p, f);
-    printf("<rect x=\"%.1f\" y=\"%d\" width=\"%d\" height=\"%d\" fill=\"none\" stroke=\"#404040\"/>\n", f.left, TOP,
-           PLOT_WIDTH, PLOT_HEIGHT);
+    printf("<rect x=\"%.1f\" y=\"%d\" width=\"%.0f\" height=\"%d\" fill=\"none\" stroke=\"#404040\"/>\n", f.left, TOP,
+           plot_width(), PLOT_HEIGHT);
     draw_proportion(i, f);
     for (size_t k = 0; k < p->count; k++)
         draw_line(&p->lines[k], f);
@@ -276,9 +291,9 @@ static void draw_all(void)
     printf("<svg xmlns=\"http://www.w3.org/2000/svg\" viewBox=\"0 0 %d %d\" width=\"%d\" height=\"%d\" "
            "font-family=\"sans-serif\" fill=\"#202020\">\n",
            WIDTH, HEIGHT, WIDTH, HEIGHT);
-    printf("<title>How the time of lw_solve grows</title>\n");
+    printf("<title>%s</title>\n", title);
     printf("<rect width=\"%d\" height=\"%d\" fill=\"#ffffff\"/>\n", WIDTH, HEIGHT);
-    text_at(WIDTH / 2.0, 34, "middle", 20, "How the time of lw_solve grows");
+    text_at(WIDTH / 2.0, 34, "middle", 20, title);
     text_at(WIDTH / 2.0, 58, "middle", 13,
             "Both axes are logarithmic. A line that is flatter than the dashed one grows more slowly.");
     printf("<text transform=\"translate(26 %d) rotate(-90)\" text-anchor=\"middle\" font-size=\"14\">"

@@ -3,7 +3,7 @@
 
       job_bench [ROUNDS]
 
-  Prints the part of docs/BENCHMARKS.md on jobs, in medians of ROUNDS rounds (301
+  Prints the part of docs/BENCHMARKS-CALLS.md on jobs, in medians of ROUNDS rounds (301
   if not given), for all steps of a job of every tenth of them. The tables are
   those of solve_bench, and one whose row 0 has 1024 bits.
 
@@ -216,7 +216,7 @@ static bool print_calls(void)
     printf("\n## Jobs\n\n"
            "The calls of a job against `lw_solve` of the whole table, in the same round: opening; the last step, which\n"
            "reads all equations and tests the job; and the answer behind it, which writes the answer table. Each step's\n"
-           "record and answer are first compared with those of `lw_solve`. The tables are those above; in wide, row 0\n"
+           "record and answer are first compared with those of `lw_solve`. The tables are of that page; in wide, row 0\n"
            "has 1,024 bits, as have three variables more, and 64 equations are between these, turned at odd places.\n\n"
            "| table | `lw_solve`, µs | open, µs | ratio | goal | last step, µs | ratio | goal | answer, µs | ratio | goal |\n"
            "|---|---:|---:|---:|---|---:|---:|---|---:|---:|---|\n");

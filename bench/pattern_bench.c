@@ -3,7 +3,7 @@
 
       pattern_bench [ROUNDS]
 
-  Prints the part of docs/BENCHMARKS.md on patterns, in medians of ROUNDS rounds
+  Prints the part of docs/BENCHMARKS-CALLS.md on patterns, in medians of ROUNDS rounds
   (301 if not given). The tables are those of solve_bench.
 
   The exit status is 0 if the goals are met, 1 if one is missed, and 2 if not all

@@ -4,7 +4,7 @@
 
       positions_bench [ROUNDS]
 
-  Prints a part of docs/BENCHMARKS.md. The analysis of a table is timed in ROUNDS
+  Prints a part of docs/BENCHMARKS-CALLS.md. The analysis of a table is timed in ROUNDS
   rounds (301 if not given), the searches in every 10th of them, and what takes
   seconds in every 100th.
 

@@ -4,7 +4,7 @@
 
       recordings_bench [ROUNDS]
 
-  Prints a part of docs/BENCHMARKS.md, in medians of ROUNDS rounds (301 if not
+  Prints a part of docs/BENCHMARKS-CALLS.md, in medians of ROUNDS rounds (301 if not
   given).
 
   The exit status is 0 if the goals are met, 1 if one is missed, and 2 if not all

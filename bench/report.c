@@ -215,6 +215,7 @@ static void print_panel(FILE *out, growth *g, size_t count, bool by_rows)
 
 void print_points(FILE *out, growth *g, size_t count)
 {
+    fprintf(out, "title How the time of lw_solve grows\n");
     print_panel(out, g, count, false);
     print_panel(out, g, count, true);
 }

@@ -4,7 +4,7 @@
 
       solve_bench [ROUNDS]
 
-  Prints the measured part of docs/BENCHMARKS.md, in medians of ROUNDS rounds
+  Prints the part of docs/BENCHMARKS.md on lw_solve, in medians of ROUNDS rounds
   (301 if not given); what is compared is said in run, which prints the rest. The
   growth is written to build/growth.points too, for draw_growth. z3
   is slow and has its turn in every 25th round only; it is left out where it is

@@ -9,55 +9,9 @@
 #define TABLES_H
 
 #include "linkwords.h"
-#include "random_table.h"
+#include "made_table.h"
 
 enum { EQUATIONS = 64, WIDTH = 1024 };
-
-/* Rows. */
-
-static inline void variables(draft *d, size_t count, size_t width)
-{
-    while (d->variables < count)
-        add_row(d, width, VARIABLE(width));
-}
-
-static inline size_t join(draft *d, size_t a, size_t b)
-{
-    return add_row(d, d->width[a] + d->width[b], JOIN(a, b));
-}
-
-static inline size_t cut(draft *d, size_t a, size_t high, size_t low)
-{
-    return add_row(d, high - low + 1, CUT(a, high, low));
-}
-
-/* Rows from v on joined two by two, four by four and so on; count is a power of 2, up to 16. */
-static inline size_t doubled(draft *d, size_t v, size_t count)
-{
-    size_t words[16];
-    for (size_t i = 0; i < count; i++)
-        words[i] = v + i;
-    for (; count != 1; count /= 2)
-        for (size_t i = 0; i < count / 2; i++)
-            words[i] = join(d, words[2 * i], words[2 * i + 1]);
-    return words[0];
-}
-
-/* A word turned: cut at an odd place, its low part before its high part. */
-static inline size_t turned(draft *d, size_t word)
-{
-    size_t width = d->width[word], at = 2 * below(width / 2) + 1, low = cut(d, word, at - 1, 0);
-    return join(d, low, cut(d, word, width - 1, at));
-}
-
-/* 64 equations between sides, each of two different ones. */
-static inline void equate(draft *d, const size_t *sides, size_t count)
-{
-    for (size_t e = 0; e < EQUATIONS; e++) {
-        size_t a = below(count), b = (a + 1 + below(count - 1)) % count;
-        add_row(d, 0, EQUATION(sides[a], sides[b]));
-    }
-}
 
 /* Line numbers for the equations, so many different ones, in turn: with 32 of them the last 32 of 64 revise the others. */
 static inline void give_lines(draft *d, size_t lines)

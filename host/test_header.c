@@ -79,10 +79,10 @@ static void test_calls(void)
         void (*call)(void);
     } calls[] = {
 #define CALL(name) {#name "(", (void (*)(void))name}
-        CALL(lw_value), CALL(lw_normal_form), CALL(lw_read_sheet), CALL(lw_solve), CALL(lw_right_side),
-        CALL(lw_make_pattern), CALL(lw_marker_positions), CALL(lw_compare_recordings), CALL(lw_compare_tables), CALL(lw_page),
-        CALL(lw_job_open), CALL(lw_job_step), CALL(lw_job_preview), CALL(lw_job_answer), CALL(lw_value_rows),
-        CALL(lw_normal_form_rows), CALL(lw_solve_rows),
+        CALL(lw_value), CALL(lw_normal_form), CALL(lw_read_sheet), CALL(lw_solve), CALL(lw_solve_pieces),
+        CALL(lw_right_side), CALL(lw_make_pattern), CALL(lw_marker_positions), CALL(lw_compare_recordings),
+        CALL(lw_compare_tables), CALL(lw_page), CALL(lw_job_open), CALL(lw_job_step), CALL(lw_job_preview),
+        CALL(lw_job_answer), CALL(lw_value_rows), CALL(lw_normal_form_rows), CALL(lw_solve_rows),
 #undef CALL
     };
 

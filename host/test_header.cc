@@ -19,6 +19,7 @@ INTERFACE(lw_value, lw_record, LENT(uint16_t), size_t, LENT(uint8_t), OUT(uint8_
 INTERFACE(lw_normal_form, lw_record, LENT(uint16_t), size_t, OUT(uint16_t));
 INTERFACE(lw_read_sheet, lw_record, LENT(uint8_t), OUT(uint16_t));
 INTERFACE(lw_solve, lw_record, LENT(uint16_t), OUT(uint16_t), OUT(uint16_t));
+INTERFACE(lw_solve_pieces, lw_record, LENT(uint16_t), OUT(uint16_t), OUT(uint16_t));
 INTERFACE(lw_right_side, lw_part, LENT(uint16_t), size_t, size_t);
 INTERFACE(lw_make_pattern, lw_record, LENT(uint16_t), LENT(uint16_t), LENT(uint8_t), OUT(uint8_t), OUT(uint16_t));
 INTERFACE(lw_marker_positions, lw_record, LENT(uint16_t), LENT(uint16_t), OUT(uint32_t));
@@ -52,6 +53,7 @@ int main()
     check("lw_normal_form", lw_normal_form(NOTHING, 0, NOTHING).outcome, LW_REFUSED_ROW);
     check("lw_read_sheet", lw_read_sheet(NOTHING, NOTHING).outcome, LW_REFUSED_NAMES);
     check("lw_solve", lw_solve(NOTHING, NOTHING, NOTHING).outcome, LW_REFUSED_MEMORY);
+    check("lw_solve_pieces", lw_solve_pieces(NOTHING, NOTHING, NOTHING).outcome, LW_REFUSED_MEMORY);
     check("lw_right_side", lw_right_side(NOTHING, 0, 0).len, 0);
     check("lw_make_pattern", lw_make_pattern(NOTHING, NOTHING, NOTHING, NOTHING, NOTHING).outcome, LW_REFUSED_MEMORY);
     check("lw_marker_positions", lw_marker_positions(NOTHING, NOTHING, NOTHING).outcome, LW_REFUSED_WINDOW);

@@ -6,9 +6,10 @@
   TABLES random tables (20000 if not given), sound and with one fault or two,
   and runs of up to 70000 rows. Each call is made twice on guarded buffers of
   the same content: on rows, and on the numbers of these rows by the call on
-  numbers. The two records and every byte of the buffers must be the same, and
-  the rows unchanged. And each refusal of a table by itself, with the number and
-  the row that the specification gives.
+  numbers, for a solve by both of them, lw_solve and lw_solve_pieces. The records
+  and every byte of the buffers must be the same, and the rows unchanged. And each
+  refusal of a table by itself, with the number and the row that the specification
+  gives.
 */
 
 #include "guard.h"
@@ -67,20 +68,29 @@ static void form(const uint16_t *numbers, size_t count, size_t row, size_t room)
     outcomes[wanted.outcome]++;
 }
 
-static void solve(const uint16_t *numbers, size_t count, size_t answer_len, size_t work_len)
+typedef lw_record solver(const uint16_t *, size_t, uint16_t *, size_t, uint16_t *, size_t);
+
+static void solve_by(solver *by, const char *name, const uint16_t *numbers, size_t count, size_t answer_len,
+                     size_t work_len)
 {
     guarded r = records(numbers, count);
     guarded answer = guard(NULL, 2 * answer_len), want_answer = guard(NULL, 2 * answer_len);
     guarded work = guard(NULL, 2 * work_len), want_work = guard(NULL, 2 * work_len);
-    lw_record wanted = lw_solve(numbers, 4 * count, guarded_buffer(&want_answer), answer_len,
-                                guarded_buffer(&want_work), work_len);
+    lw_record wanted = by(numbers, 4 * count, guarded_buffer(&want_answer), answer_len, guarded_buffer(&want_work),
+                          work_len);
     lw_record found = lw_solve_rows(guarded_buffer(&r), count, guarded_buffer(&answer), answer_len,
                                     guarded_buffer(&work), work_len);
-    check_record(HERE, "lw_solve_rows", found, wanted);
+    check_record(HERE, name, found, wanted);
     same(&answer, &want_answer, "answer");
     same(&work, &want_work, "work");
     guard_check(&r, HERE, "rows of a solve");
     outcomes[wanted.outcome]++;
+}
+
+static void solve(const uint16_t *numbers, size_t count, size_t answer_len, size_t work_len)
+{
+    solve_by(lw_solve, "lw_solve_rows, lw_solve", numbers, count, answer_len, work_len);
+    solve_by(lw_solve_pieces, "lw_solve_rows, lw_solve_pieces", numbers, count, answer_len, work_len);
 }
 
 static void all_three(const uint16_t *numbers, size_t count, size_t bits)

@@ -1,15 +1,16 @@
 /*
-  test_solve.c -- tests of lw_solve and lw_right_side
+  test_solve.c -- tests of lw_solve, lw_solve_pieces and lw_right_side
 
       test_solve [TABLES]
 
-  First answers and refusals worked by hand, and the right sides. Then TABLES
-  random tables of up to 14 variable bits (100000 if not given), on which the
-  library is compared with the enumeration of all patterns (enumerate.c), and so
-  is the plain solver (plain_solver.c); a fifth as many tables that are damaged;
-  and 2000 tables of up to 4096 variable bits, on which the library is compared
-  with the plain solver. Every call is made on guarded buffers, and its record
-  and every number of every buffer are compared.
+  Every table goes through both solvers. First answers and refusals worked by
+  hand, and the right sides. Then TABLES random tables of up to 14 variable bits
+  (100000 if not given), on which the library is compared with the enumeration of
+  all patterns (enumerate.c), and so is the plain solver (plain_solver.c); a fifth
+  as many tables that are damaged; and 2000 tables of up to 4096 variable bits, on
+  which the library is compared with the plain solver. Every call is made on
+  guarded buffers, and its record and every number of every buffer are compared.
+  What lw_solve_pieces is most likely to get wrong is in test_pieces.c.
 
   The run fails too if some kind of random table is too rare; so there should be
   at least 1000.
@@ -89,6 +90,14 @@ static void check_parts(where at, const uint16_t *numbers, size_t len, const uin
                (lw_part){0, 0});
 }
 
+/* The two solvers, of which all that is tested here is asked. */
+typedef struct {
+    const char *name;
+    lw_record (*solve)(const uint16_t *, size_t, uint16_t *, size_t, uint16_t *, size_t);
+} solver;
+
+static const solver solvers[] = {{"lw_solve", lw_solve}, {"lw_solve_pieces", lw_solve_pieces}};
+
 /*
   One call: the record; table unchanged; want_answer as the first
   6 * want.pieces numbers of the answer table, and behind them what was there
@@ -96,8 +105,9 @@ static void check_parts(where at, const uint16_t *numbers, size_t len, const uin
   there before. Where content is not NULL, both buffers have its numbers before
   the call.
 */
-static void call(where at, const char *name, const uint16_t *numbers, size_t len, const uint16_t *content,
-                 size_t answer_len, size_t work_len, lw_record want, const uint16_t *want_answer)
+static void call_one(const solver *s, where at, const char *name, const uint16_t *numbers, size_t len,
+                     const uint16_t *content, size_t answer_len, size_t work_len, lw_record want,
+                     const uint16_t *want_answer)
 {
     unsigned long failed = checks_failed;
     guarded t = guard(numbers, len * sizeof *numbers);
@@ -105,7 +115,7 @@ static void call(where at, const char *name, const uint16_t *numbers, size_t len
     guarded w = guard(content, work_len * sizeof *content);
     static uint16_t start[6 * 16]; /* of the answer, to be printed */
 
-    lw_record got = lw_solve(guarded_buffer(&t), len, guarded_buffer(&a), answer_len, guarded_buffer(&w), work_len);
+    lw_record got = s->solve(guarded_buffer(&t), len, guarded_buffer(&a), answer_len, guarded_buffer(&w), work_len);
     if (want.outcome == 2)
         guard_expect(&a, want_answer, 6 * want.pieces * sizeof *want_answer);
     if (want.outcome <= 2)
@@ -119,13 +129,21 @@ static void call(where at, const char *name, const uint16_t *numbers, size_t len
     guard_check(&a, at, "answer");
     guard_check(&w, at, "work area");
     if (checks_failed != failed && failed == 0) {
-        printf("  %s, answer of %zu numbers, work area of %zu\n", name, answer_len, work_len);
+        printf("  %s: %s, answer of %zu numbers, work area of %zu\n", s->name, name, answer_len, work_len);
         print_table(numbers, len);
         if (want.outcome == 2 && got.outcome == 2) {
             print_answer("answer", start, got.pieces);
             print_answer("expected", want_answer, want.pieces);
         }
     }
+}
+
+/* One call to each solver. */
+static void call(where at, const char *name, const uint16_t *numbers, size_t len, const uint16_t *content,
+                 size_t answer_len, size_t work_len, lw_record want, const uint16_t *want_answer)
+{
+    for (size_t i = 0; i < COUNT(solvers); i++)
+        call_one(&solvers[i], at, name, numbers, len, content, answer_len, work_len, want, want_answer);
 }
 
 /* What a solve yields and writes, 10 to 17 and 40 by the reference and the rest by the plain solver. */
@@ -259,7 +277,7 @@ static void test_worked(void)
 }
 
 /* The specification's sheet, read and solved, and its record and answer table printed as there. */
-static void test_sheet(void)
+static void print_sheet(const solver *s)
 {
     static const char sheet[] = "kind a b c\n0 8 0 0\n3 0 6 3\n3 0 4 1\n4 1 2 0\n";
     static const char want[] = "outcome pieces fresh free ties row\n2 5 3 4 4 0\nvariable kind width fresh home high\n"
@@ -269,13 +287,19 @@ static void test_sheet(void)
 
     lw_record read = lw_read_sheet((const uint8_t *)sheet, strlen(sheet), numbers, LW_TABLE_NUMBERS);
     check_record(HERE, "sheet", read, (lw_record){.pieces = 4});
-    lw_record r = lw_solve(numbers, 4 * (size_t)read.pieces, answer, ANSWER_LEAST, work, WORK_LEAST);
+    lw_record r = s->solve(numbers, 4 * (size_t)read.pieces, answer, ANSWER_LEAST, work, WORK_LEAST);
     int n = snprintf(got, sizeof got, "outcome pieces fresh free ties row\n%u %u %u %u %u %u\n"
                      "variable kind width fresh home high\n", r.outcome, r.pieces, r.fresh, r.free, r.ties, r.row);
     for (const uint16_t *row = answer; row < answer + 6 * r.pieces && row < answer + 6 * 16; row += 6)
         n += snprintf(got + n, sizeof got - (size_t)n, "%u %u %u %u %u %u\n", row[0], row[1], row[2], row[3], row[4],
                       row[5]);
-    check(strcmp(got, want) == 0, HERE, "printed:\n%sexpected:\n%s", got, want);
+    check(strcmp(got, want) == 0, HERE, "%s printed:\n%sexpected:\n%s", s->name, got, want);
+}
+
+static void test_sheet(void)
+{
+    for (size_t i = 0; i < COUNT(solvers); i++)
+        print_sheet(&solvers[i]);
 }
 
 /* Fresh pieces: where one ends and where it may not. */
@@ -967,7 +991,7 @@ static bool like(const uint16_t *numbers, size_t count, uint16_t number)
 }
 
 /* NULL with length 0 for each buffer. */
-static void test_null(void)
+static void call_null(const solver *s)
 {
     static const uint16_t fill[] = {FILL(1, 2)};
     static uint16_t answer[ANSWER_LEAST], work[WORK_LEAST];
@@ -977,7 +1001,7 @@ static void test_null(void)
         work[i] = 9;
 
 #define REFUSE_NULL(name, number, at, ...) \
-    check_record(HERE, name, lw_solve(__VA_ARGS__), (lw_record){.outcome = (number), .row = (at)})
+    check_record(HERE, name, s->solve(__VA_ARGS__), (lw_record){.outcome = (number), .row = (at)})
     REFUSE_NULL("all NULL", 10, 0, NULL, 0, NULL, 0, NULL, 0);
     REFUSE_NULL("answer NULL", 10, 0, fill, 4, NULL, 0, work, WORK_LEAST);
     REFUSE_NULL("work NULL", 10, 0, fill, 4, answer, ANSWER_LEAST, NULL, 0);
@@ -985,8 +1009,14 @@ static void test_null(void)
     REFUSE_NULL("table refused", 11, 512, fill, 3, answer, ANSWER_LEAST, work, WORK_LEAST);
 #undef REFUSE_NULL
     check(like(answer, ANSWER_LEAST, 9) && like(work, WORK_LEAST, 9), HERE, "a buffer written by a refusal");
-    check_record(HERE, "table NULL", lw_solve(NULL, 0, answer, ANSWER_LEAST, work, WORK_LEAST), ALWAYS(0));
+    check_record(HERE, "table NULL", s->solve(NULL, 0, answer, ANSWER_LEAST, work, WORK_LEAST), ALWAYS(0));
     check(like(answer, ANSWER_LEAST, 9) && like(work, WORK_LEAST, 0), HERE, "buffers after a table of no rows");
+}
+
+static void test_null(void)
+{
+    for (size_t i = 0; i < COUNT(solvers); i++)
+        call_null(&solvers[i]);
     check_part(HERE, "answer NULL", lw_right_side(NULL, 0, 0, 0), (lw_part){0, 0});
     check_part(HERE, "answer NULL, a row in use", lw_right_side(NULL, 0, 1, 0), (lw_part){0, 0});
     check_part(HERE, "answer NULL, SIZE_MAX", lw_right_side(NULL, 0, SIZE_MAX, SIZE_MAX), (lw_part){0, 0});

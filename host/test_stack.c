@@ -140,7 +140,17 @@ static void shift(call *c, size_t width)
     add(c, LW_EQUATION, 509, 510, 0);
 }
 
-/* The same, the second side without its two high bits. */
+/* The same with row 506, and with three equations: in whole pieces this is given up, as single bits are. */
+static void three_shifts(call *c, size_t width)
+{
+    c->table_len = 4 * 507;
+    add(c, LW_CUT, 506, width - 1, 1);
+    add(c, LW_CUT, 506, width - 2, 0);
+    for (size_t e = 0; e < 3; e++)
+        add(c, LW_EQUATION, 507, 508, 0);
+}
+
+/* A shift whose second side is without its two high bits. */
 static void uneven_shift(call *c, size_t width)
 {
     shift(c, width);
@@ -422,6 +432,8 @@ static const test solves[] = {
     {"joins of a marker's bit, on the left", {{marker, 16}, {left_joins, 1}, {search, 508}}, LW_ALWAYS, 16},
     {"joins of a marker's bit, on the right", {{marker, 16}, {right_joins, 1}, {search, 508}}, LW_ALWAYS, 16},
     {"sides of unequal width", {{marker, 1}, {left_joins, 0}, {uneven_shift, 508}}, LW_NEVER, 0},
+    {"three equations, joins on the left", {{variable, 1}, {left_joins, 0}, {three_shifts, 506}}, LW_ALWAYS, 1},
+    {"three equations, joins on the right", {{variable, 1}, {right_joins, 0}, {three_shifts, 506}}, LW_ALWAYS, 1},
     {"64 equations of 1024 bits", {{words, 64}}, LW_SOLVED, 1024},
     {"64 line numbers", {{words, 64}, {line_numbers, 64}}, LW_SOLVED, 1024},
     {"32 of 64 equations revised", {{words, 64}, {line_numbers, 32}}, LW_SOLVED, 1024},
@@ -669,6 +681,7 @@ RUN(lw_value, record, TABLE, VALUE)
 RUN(lw_normal_form, record, TABLE, FORM)
 RUN(lw_read_sheet, record, c->sheet, c->sheet_len, TABLE)
 RUN(lw_solve, record, TABLE, SOLVE)
+RUN(lw_solve_pieces, record, TABLE, SOLVE)
 RUN(lw_right_side, part, c->answer, LW_ANSWER_NUMBERS, c->rows_in_use, c->variable)
 RUN(lw_make_pattern, record, TABLE, c->answer, c->answer_len, c->fresh, c->fresh_len, c->pattern, c->pattern_len, c->work,
     c->work_len)
@@ -696,6 +709,7 @@ static const struct {
     {"lw_normal_form", run_lw_normal_form, LW_STACK_NORMAL_FORM, tables, COUNT(tables) - 1},
     {"lw_read_sheet", run_lw_read_sheet, LW_STACK_READ_SHEET, sheets, COUNT(sheets)},
     {"lw_solve", run_lw_solve, LW_STACK_SOLVE, solves, COUNT(solves)},
+    {"lw_solve_pieces", run_lw_solve_pieces, LW_STACK_SOLVE_PIECES, solves, COUNT(solves)},
     {"lw_right_side", run_lw_right_side, LW_STACK_RIGHT_SIDE, parts, COUNT(parts)},
     {"lw_make_pattern", run_lw_make_pattern, LW_STACK_MAKE_PATTERN, patterns, COUNT(patterns)},
     {"lw_marker_positions", run_lw_marker_positions, LW_STACK_MARKER_POSITIONS, searches, COUNT(searches)},
@@ -811,6 +825,7 @@ static void test_calls(void)
     free(memory);
     check(LW_STACK_JOB_PREVIEW <= LW_STACK_JOB_STEP + 1000, HERE, "a preview takes more stack than a step");
     check(LW_STACK_COMPARE_TABLES <= LW_STACK_SOLVE, HERE, "a comparison of tables takes more stack than a solve");
+    check(LW_STACK_SOLVE_PIECES <= LW_STACK_SOLVE + 60000, HERE, "a solve in pieces takes too much more stack than a solve");
 }
 
 const test_list tests = {

@@ -8,12 +8,13 @@
   or of row structs; the calls take that table and leave their results in
   buffers of the caller. One of them solves the equations: it tells whether
   every, no or some choice of the variables' bits meets them all, and for some
-  it describes these choices. Another makes such a choice from the description,
-  one finds the places of a long run of words at which the words meet them, one
-  compares two recordings of frames by them, one compares two such tables, and
-  one prints the description on pages for a line printer. A job takes the
-  equations one by one, and tells after each what is still allowed, or before
-  each what it would leave.
+  it describes these choices; a second one says the same, and is faster where
+  words are long. Another makes such a choice from the description, one finds
+  the places of a long run of words at which the words meet them, one compares
+  two recordings of frames by them, one compares two such tables, and one prints
+  the description on pages for a line printer. A job takes the equations one by
+  one, and tells after each what is still allowed, or before each what it would
+  leave.
 
   The library is proved: for every input each call yields the record and the
   buffer contents that this header names, and it always returns. It is linked
@@ -415,8 +416,8 @@ extern "C" {
   The version of the library, as text and as a number that grows from version to
   version: major * 1000000 + minor * 1000 + patch.
 */
-#define LW_VERSION_TEXT "0.25.0"
-#define LW_VERSION      25000
+#define LW_VERSION_TEXT "0.26.0"
+#define LW_VERSION      26000
 
 /* constants */
 
@@ -458,7 +459,7 @@ extern "C" {
 #define LW_JOB_NEVER  1000
 #define LW_HELD_FIXED 4096
 
-/* Outcomes of an accepted call: of lw_solve and of a job's calls the last three, of most others the first. */
+/* Outcomes of an accepted call: of both solves and of a job's calls the last three, of most others the first. */
 #define LW_ACCEPTED 0
 #define LW_ALWAYS   0 /* every pattern meets the table */
 #define LW_NEVER    1 /* no pattern does */
@@ -508,20 +509,21 @@ extern "C" {
 #define LW_STACK_VALUE             43456
 #define LW_STACK_NORMAL_FORM      141440
 #define LW_STACK_READ_SHEET         4352
-#define LW_STACK_SOLVE            162240
+#define LW_STACK_SOLVE            162368
 #define LW_STACK_RIGHT_SIDE           64
 #define LW_STACK_MAKE_PATTERN     220736
-#define LW_STACK_MARKER_POSITIONS 172928
+#define LW_STACK_MARKER_POSITIONS 173056
 #define LW_STACK_PAGE               2688
 #define LW_STACK_JOB_OPEN           2496
-#define LW_STACK_JOB_STEP         170304
-#define LW_STACK_JOB_PREVIEW      170304
-#define LW_STACK_JOB_ANSWER       170240
+#define LW_STACK_JOB_STEP         170432
+#define LW_STACK_JOB_PREVIEW      170432
+#define LW_STACK_JOB_ANSWER       170368
 #define LW_STACK_VALUE_ROWS        47616
 #define LW_STACK_NORMAL_FORM_ROWS 145600
-#define LW_STACK_SOLVE_ROWS       166400
-#define LW_STACK_COMPARE_RECORDINGS 173120
-#define LW_STACK_COMPARE_TABLES   161984
+#define LW_STACK_SOLVE_ROWS       166528
+#define LW_STACK_COMPARE_RECORDINGS 173248
+#define LW_STACK_COMPARE_TABLES   162112
+#define LW_STACK_SOLVE_PIECES     210880
 
 /* the record */
 
@@ -665,6 +667,7 @@ lw_record lw_solve(const uint16_t *table, size_t table_len,
      patterns meet it and some do not, it writes the solved system as an answer
      table. Wherever equations are named here, those that count are meant; which
      they are is settled by the whole table, also for the rows before a never.
+     lw_solve_pieces, below, says the same, and is faster where words are long.
 
      An equation gives bit pairs: the high bits of its two sides, then the next
      lower ones, and so on. Where one side is wider, the pairs of its top bits
@@ -714,6 +717,53 @@ lw_record lw_solve(const uint16_t *table, size_t table_len,
                              of a term table above               that row
 
      The table is only read. No two of table, answer and work may overlap.
+*/
+
+lw_record lw_solve_pieces(const uint16_t *table, size_t table_len,
+                          uint16_t *answer, size_t answer_len,
+                          uint16_t *work, size_t work_len);
+/*
+     Solves the table as lw_solve does, by another way. For every input, also one
+     that is refused, it yields the record that lw_solve yields, and leaves in
+     answer and in work, up to their lengths, the numbers that lw_solve leaves.
+     All that is said of lw_solve above is said of this call too, outcomes,
+     refusals and their order among it. Only time and stack differ, so a host may
+     take either, for each table anew.
+
+     lw_solve ties the bits of an equation pair by pair, and writes the answer
+     table bit by bit: its time grows with the bits. This call cuts both sides of
+     an equation wherever one of their normal forms has a border, and takes pairs
+     of runs of bits, as many at once as the runs of both sides go; and so it
+     writes the rows. Its time grows with the pieces, and hardly with the bits:
+     four words that are turned into each other take nearly as long with 1024
+     bits as with 32.
+
+     When to use which. The figures say how many times as fast as lw_solve this
+     call is; below 1 it is slower. They are measured (docs/BENCHMARKS.md has all
+     tables), and no promise.
+
+       Long words, this call:
+         words of 1024 bits, equated whole, or in a chain      10
+         words of 1024 bits turned or shifted                   8
+         words of 1024 bits in fields of 256 bits, of 64 bits   7, 4
+         a word that repeats each 512 bits, each 100, each 16   7, 5, 1.7
+         fills of 900 bits, of 100 bits                        15, 4
+         one equation of 1024 bits                              5
+       Words of 16 bits in some pieces each, as in most sheets, either: 1.2.
+       Words cut into single bits, or by many equations each at other places,
+       lw_solve: 0.8 to 1.0; and where no pattern is left after such, 0.7.
+       A small table, one of some words of 16 bits and an equation or two,
+       lw_solve: 0.2 to 0.3. Either takes two or three microseconds at most.
+
+     Where runs are short, so that taking them costs more than taking bits would,
+     the call gives up after some equations, and answers by the way of lw_solve,
+     from the start. That is part of the figures above, and changes nothing else.
+
+     outcome                 cause                               field row
+     10, 11 to 17, 40        as for lw_solve                     as there
+
+     The table is only read. No two of table, answer and work may overlap. There
+     is no such call on row records.
 */
 
 lw_part lw_right_side(const uint16_t *answer, size_t answer_len,

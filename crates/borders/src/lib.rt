@@ -16,18 +16,18 @@ pub struct Counts {
 }
 
 // The last row so far, and the counts of the places passed: variables that began, rows, and fresh pieces that appeared.
-struct Progress {
-    begun: u16,
-    rows: u16,
-    fresh: u16,
-    variable: u16,
-    kind: u16,
-    width: u16,
-    number: u16,
+pub struct Progress {
+    pub begun: u16,
+    pub rows: u16,
+    pub fresh: u16,
+    pub variable: u16,
+    pub kind: u16,
+    pub width: u16,
+    pub number: u16,
 }
 
 // Marks each place where a variable begins, and the end of the last one; how many places there are.
-fn mark_begins(table: &[u16], marks: &mut [u16]) -> u16
+pub fn mark_begins(table: &[u16], marks: &mut [u16]) -> u16
     ensures { λ n. ⌜ MarksBegins (now (table .entry)) (now (marks .entry)) (now (marks .exit)) n ⌝ }
 {
     let mut bits = 0;
@@ -58,7 +58,7 @@ fn beside(marks: &[u16], links: &[u16], side: u16, k: u16) -> u16
 }
 
 // Marks the representative of place k if its lowest place has another neighbour than place k.
-fn mark_place(marks: &[u16], links: &[u16], side: u16, k: u16, uneven: &mut [u16])
+pub fn mark_place(marks: &[u16], links: &[u16], side: u16, k: u16, uneven: &mut [u16])
     ensures { λ _. ⌜ now (uneven .exit) ≡ unevenWith (now (marks .entry)) (now (links .entry)) side k (now (uneven .entry)) ⌝ }
 {
     let r = numbers::load(links, numbers::wide(k) + 2);
@@ -84,7 +84,7 @@ fn mark_uneven(marks: &[u16], links: &[u16], side: u16, n: u16, uneven: &mut [u1
 }
 
 // Whether place i goes on with the row of the place before it.
-fn goes_on(marks: &[u16], links: &[u16], after: &[u16], before: &[u16], i: u16) -> bool
+pub fn goes_on(marks: &[u16], links: &[u16], after: &[u16], before: &[u16], i: u16) -> bool
     ensures { λ r. ⌜ r ≡ goesIn (now (marks .entry)) (now (links .entry)) (now (after .entry)) (now (before .entry)) i ⌝ }
 {
     let at = numbers::wide(i);
@@ -143,7 +143,14 @@ fn number_of(numbers: &[u16], r: u16) -> u16
 }
 
 // One place more: the last row goes on, or a row begins.
-fn step(marks: &[u16], links: &[u16], numbers: &[u16], on: bool, p: Progress, i: u16) -> Progress
+pub fn step(
+    marks: &[u16],
+    links: &[u16],
+    numbers: &[u16],
+    on: bool,
+    p: Progress,
+    i: u16,
+) -> Progress
     ensures { λ q. ⌜ q ≡ stepIn (now (marks .entry)) (now (links .entry)) (now (numbers .entry)) on p i ⌝ }
 {
     let at = numbers::wide(i);
@@ -172,7 +179,7 @@ fn step(marks: &[u16], links: &[u16], numbers: &[u16], on: bool, p: Progress, i:
 }
 
 // Writes the last row, if there is one.
-fn put_row(answer: &mut [u16], p: Progress)
+pub fn put_row(answer: &mut [u16], p: Progress)
     ensures { λ _. ⌜ now (answer .exit) ≡ rowWritten (now (answer .entry)) p ⌝ }
 {
     if p.rows == 0 {
@@ -188,7 +195,7 @@ fn put_row(answer: &mut [u16], p: Progress)
 }
 
 // Writes the last row, unless it goes on.
-fn end_row(answer: &mut [u16], on: bool, p: Progress)
+pub fn end_row(answer: &mut [u16], on: bool, p: Progress)
     ensures { λ _. ⌜ now (answer .exit) ≡ cond on (now (answer .entry)) (rowWritten (now (answer .entry)) p) ⌝ }
 {
     if on {
