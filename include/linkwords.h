@@ -416,8 +416,8 @@ extern "C" {
   The version of the library, as text and as a number that grows from version to
   version: major * 1000000 + minor * 1000 + patch.
 */
-#define LW_VERSION_TEXT "0.26.0"
-#define LW_VERSION      26000
+#define LW_VERSION_TEXT "0.27.0"
+#define LW_VERSION      27000
 
 /* constants */
 
@@ -698,6 +698,13 @@ lw_record lw_solve(const uint16_t *table, size_t table_len,
 
      After LW_ALWAYS and LW_SOLVED, free plus ties is the number of the table's
      variable bits, and the patterns that meet the table are 2 to the free.
+
+     Neither the order of equations nor which side of one is left matters: two
+     accepted tables without line numbers that differ only in which equation
+     stands in which equation row, or in which side is left, yield the same record,
+     and leave the same numbers in answer and in work where these held the same
+     before. Only after LW_NEVER may ties and row differ, both or either one, and
+     not where sides alone are exchanged.
 
      work is memory for the call to work in, and may hold anything before it.
      After an accepted call, whatever the outcome, each number of work is 0, all

@@ -1,1 +1,3 @@
 pub mod Same
+pub mod Rearranged
+pub mod NeverPairs

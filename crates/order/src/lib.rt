@@ -1,2 +1,3 @@
-// What the order of tables by their patterns (crate inclusion) means for the calls that take a table (document 02, (xii)). There is no code
-// here: specs/ says what the theorems say, proofs/ has them.
+// Tables that say the same, and what calls yield of them: tables whose equations stand in another order or with other sides left
+// (document 02, (xiv)), and what the order of tables by their patterns (crate inclusion) means for calls ((xii)). There is no code
+// here: specs/ has the definitions, proofs/ the theorems.
