@@ -1,5 +1,5 @@
 /*
-  z3.h -- z3 as a process, on the script that sheet_to_smt makes of a table
+  z3.h -- z3 as a process, on the script that linkwords smt makes of a table
 
   The scripts, and the sheets they are made of, are files of build/.
 */
@@ -25,7 +25,7 @@ static inline bool write_script(const char *name, const table *t)
 {
     char path[64], command[256];
     snprintf(path, sizeof path, "build/%s.sheet", name);
-    snprintf(command, sizeof command, "build/sheet_to_smt <%s >build/%s.smt2", path, name);
+    snprintf(command, sizeof command, "../desk/build/desk smt %s >build/%s.smt2", path, name);
 
     FILE *sheet = fopen(path, "w");
     if (sheet == NULL)

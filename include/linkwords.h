@@ -18,7 +18,7 @@
 
   The library is proved: for every input each call yields the record and the
   buffer contents that this header names, and it always returns. It is linked
-  as liblinkwords.a (x86-64).
+  as liblinkwords.a, or where it is installed as liblinkwords.so too (x86-64).
 
 
                                  The table
@@ -416,8 +416,8 @@ extern "C" {
   The version of the library, as text and as a number that grows from version to
   version: major * 1000000 + minor * 1000 + patch.
 */
-#define LW_VERSION_TEXT "0.27.0"
-#define LW_VERSION      27000
+#define LW_VERSION_TEXT "0.28.0"
+#define LW_VERSION      28000
 
 /* constants */
 
