@@ -23,7 +23,7 @@ INSTALL = install
 PROGRAM = target/bin/solve
 ROOT = $(DESTDIR)$(PREFIX)
 
-# The header has the version; the manual pages and the pkg-config file are given it.
+# The header has the version; the manual pages, the pkg-config files and the CMake package are given it.
 VERSION := $(shell sed -n 's/^\#define LW_VERSION_TEXT "\(.*\)"$$/\1/p' $(HEADER))
 FILL_IN = sed -e 's|@PREFIX@|$(PREFIX)|' -e 's|@VERSION@|$(VERSION)|'
 

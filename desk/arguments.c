@@ -1,4 +1,4 @@
-/* arguments.c -- numbers, bits and patterns on the command line */
+/* arguments.c -- numbers, rows, bits and patterns on the command line */
 
 #include <string.h>
 
@@ -15,6 +15,18 @@ bool read_number(const char *text, uint64_t most, uint64_t *number)
         *number = *number > most / 10 || 10 * *number > most - digit ? most : 10 * *number + digit;
     }
     return true;
+}
+
+int load_row(const sheet *s, const char *text, size_t *row)
+{
+    uint64_t number = 0;
+
+    if (!read_number(text, SIZE_MAX, &number) && s->rows == 0)
+        return trouble(s->name, "%s is no row: the sheet has none", text);
+    if (!read_number(text, SIZE_MAX, &number))
+        return trouble(s->name, "%s is no row: the rows are 0 to %" PRIu32, text, s->rows - 1);
+    *row = (size_t)number;
+    return YES;
 }
 
 size_t read_bits(const char *text, size_t most, uint8_t *bits)
@@ -39,25 +51,31 @@ static unsigned digit_of(char c)
     return c >= '0' && c <= '9' ? (unsigned)(c - '0') : c >= 'a' && c <= 'f' ? (unsigned)(c - 'a') + 10 : 16;
 }
 
-/* The number of a variable, h and hexadecimal digits up to a blank or the end, as bits; false if it does not fit. */
-static bool read_variable(const char *text, size_t len, uint32_t width, uint8_t *bits)
+/* The number of a variable, h and hexadecimal digits, as bits. */
+typedef enum { READ, NO_NUMBER, TOO_LARGE } reading;
+
+static reading read_variable(const char *text, size_t len, uint32_t width, uint8_t *bits)
 {
+    reading got = READ;
+
     if (len < 2 || text[0] != 'h')
-        return false;
+        return NO_NUMBER;
     memset(bits, 0, width);
     for (size_t i = 1; i < len; i++) {
         unsigned digit = digit_of(text[i]);
         size_t low = 4 * (len - 1 - i); /* the number of its lowest bit */
         if (digit == 16)
-            return false;
-        for (unsigned k = 0; k < 4; k++)
-            if ((digit >> k & 1) != 0) {
-                if (low + k >= width)
-                    return false;
+            return NO_NUMBER;
+        for (unsigned k = 0; k < 4; k++) {
+            if ((digit >> k & 1) == 0)
+                continue;
+            if (low + k >= width)
+                got = TOO_LARGE;
+            else
                 bits[width - 1 - (low + k)] = 1;
-            }
+        }
     }
-    return true;
+    return got;
 }
 
 /* The next word of a text between blanks; its length. */
@@ -77,9 +95,13 @@ static int load_numbers(const sheet *s, int words, char **word, uint8_t *pattern
         for (size_t len; (len = next_word(&text)) != 0; text += len) {
             if (variable == s->variables)
                 return trouble(s->name, "the pattern has more numbers than the sheet has variables, %" PRIu32, s->variables);
-            if (!read_variable(text, len, s->width[variable], pattern + s->place[variable]))
-                return trouble(s->name, "%.*s is no number of %" PRIu32 " bit%s for x%" PRIu32 ": h and hexadecimal digits",
-                               (int)len, text, s->width[variable], plural(s->width[variable]), variable);
+            reading got = read_variable(text, len, s->width[variable], pattern + s->place[variable]);
+            int shown = len > 40 ? 40 : (int)len;
+            if (got == NO_NUMBER)
+                return trouble(s->name, "%.*s is no number: a number is h and digits 0 to 9 and a to f", shown, text);
+            if (got == TOO_LARGE)
+                return trouble(s->name, "%.*s does not fit the %" PRIu32 " bit%s of x%" PRIu32, shown, text, s->width[variable],
+                               plural(s->width[variable]), variable);
             variable++;
         }
     }
@@ -99,7 +121,7 @@ int load_pattern(const sheet *s, int words, char **word, uint8_t *pattern)
     for (int i = 0; i < words; i++) {
         size_t more = read_bits(word[i], s->bits - count, pattern + count);
         if (more == s->bits - count + 2)
-            return trouble(s->name, "%s is no pattern: bits, or for each variable h and hexadecimal digits", word[i]);
+            return trouble(s->name, "a pattern is bits, or for each variable h and hexadecimal digits, and not %s", word[i]);
         count += more;
         if (count > s->bits)
             break;

@@ -52,7 +52,7 @@ bool read_number(const char *text, uint64_t most, uint64_t *number);
 
 /* ---- trouble and output */
 
-/* Tells one line on standard error, behind the name of a file or an argument; gives TROUBLE. */
+/* Tells one line on standard error, behind the name of a file or an argument, whatever bytes they have; gives TROUBLE. */
 __attribute__((format(printf, 2, 3))) int trouble(const char *name, const char *format, ...);
 
 /* What a command says is not what the library says: that is told, and TROUBLE is given. */
@@ -101,6 +101,9 @@ int tell_refusal(const char *name, lw_record record);
 
 /* Words of 16 bits from a file, low byte first or high byte first, at most one more than most; YES or TROUBLE. */
 int load_words(const char *name, bool big, size_t most, uint16_t *words, size_t *len);
+
+/* A row of an accepted sheet, or a number above its rows; YES or TROUBLE. */
+int load_row(const sheet *s, const char *text, size_t *row);
 
 /* A pattern of an accepted sheet from words of the command line; YES or TROUBLE. */
 int load_pattern(const sheet *s, int words, char **word, uint8_t *pattern);
@@ -152,7 +155,7 @@ bool make_pattern(const sheet *s, const uint8_t *fresh, uint8_t *pattern);
 void put_source(const sheet *s, uint32_t source);             /* 0, 1 or "bit 7 of x0" */
 void put_form(const sheet *s, const uint16_t *form, size_t pieces);
 void put_term(const sheet *s, uint32_t r);                    /* of a row that is no equation, by its normal form */
-void put_equation(const sheet *s, uint32_t r);                /* "bits 6 to 3 of x0 = bits 4 to 1 of x0" */
+void put_equation(const sheet *s, uint32_t r);                /* "bits 6 to 3 of x0 = bits 4 to 1 of x0", and zeros in front */
 void put_fill(unsigned bit, size_t width);                    /* 000, or "40 zeros" */
 void put_pattern(const sheet *s, const uint8_t *pattern);     /* its variables, a blank between two */
 void put_broken(const sheet *s, uint32_t r, const sides *v);  /* an equation with the two values that are not the same */

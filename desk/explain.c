@@ -15,16 +15,11 @@ static uint32_t revised_by(uint32_t r)
     return last;
 }
 
-/* What is to be said behind the term of an equation. */
+/* The line number of an equation, and what counts in its place. */
 static void put_remarks(uint32_t r)
 {
-    const uint16_t *n = s.table + ROW * r;
-    uint32_t left = s.row_width[n[1]], right = s.row_width[n[2]], more = left > right ? left - right : right - left;
-
-    if (more != 0)
-        put(", the %s side with %" PRIu32 " zero%s in front", left < right ? "left" : "right", more, plural(more));
-    if (n[3] != 0)
-        put(", line %u", n[3]);
+    if (s.table[ROW * r + 3] != 0)
+        put(", line %u", s.table[ROW * r + 3]);
     if (!counts(&s, r))
         put(", revised by row %" PRIu32, revised_by(r));
 }

@@ -1,13 +1,16 @@
 /*
-  files.c -- files and arguments: sheets, runs of words, patterns; troubles, and
-  the output, which is kept until a command ends
+  files.c -- files: sheets and runs of words; troubles, and the output, which is
+  kept until a command ends
 */
+
+#define _POSIX_C_SOURCE 200809L /* isatty */
 
 #include <errno.h>
 #include <stdarg.h>
 #include <stdio.h>
 #include <stdlib.h>
 #include <string.h>
+#include <unistd.h>
 
 #include "desk.h"
 
@@ -15,22 +18,28 @@ uint16_t work[LW_WORK_NUMBERS];
 
 /* ---- trouble and output */
 
-static void begin_line(const char *name)
+enum { MOST_NAME = 4096, MOST_TOLD = 300 }; /* bytes of a name, and of what is told behind it */
+
+/* A blank for each byte that would not stay in its line; what is longer than the buffer ends in .. */
+static void make_one_line(char *text, size_t most, int len)
 {
-    fprintf(stderr, "linkwords: ");
-    if (name != NULL)
-        fprintf(stderr, "%s: ", name);
+    for (char *c = text; *c != '\0'; c++)
+        if ((unsigned char)*c < 32)
+            *c = ' ';
+    if (len < 0 || (size_t)len >= most)
+        memcpy(text + most - 4, " ..", 4);
 }
 
 int trouble(const char *name, const char *format, ...)
 {
+    static char named[MOST_NAME], told[MOST_TOLD];
     va_list values;
 
-    begin_line(name);
+    make_one_line(named, MOST_NAME, snprintf(named, MOST_NAME, "%s", name == NULL ? "" : name));
     va_start(values, format);
-    vfprintf(stderr, format, values);
+    make_one_line(told, MOST_TOLD, vsnprintf(told, MOST_TOLD, format, values));
     va_end(values);
-    fputc('\n', stderr);
+    fprintf(stderr, "linkwords: %s%s%s\n", named, name == NULL ? "" : ": ", told);
     return TROUBLE;
 }
 
@@ -138,6 +147,8 @@ static int read_file(const char *name, uint8_t *bytes, size_t most, size_t *len)
     taken = taken || standard;
     if (file == NULL)
         return trouble(name, "cannot be read: %s", strerror(errno));
+    if (standard && isatty(STDIN_FILENO))
+        trouble(NULL, "waits for standard input, which ends with Ctrl-D");
     errno = 0;
     *len = fread(bytes, 1, most, file);
     error = ferror(file) ? errno : 0;
@@ -150,8 +161,7 @@ static int read_file(const char *name, uint8_t *bytes, size_t most, size_t *len)
 
 int tell_refusal(const char *name, lw_record record)
 {
-    begin_line(told_name(name));
-    fprintf(stderr, "refused %" PRIu32 ", row %" PRIu32 ": %s\n", record.outcome, record.row, rule(record.outcome));
+    trouble(told_name(name), "refused %" PRIu32 ", row %" PRIu32 ": %s", record.outcome, record.row, rule(record.outcome));
     return REFUSED;
 }
 

@@ -7,16 +7,15 @@ static sheet s;
 static int run(const arguments *given)
 {
     static uint16_t form[LW_FORM_NUMBERS];
-    uint64_t row;
+    size_t row;
     lw_record found;
-    int status;
+    int status = load_accepted(given->words < 2 ? NULL : given->word[1], &s);
 
-    if (!read_number(given->word[0], SIZE_MAX, &row))
-        return trouble(given->word[0], "is no row: a number is");
-    status = load_accepted(given->words < 2 ? NULL : given->word[1], &s);
+    if (status == YES)
+        status = load_row(&s, given->word[0], &row);
     if (status != YES)
         return status;
-    found = lw_normal_form(s.table, ROW * s.rows, (size_t)row, form, LW_FORM_NUMBERS);
+    found = lw_normal_form(s.table, ROW * s.rows, row, form, LW_FORM_NUMBERS);
     if (found.outcome != LW_ACCEPTED)
         return tell_refusal(s.name, found);
     put("kind variable high low\n");

@@ -6,6 +6,8 @@
   bit is drawn by itself, each pattern is equally likely.
 */
 
+#include <string.h>
+
 #include "desk.h"
 
 static sheet s;
@@ -20,6 +22,15 @@ static uint64_t random_number(void)
     z = (z ^ (z >> 30)) * 0xBF58476D1CE4E5B9;
     z = (z ^ (z >> 27)) * 0x94D049BB133111EB;
     return z ^ (z >> 31);
+}
+
+/* A number up to 2^64 - 1, which stands for no greater one. */
+static bool read_seed(const char *text)
+{
+    const char *digits = text + strspn(text, "0");
+    size_t len = strlen(digits);
+
+    return read_number(text, UINT64_MAX, &seed) && (len < 20 || (len == 20 && strcmp(digits, "18446744073709551615") <= 0));
 }
 
 static void draw_fresh(void)
@@ -92,7 +103,7 @@ static int run(const arguments *given)
 
     if (most_text != NULL && !read_number(most_text, UINT64_MAX, &most))
         return trouble(most_text, "is no number of patterns");
-    if (seed_text != NULL && !read_number(seed_text, UINT64_MAX, &seed))
+    if (seed_text != NULL && !read_seed(seed_text))
         return trouble(seed_text, "is no seed: a number up to 2^64 - 1 is");
     if (given->value[FRESH] != NULL && (seed_text != NULL || most_text != NULL))
         return trouble("--fresh", "goes neither with --most nor with --random");

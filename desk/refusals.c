@@ -48,12 +48,12 @@ static void put_line(uint32_t number, line l)
 }
 
 /* Writes that there are two spaces, or a byte that no line has; false if there is neither. */
-static bool put_bytes_fault(line l)
+static bool put_bytes_fault(line l, const char *noun)
 {
     for (size_t i = 0; i < l.len; i++) {
         unsigned char c = (unsigned char)l.text[i];
         if (c == ' ' && i != 0 && l.text[i - 1] == ' ')
-            put("there are two spaces: one stands between two\n");
+            put("there are two spaces: one space stands between two %ss\n", noun);
         else if (c < 32 || c > 126)
             put("byte %zu of the line is %u, which stands in no sheet\n", i + 1, c);
         else
@@ -63,23 +63,24 @@ static bool put_bytes_fault(line l)
     return false;
 }
 
-/* Writes what is wrong with the blanks or the end of a line; false if nothing is. */
-static bool put_layout(line l)
+/* Writes what is wrong with the blanks or the end of a line of names or of values; false if nothing is. */
+static bool put_layout(line l, const char *noun)
 {
     if (l.len != 0 && l.text[l.len - 1] == '\r')
-        put("the line ends in a carriage return (byte 13) before the newline: lines end in a newline alone\n");
+        put("the line ends in a carriage return (byte 13) %s: lines end in a newline alone\n",
+            l.ended ? "before the newline" : "and has no newline");
     else if (!l.ended)
         put("there is no newline at the end: the last line ends in one too\n");
     else if (l.len == 0)
         put("the line is empty: there are no empty lines, also not at the end\n");
     else if (memchr(l.text, '\t', l.len) != NULL)
-        put("there is a tab: one space stands between two\n");
+        put("there is a tab: one space stands between two %ss\n", noun);
     else if (l.text[0] == ' ')
-        put("there is a space at the start: a line begins with its first one\n");
+        put("there is a space at the start: a line begins with its first %s\n", noun);
     else if (l.text[l.len - 1] == ' ')
-        put("there is a space at the end: the newline follows the last one\n");
+        put("there is a space at the end: the newline follows the last %s\n", noun);
     else
-        return put_bytes_fault(l);
+        return put_bytes_fault(l, noun);
     return true;
 }
 
@@ -126,7 +127,7 @@ static void put_names_fault(line l)
 {
     bool seen[ROW] = {false};
 
-    if (put_layout(l))
+    if (put_layout(l, "name"))
         return;
     for (unsigned i = 0; i < words_of(l); i++) {
         line word = word_of(l, i);
@@ -136,12 +137,12 @@ static void put_names_fault(line l)
             return;
         }
         if (seen[column]) {
-            put("%s stands there twice: each of kind, a, b and c once\n", names[column]);
+            put("%s stands there twice: each of the names kind, a, b and c stands there once\n", names[column]);
             return;
         }
         seen[column] = true;
     }
-    put("there are %u names: the four kind, a, b and c\n", words_of(l));
+    put("the line has %u name%s: a line of names has the four kind, a, b and c\n", words_of(l), plural(words_of(l)));
 }
 
 /* What is wrong with a value; NULL if nothing is. */
@@ -164,25 +165,25 @@ static const char *value_fault(line v)
         return "has a sign: values are 0 to 65535, without one";
     if (decimal < v.len)
         return v.len > 2 && v.text[0] == '0' && v.text[1] == 'x' ? "is no number: hexadecimal is h and one to four digits"
-                                                                 : "is no number: digits, or h and hexadecimal digits";
+                                                                 : "is no number: a number is digits, or h and hexadecimal digits";
     return v.len > 1 && v.text[0] == '0' ? "has a leading zero: decimal values have none"
            : number > 65535 ? "is too large: 65535 is the most" : NULL;
 }
 
 static void put_values_fault(const sheet *s, line l)
 {
-    if (put_layout(l))
+    if (put_layout(l, "value"))
         return;
     for (unsigned i = 0; i < words_of(l) && i < ROW; i++) {
         line word = word_of(l, i);
         const char *fault = value_fault(word);
         if (fault != NULL) {
-            put("%s %.*s %s (value %u of the line)\n", names[column_of(word_of(line_of(s, 0), i))],
+            put("column %s: %.*s %s (value %u of the line)\n", names[column_of(word_of(line_of(s, 0), i))],
                 word.len > 40 ? 40 : (int)word.len, word.text, fault, i + 1);
             return;
         }
     }
-    put("there are %u value%s: four, one for each name\n", words_of(l), plural(words_of(l)));
+    put("the line has %u value%s: a line of values has four, one for each name\n", words_of(l), plural(words_of(l)));
 }
 
 /* ---- all of it */

@@ -4,12 +4,12 @@
 
 /* The columns of each kind, in words. */
 static const char *const columns[6][ROW] = {
-    {"kind", "the width", "b", "c"},
-    {"kind", "the bit", "the width", "c"},
-    {"kind", "the left row", "the right row", "c"},
+    {"kind", "the width", "column b:", "column c:"},
+    {"kind", "the bit", "the width", "column c:"},
+    {"kind", "the left row", "the right row", "column c:"},
     {"kind", "the row", "high", "low"},
     {"kind", "the left row", "the right row", "the line number"},
-    {"kind", "the value", "the width", "c"}};
+    {"kind", "the value", "the width", "column c:"}};
 
 static const char *const kinds[6] = {"variable", "fill", "join", "cut", "equation", "marker"};
 
@@ -57,7 +57,7 @@ static unsigned put_width(const sheet *s, const uint16_t *n)
     }
     if (n[0] == LW_FILL && n[1] > 1) {
         column = put_column(n, 1);
-        put("is no bit: 0 or 1");
+        put("is no bit: a bit is 0 or 1");
     } else {
         column = put_column(n, n[0] == LW_VARIABLE ? 1 : 2);
         put("is outside the widths of a %s: 1 to %d", kinds[n[0]], n[0] == LW_VALUE ? 16 : LW_MAX_WIDTH);
@@ -108,7 +108,7 @@ static unsigned put_maximum(const sheet *s, const uint16_t *n)
 static unsigned put_fault(const sheet *s, const uint16_t *n, lw_record r)
 {
     switch (r.outcome) {
-    case LW_REFUSED_KIND:    put_column(n, 0), put("is none: 0 to 5"); return 0;
+    case LW_REFUSED_KIND:    put_column(n, 0), put("is no kind: the kinds are 0 to 5"); return 0;
     case LW_REFUSED_UNUSED:  return put_unused(n);
     case LW_REFUSED_NAME:    return put_name(s, n, r.row);
     case LW_REFUSED_WIDTH:   return put_width(s, n);

@@ -20,7 +20,7 @@ static void put_first_line(void)
     put("the sheet has line numbers: the equations that count are stepped, at their own rows");
     for (uint32_t r = 0; r < s.rows; r++)
         if (left_off[r]) {
-            put("%s%" PRIu32, before[0] == ':' ? "; revised, and left off: " : before, r);
+            put("%srow %" PRIu32, before[0] == ':' ? "; revised, and left off: " : before, r);
             before = ", ";
         }
     put("\n");
@@ -88,7 +88,7 @@ static int put_reason(uint32_t row)
             put_source(&s, pairs[i].a);
             put(" = ");
             put_source(&s, pairs[i].b);
-            put(", and by what is taken before the left is %" PRIu32 " and the right is %" PRIu32 "\n", a, b);
+            put(", and by what stands before, the left is %" PRIu32 " and the right is %" PRIu32 "\n", a, b);
             return NO;
         }
         for (uint32_t source = 0; high != low && source < s.bits + PLACES; source++)

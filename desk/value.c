@@ -19,18 +19,17 @@ static void put_hexadecimal(const uint8_t *bits, size_t width)
 static int run(const arguments *given)
 {
     static uint8_t pattern[LW_MAX_VARIABLE_BITS], value[LW_MAX_WIDTH];
-    uint64_t row;
+    size_t row;
     lw_record found;
-    int status;
+    int status = load_accepted(given->word[1], &s);
 
-    if (!read_number(given->word[0], SIZE_MAX, &row))
-        return trouble(given->word[0], "is no row: a number is");
-    status = load_accepted(given->word[1], &s);
+    if (status == YES)
+        status = load_row(&s, given->word[0], &row);
     if (status == YES)
         status = load_pattern(&s, given->words - 2, given->word + 2, pattern);
     if (status != YES)
         return status;
-    found = lw_value(s.table, ROW * s.rows, (size_t)row, pattern, s.bits, value, LW_MAX_WIDTH);
+    found = lw_value(s.table, ROW * s.rows, row, pattern, s.bits, value, LW_MAX_WIDTH);
     if (found.outcome != LW_ACCEPTED)
         return tell_refusal(s.name, found);
     put_bits(value, found.free);

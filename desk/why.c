@@ -189,25 +189,26 @@ static int give_reason(uint32_t from, uint32_t to)
 
 /* ---- what is asked */
 
-/* VARIABLE:BIT, the variable as 0 or x0; false if it is no bit of the sheet. */
-static bool read_place(const char *text)
+/* VARIABLE:BIT, the variable as 0 or x0; YES or TROUBLE. */
+static int read_place(const char *text)
 {
-    char number[16];
-    size_t len = strcspn(text, ":");
+    char number[16] = "";
+    const char *from = text + (text[0] == 'x');
+    size_t len = strcspn(from, ":");
     uint64_t variable, bit;
 
-    if (text[0] == 'x')
-        text++, len--;
-    if (text[len] != ':' || len >= sizeof number)
-        return false;
-    memcpy(number, text, len);
-    number[len] = '\0';
-    if (!read_number(number, UINT32_MAX, &variable) || !read_number(text + len + 1, UINT32_MAX, &bit))
-        return false;
-    if (variable >= s.variables || bit >= s.width[variable])
-        return false;
+    if (len < sizeof number)
+        memcpy(number, from, len);
+    if (from[len] != ':' || !read_number(number, UINT32_MAX, &variable) || !read_number(from + len + 1, UINT32_MAX, &bit))
+        return trouble(s.name, "a bit is VARIABLE:BIT, as in 0:7 or x0:7, and not %s", text);
+    if (s.variables == 0)
+        return trouble(s.name, "%s is no bit of the sheet: it has no variables", text);
+    if (variable >= s.variables)
+        return trouble(s.name, "%s is no bit of the sheet: its last variable is x%" PRIu32, text, s.variables - 1);
+    if (bit >= s.width[variable])
+        return trouble(s.name, "%s is no bit of the sheet: x%" PRIu64 " has bits %" PRIu32 " to 0", text, variable, s.width[variable] - 1);
     place = s.place[variable] + s.width[variable] - 1 - (uint32_t)bit;
-    return true;
+    return YES;
 }
 
 static int run(const arguments *given)
@@ -216,16 +217,16 @@ static int run(const arguments *given)
     const char *bit = given->value[BIT];
     int status = load_accepted(given->words == 0 ? NULL : given->word[0], &s);
 
+    if (status == YES && bit != NULL)
+        status = read_place(bit);
     if (status != YES)
         return status;
-    if (bit != NULL && !read_place(bit))
-        return trouble(s.name, "%s is no bit of the sheet: VARIABLE:BIT is", bit);
     never = s.solved.outcome == LW_NEVER;
     if (never)
         return give_reason(0, 1);
     if (bit == NULL) {
-        put("%s meet the sheet: there is no reason to give without --bit\n",
-            s.solved.outcome == LW_ALWAYS ? "all patterns" : "some patterns");
+        put(s.solved.outcome == LW_ALWAYS ? "all patterns meet the sheet: there is no reason to give, with or without --bit\n"
+                                          : "some patterns meet the sheet: there is no reason to give without --bit\n");
         return YES;
     }
     hold_by(&s, s.solved, s.answer, held);

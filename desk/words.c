@@ -71,9 +71,14 @@ void put_term(const sheet *s, uint32_t r)
 
 void put_equation(const sheet *s, uint32_t r)
 {
-    put_term(s, s->table[ROW * r + 1]);
+    const uint16_t *n = s->table + ROW * r;
+    uint32_t left = s->row_width[n[1]], right = s->row_width[n[2]], more = left > right ? left - right : right - left;
+
+    put_term(s, n[1]);
     put(" = ");
-    put_term(s, s->table[ROW * r + 2]);
+    put_term(s, n[2]);
+    if (more != 0)
+        put(", the %s side with %" PRIu32 " zero%s in front", left < right ? "left" : "right", more, plural(more));
 }
 
 /* ---- patterns */
@@ -113,8 +118,8 @@ const char *rule(uint32_t outcome)
     case LW_REFUSED_CUT:          return "the high of a cut is not below the width, or its low is above its high";
     case LW_REFUSED_MAXIMUM:      return "a 65th variable or equation, or over 4096 variable bits";
     case LW_REFUSED_SHEET:        return "the sheet has over 16384 bytes";
-    case LW_REFUSED_NAMES:        return "the first line is not the names kind, a, b and c";
-    case LW_REFUSED_LINE:         return "the line is not four values";
+    case LW_REFUSED_NAMES:        return "the line of names is malformed, or there is none";
+    case LW_REFUSED_LINE:         return "the line of values is malformed";
     case LW_REFUSED_LINES:        return "a 513th line of values";
     case LW_REFUSED_ROW:          return "the row that is asked for is not there, or is an equation";
     case LW_REFUSED_PATTERN:      return "the pattern has another length";
