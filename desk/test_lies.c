@@ -1,159 +1,164 @@
 /*
   test_lies.c -- a library that says something else: the desk finds it out
 
-  The calls are wrapped (ld's --wrap). At one of its calls a wrapped one yields
+  The calls are wrapped (test_wrapped.h). At one of its calls a wrapped one yields
   something else than the library does; the desk then says "internal error", with
-  status 3, or what it prints is right all the same. And the solves of why are
-  counted.
+  status 3, or what it prints is right all the same, by all patterns of the table.
+  And the solves of why are counted.
 */
 
 #include "test_reasons.h"
-
-/* ---- the wrapped calls */
-
-static unsigned long solves, by_pieces, lie_at; /* a solve lies at this call of both, counted from 1; 0 is never */
-static bool lie_pattern, lie_preview;
-static uint32_t lie_outcome, lie_free; /* added to those of the comparisons */
-
-#define WRAPPED(name, ...)                  \
-    lw_record __real_##name(__VA_ARGS__); \
-    lw_record __wrap_##name(__VA_ARGS__); \
-    lw_record __wrap_##name(__VA_ARGS__)
-
-static lw_record count_solve(lw_record r)
-{
-    return ++solves == lie_at ? (lw_record){.outcome = r.outcome == 1 ? 0 : 1} : r;
-}
-
-WRAPPED(lw_solve, const uint16_t *t, size_t t_len, uint16_t *a, size_t a_len, uint16_t *w, size_t w_len)
-{
-    return count_solve(__real_lw_solve(t, t_len, a, a_len, w, w_len));
-}
-
-WRAPPED(lw_solve_pieces, const uint16_t *t, size_t t_len, uint16_t *a, size_t a_len, uint16_t *w, size_t w_len)
-{
-    by_pieces++;
-    return count_solve(__real_lw_solve_pieces(t, t_len, a, a_len, w, w_len));
-}
-
-WRAPPED(lw_make_pattern, const uint16_t *t, size_t t_len, const uint16_t *a, size_t a_len, const uint8_t *f, size_t f_len,
-        uint8_t *p, size_t p_len, uint16_t *w, size_t w_len)
-{
-    lw_record r = __real_lw_make_pattern(t, t_len, a, a_len, f, f_len, p, p_len, w, w_len);
-    if (lie_pattern && r.free != 0)
-        p[below(r.free)] ^= 1;
-    return r;
-}
-
-WRAPPED(lw_compare_tables, const uint16_t *a, size_t a_len, const uint16_t *b, size_t b_len, uint16_t *w, size_t w_len)
-{
-    lw_record r = __real_lw_compare_tables(a, a_len, b, b_len, w, w_len);
-    if (r.outcome == 0)
-        r.outcome = lie_outcome;
-    return r;
-}
-
-WRAPPED(lw_compare_recordings, const uint16_t *t, size_t t_len, const uint16_t *s, size_t s_len, const uint16_t *r, size_t r_len)
-{
-    lw_record found = __real_lw_compare_recordings(t, t_len, s, s_len, r, r_len);
-    found.free += lie_free;
-    return found;
-}
-
-WRAPPED(lw_job_preview, const uint16_t *t, size_t t_len, const lw_job *job, const uint16_t *w, size_t w_len)
-{
-    lw_record r = __real_lw_job_preview(t, t_len, job, w, w_len);
-    r.ties += lie_preview;
-    return r;
-}
+#include "test_wrapped.h"
 
 /* ---- random tables */
 
 static sketch s;
-static all_patterns all;
+static all_patterns all, other;
 
-/* A random table of few bits, without line numbers, that some pattern meets, or none. */
-static void next_table(bool met)
+typedef enum { ALWAYS, NEVER, MET } outcome; /* MET: by some pattern, or by all */
+
+/* A random table of few bits, without line numbers, of an outcome. */
+static void next_table(outcome wanted)
 {
     ref_table facts;
+    bool right;
 
     do {
         do
             make_small(&s, WITH_SHORT_SIDES);
         while (ref_check(s.d.t.numbers, s.d.t.len, &facts).outcome != 0 || facts.bits > MOST_BITS || s.d.rows > 60 || s.d.equations == 0);
         try_all(s.d.t.numbers, &facts, &all);
-    } while (some_meets(&all, ((uint64_t)1 << all.equations) - 1) != met);
+        right = some_meets(&all, everything(&all)) == (wanted != NEVER);
+        for (size_t p = 0; wanted == ALWAYS && p >> facts.bits == 0; p++)
+            right = right && all.holds[p] == everything(&all);
+    } while (!right);
 }
 
-/* Whether what why prints of a never is right: none of the rows can be left out, and they leave no pattern. */
-static bool is_right(const char *print)
+/* Whether what why prints is right of the two sources. */
+static bool is_right(const char *print, size_t from, size_t to)
 {
     reason found;
     const char *line = strchr(print, '\n');
 
-    if (line == NULL || !read_reason(line + 1, &all, &found))
-        return false;
-    uint64_t set = set_of(&all, &found);
-    bool right = !some_meets(&all, set);
-    for (size_t i = 0; i < all.equations; i++)
-        if ((set >> i & 1) != 0)
-            right = right && some_meets(&all, set & ~((uint64_t)1 << i));
-    return right;
+    return line != NULL && read_reason(line + 1, &all, &found) && is_reason(&all, &found, from, to);
+}
+
+/* Lets each solve but the first lie in turn: how many lies were found out. The first is that of the sheet, which is not asked again. */
+static unsigned long lie_in_turn(const char *option, const char *value, size_t from, size_t to)
+{
+    const char *print;
+    unsigned long found = 0;
+
+    solves = lie_at = 0;
+    int truly = run_desk("why", option, value, &s.d, NULL, &print);
+    check(is_right(print, from, to), HERE, "why prints %s", print);
+    for (unsigned long calls = solves, at = 2; at <= calls; at++) {
+        solves = 0, lie_at = at;
+        int status = run_desk("why", option, value, &s.d, NULL, &print);
+        bool out = found_out(status, print);
+        check(out || (status == truly && is_right(print, from, to)), HERE, "solve %lu lies, and why gives %d: %s", at, status, print);
+        found += out;
+    }
+    lie_at = 0;
+    return found;
 }
 
 static void test_solve(unsigned long inputs)
 {
-    unsigned long found_out = 0;
+    unsigned long found = 0;
 
     for (; inputs != 0; inputs--) {
-        const char *print;
-        next_table(false);
-        solves = lie_at = 0;
-        run_desk("why", NULL, NULL, &s.d, NULL, &print);
-        unsigned long calls = solves;
-        for (unsigned long at = 2; at <= calls; at++) {
-            solves = 0, lie_at = at;
-            int status = run_desk("why", NULL, NULL, &s.d, NULL, &print);
-            check(status == 3 ? *print == '\0' : status == 1 && is_right(print), HERE, "solve %lu lies, and why prints %s", at, print);
-            found_out += status == 3;
-        }
-        lie_at = 0;
+        next_table(NEVER);
+        found += lie_in_turn(NULL, NULL, 0, 1);
     }
-    check(found_out > 100, HERE, "only %lu lies were found out", found_out);
+    check(found > 100, HERE, "only %lu lies were found out", found);
+}
+
+static void test_bit(unsigned long inputs)
+{
+    unsigned long found = 0;
+
+    while (inputs != 0) {
+        char text[32];
+        next_table(MET);
+        for (size_t v = 0; v < all.variables && inputs != 0; v++) {
+            size_t row = all.variable_row[v], bit = below(all.facts.width[row]), home = 0;
+            size_t source = all.facts.place[row] + all.facts.width[row] - 1 - bit + FIXED;
+            while (!always_equal(&all, everything(&all), source, home))
+                home++;
+            if (home == source) /* a free bit: nothing is solved for it */
+                continue;
+            inputs--;
+            snprintf(text, sizeof text, "%zu:%zu", v, bit);
+            found += lie_in_turn("--bit", text, source, home);
+        }
+    }
+    check(found > 100, HERE, "only %lu lies were found out", found);
 }
 
 static void test_others(unsigned long inputs)
 {
-    unsigned long found_out = 0;
+    unsigned long found = 0;
 
     for (; inputs != 0; inputs--) {
         static uint16_t second[4 * 512];
         const char *print;
-        next_table(true);
+        ref_table facts;
+        next_table(MET);
         memcpy(second, s.d.t.numbers, s.d.t.len * sizeof *second);
         lie_outcome = 1 + (uint32_t)below(3);
         int status = run_desk("compare", NULL, NULL, &s.d, second, &print);
-        check(status == 3 && *print == '\0', HERE, "a table is compared with itself: %d %s", status, print);
+        check(found_out(status, print), HERE, "a table is compared with itself: %d %s", status, print);
         lie_outcome = 0;
         lie_preview = true;
         status = run_desk("steps", NULL, NULL, &s.d, NULL, &print);
-        check(status == 3 && *print == '\0', HERE, "a preview lies: %d %s", status, print);
+        check(found_out(status, print), HERE, "a preview lies: %d %s", status, print);
         lie_preview = false;
         second[4 * all.row[0] + 2] = second[4 * all.row[0] + 1], second[4 * all.row[0] + 3] = 0; /* it says nothing */
+        ref_check(second, s.d.t.len, &facts);
+        try_all(second, &facts, &other);
         lie_pattern = true;
         status = run_desk("compare", NULL, NULL, &s.d, second, &print);
         lie_pattern = false;
-        check(status <= 1 || (status == 3 && *print == '\0'), HERE, "a pattern lies: %d %s", status, print);
-        found_out += status == 3;
+        if (found_out(status, print))
+            found++;
+        else
+            check_compared(print, status, &all, &other);
     }
-    check(found_out > 3, HERE, "only %lu wrong patterns were found out", found_out);
+    check(found > 3, HERE, "only %lu wrong patterns were found out", found);
 }
 
-/* ---- recordings, and how often why solves */
+/* ---- check, recordings, and how often why solves */
 
 int desk(int argc, char **argv);
 const char *output_text(size_t *len);
 void forget_output(void);
+
+/* Runs a command line, and checks that it ends in an internal error. */
+static void check_error(int argc, char **argv, const char *what)
+{
+    size_t len;
+
+    forget_output();
+    int status = desk(argc, argv);
+    output_text(&len);
+    check(found_out(status, len == 0 ? "" : "something"), HERE, "%s, and the status is %d", what, status);
+}
+
+static void test_check(unsigned long inputs)
+{
+    for (; inputs != 0; inputs--) {
+        char bits[MOST_BITS + 1] = "", *words[] = {(char[]){"desk"}, (char[]){"check"}, (char[]){SHEETS "/first.sheet"}, bits};
+        bool never = one_in(2);
+        next_table(never ? NEVER : ALWAYS);
+        for (size_t i = 0; i < all.facts.bits; i++)
+            bits[i] = one_in(2) ? '1' : '0';
+        write_sheet(words[2], s.d.t.numbers, s.d.rows);
+        *(never ? &lie_zeros : &lie_value) = true;
+        check_error(4, words, never ? "all values are 0 of a never" : "a value is another of an always");
+        lie_zeros = false;
+    }
+}
 
 static void write_file(const char *name, const void *bytes, size_t len)
 {
@@ -168,18 +173,14 @@ static void test_recordings(void)
     static const uint8_t sent[] = {1, 0, 7, 0, 2, 0, 8, 0}, received[] = {1, 0, 7, 0, 2, 0, 9, 0};
     char *words[] = {(char[]){"desk"}, (char[]){"recordings"}, (char[]){"--list"}, (char[]){SHEETS "/first.sheet"},
                      (char[]){SHEETS "/sent"}, (char[]){SHEETS "/received"}};
-    size_t len;
 
     write_file(words[3], sheet, sizeof sheet - 1);
     write_file(words[4], sent, sizeof sent);
     write_file(words[5], received, sizeof received);
     forget_output();
     check(desk(6, words) == 1, HERE, "one pair is broken");
-    forget_output();
     lie_free = 1;
-    check(desk(6, words) == 3, HERE, "the record says one more, and the list is printed");
-    output_text(&len);
-    check(len == 0, HERE, "something is printed");
+    check_error(6, words, "the record says one more");
     lie_free = 0;
 }
 
@@ -204,17 +205,14 @@ static void test_solves(void)
     check(solves - by_pieces <= 66, HERE, "why solves %lu times to read the sheet and to check the set", solves - by_pieces);
 }
 
-static void test_quiet(void)
-{
-    check(freopen("/dev/null", "w", stderr) != NULL, HERE, "standard error cannot be put away"); /* internal errors are told there */
-}
-
 const test_list tests = {
     .name = "lies", .inputs = 200,
     .groups = {
-        {.name = "internal errors are not shown", .run = test_quiet},
+        {.name = "internal errors are told in a file", .run = keep_told},
         {.name = "why: a solve that lies", .run_random = test_solve},
+        {.name = "why --bit: a solve that lies", .run_random = test_bit},
         {.name = "compare, steps: calls that lie", .run_random = test_others},
+        {.name = "check: a value that lies", .run_random = test_check},
         {.name = "recordings: a record that lies", .run = test_recordings},
         {.name = "why: how often it solves", .run = test_solves},
     },

@@ -4,8 +4,8 @@
   The commands run in this program. What they print is read back, and checked by
   all patterns of the tables: a set of equations leaves none, and without any one
   of them it leaves some; the chain leads from a 0 to a 1 over bit pairs of its
-  rows, and through all of them; the patterns that tell two tables apart meet the
-  one and not the other.
+  rows, and through all of them, and no way is shorter; the patterns that tell two
+  tables apart meet the one and not the other.
 */
 
 #include "test_reasons.h"
@@ -22,11 +22,6 @@ static void next_table(void)
         make_small(&s, WITH_LINES);
     while (ref_check(s.d.t.numbers, s.d.t.len, &facts).outcome != 0 || facts.bits > MOST_BITS || s.d.rows > 60);
     try_all(s.d.t.numbers, &facts, &all);
-}
-
-static uint64_t everything(const all_patterns *a)
-{
-    return a->equations == 64 ? UINT64_MAX : ((uint64_t)1 << a->equations) - 1;
 }
 
 /* The chain leads from one source to the other, each of its pairs is one of its row, and it has all rows, and no others. */
@@ -47,6 +42,7 @@ static void check_chain(const reason *found, size_t from, size_t to)
         seen += there;
     }
     check(seen == found->rows, HERE, "the chain leaves out a row");
+    check(found->pairs == shortest_way(&all, found, from, to), HERE, "a chain of %zu pairs is not the shortest", found->pairs);
     for (size_t k = 1; k < found->rows; k++)
         check(found->row[k] > found->row[k - 1], HERE, "the rows do not rise");
 }
@@ -69,11 +65,7 @@ static void test_never(unsigned long inputs)
         check(status == 1 && strncmp(print, "never: ", 7) == 0 && line != NULL, HERE, "why prints %s", print);
         if (line == NULL || !check(read_reason(line + 1, &all, &found), HERE, "why cannot be read: %s", print))
             continue;
-        uint64_t set = set_of(&all, &found);
-        check(!some_meets(&all, set), HERE, "the set leaves a pattern");
-        for (size_t i = 0; i < all.equations; i++)
-            if ((set >> i & 1) != 0)
-                check(some_meets(&all, set & ~((uint64_t)1 << i)), HERE, "row %zu can be left out", all.row[i]);
+        check(is_reason(&all, &found, 0, 1), HERE, "the set leaves a pattern, or a row can be left out: %s", print);
         check_chain(&found, 0, 1);
         wide += found.rows > 2;
     }
@@ -117,11 +109,7 @@ static void test_bit(unsigned long inputs)
         }
         if (line == NULL || !check(read_reason(line + 1, &all, &found), HERE, "why cannot be read: %s", print))
             continue;
-        uint64_t set = set_of(&all, &found);
-        check(always_equal(&all, set, place + FIXED, home), HERE, "the set does not do it");
-        for (size_t i = 0; i < all.equations; i++)
-            if ((set >> i & 1) != 0)
-                check(!always_equal(&all, set & ~((uint64_t)1 << i), place + FIXED, home), HERE, "row %zu can be left out", all.row[i]);
+        check(is_reason(&all, &found, place + FIXED, home), HERE, "the set does not do it, or a row can be left out: %s", print);
         check_chain(&found, place + FIXED, home);
         *(home < FIXED ? &fixed : &tied) += 1;
     }
@@ -144,40 +132,9 @@ static void change(uint16_t *t, const all_patterns *a)
     }
 }
 
-/* Whether some pattern meets the one and not the other. */
-static bool allows_more(const all_patterns *a, const all_patterns *b)
-{
-    uint64_t in_a = counting(a, everything(a)), in_b = counting(b, everything(b));
-
-    for (size_t p = 0; p >> a->facts.bits == 0; p++)
-        if ((a->holds[p] & in_a) == in_a && (b->holds[p] & in_b) != in_b)
-            return true;
-    return false;
-}
-
-/* The pattern behind a line that says which allows it; it meets the one and not the other, which the row that it breaks shows. */
-static void check_between(const char *print, const char *line, const all_patterns *a, const all_patterns *b)
-{
-    const char *text = strstr(print, line);
-    size_t p = 0, bits = 0, row = 0;
-
-    if (!check(text != NULL, HERE, "there is no line %s in %s", line, print))
-        return;
-    for (text += strlen(line); *text == ' ' || *text == '0' || *text == '1'; text++)
-        if (*text != ' ')
-            p = 2 * p + (*text == '1'), bits++;
-    check(bits == a->facts.bits && sscanf(text, "\n  it breaks row %zu: ", &row) == 1, HERE, "no pattern, or no row: %s", print);
-    uint64_t in_a = counting(a, everything(a)), in_b = counting(b, everything(b));
-    check((a->holds[p] & in_a) == in_a && (b->holds[p] & in_b) != in_b, HERE, "the pattern does not tell them apart: %s", print);
-    for (size_t i = 0; i < b->equations; i++)
-        if (b->row[i] == row)
-            check((in_b >> i & 1) != 0 && (b->holds[p] >> i & 1) == 0, HERE, "row %zu is not broken", row);
-}
-
 static void test_compare(unsigned long inputs)
 {
     static uint16_t second[4 * 512];
-    static const char *const words[] = {"same\n", "fewer\n", "more\n", "neither\n"};
     unsigned long seen[4] = {0};
 
     for (; inputs != 0; inputs--) {
@@ -189,18 +146,11 @@ static void test_compare(unsigned long inputs)
             change(second, &all);
         } while (ref_check(second, s.d.t.len, &facts).outcome != 0);
         try_all(second, &facts, &other);
-        bool fewer = allows_more(&all, &other), more = allows_more(&other, &all);
         int status = run_desk("compare", NULL, NULL, &s.d, second, &print);
-        size_t word = (fewer ? 1U : 0U) + (more ? 2U : 0U);
-        check(strncmp(print, words[word], strlen(words[word])) == 0 && status == (word != 0), HERE, "%s: %d %s", words[word], status, print);
-        if (more)
-            check_between(print, SHEETS "/second.sheet allows and " SHEETS "/first.sheet does not:\n", &other, &all);
-        if (fewer)
-            check_between(print, SHEETS "/first.sheet allows and " SHEETS "/second.sheet does not:\n", &all, &other);
-        seen[word]++;
+        seen[check_compared(print, status, &all, &other)]++;
     }
     for (size_t i = 0; i < 4; i++)
-        check(seen[i] > 20, HERE, "only %lu pairs: %s", seen[i], words[i]);
+        check(seen[i] > 20, HERE, "only %lu pairs of outcome %zu", seen[i], i);
 }
 
 const test_list tests = {

@@ -46,6 +46,11 @@ void try_all(const uint16_t *t, const ref_table *facts, all_patterns *all)
     }
 }
 
+uint64_t everything(const all_patterns *all)
+{
+    return all->equations == 64 ? UINT64_MAX : ((uint64_t)1 << all->equations) - 1;
+}
+
 uint64_t counting(const all_patterns *all, uint64_t set)
 {
     uint64_t kept = set;
@@ -80,15 +85,23 @@ bool always_equal(const all_patterns *all, uint64_t set, size_t a, size_t b)
     return true;
 }
 
-uint64_t set_of(const all_patterns *all, const reason *found)
+bool is_reason(const all_patterns *all, const reason *found, size_t from, size_t to)
 {
     uint64_t set = 0;
+    size_t hits = 0;
 
     for (size_t i = 0; i < all->equations; i++)
         for (size_t k = 0; k < found->rows; k++)
-            if (all->row[i] == found->row[k])
+            if (all->row[i] == found->row[k]) {
                 set |= (uint64_t)1 << i;
-    return set;
+                hits++;
+            }
+    if (hits != found->rows || !always_equal(all, set, from, to))
+        return false;
+    for (size_t i = 0; i < all->equations; i++)
+        if ((set >> i & 1) != 0 && always_equal(all, set & ~((uint64_t)1 << i), from, to))
+            return false;
+    return true;
 }
 
 /* ---- bit pairs */
@@ -119,6 +132,25 @@ bool is_pair(const all_patterns *all, size_t row, size_t a, size_t b)
             return true;
     }
     return false;
+}
+
+size_t shortest_way(const all_patterns *all, const reason *found, size_t from, size_t to)
+{
+    size_t steps[MOST_BITS + FIXED] = {0}, far = 1; /* one more than the steps from there; 0 if it is not reached */
+
+    for (steps[from] = 1; steps[to] == 0; far++) {
+        bool further = false;
+        for (size_t a = 0; a < all->facts.bits + FIXED; a++)
+            for (size_t b = 0; steps[a] == far && b < all->facts.bits + FIXED; b++)
+                for (size_t k = 0; steps[b] == 0 && k < found->rows; k++)
+                    if (is_pair(all, found->row[k], a, b)) {
+                        steps[b] = far + 1;
+                        further = true;
+                    }
+        if (!further)
+            return 0;
+    }
+    return steps[to] - 1;
 }
 
 /* ---- the print */
@@ -175,7 +207,7 @@ void put_bytes(const void *bytes, size_t len);
 const char *output_text(size_t *len);
 void forget_output(void);
 
-static void write_sheet(const char *name, const uint16_t *numbers, size_t rows)
+void write_sheet(const char *name, const uint16_t *numbers, size_t rows)
 {
     FILE *file = fopen(name, "wb");
 

@@ -1,5 +1,5 @@
 /*
-  test_reasons.h -- what why prints, read back, and all patterns of a small table
+  test_reasons.h -- what why and compare print, read back, and all patterns of a small table
 
   None of it is code of desk/: the tables are evaluated by host/reference.c.
 */
@@ -24,7 +24,8 @@ typedef struct {
 /* Tries all patterns of an accepted table of at most MOST_BITS variable bits. */
 void try_all(const uint16_t *t, const ref_table *facts, all_patterns *all);
 
-/* The equations of a set that count once the others are left off. */
+/* All equations; and those of a set that count once the others are left off. */
+uint64_t everything(const all_patterns *all);
 uint64_t counting(const all_patterns *all, uint64_t set);
 
 /* Whether a pattern meets a set of equations; and whether two sources are equal in all that do. */
@@ -43,11 +44,20 @@ typedef struct {
 /* Reads it back, behind its first line; false if it is not as it should be. */
 bool read_reason(const char *text, const all_patterns *all, reason *found);
 
+/* Whether the equations with these rows make two sources equal, 0 and 1 if no pattern meets them, and none can be left out. */
+bool is_reason(const all_patterns *all, const reason *found, size_t from, size_t to);
+
 /* Whether two sources are a bit pair of the equation at a row, in one order or the other. */
 bool is_pair(const all_patterns *all, size_t row, size_t a, size_t b);
 
-/* The set of equations with these rows. */
-uint64_t set_of(const all_patterns *all, const reason *found);
+/* How many bit pairs of these rows the shortest way from one source to the other has; 0 if there is none. */
+size_t shortest_way(const all_patterns *all, const reason *found, size_t from, size_t to);
+
+/* Checks what compare prints of SHEETS/first.sheet and SHEETS/second.sheet, and its status, by all patterns of both; which word it is. */
+size_t check_compared(const char *print, int status, const all_patterns *first, const all_patterns *second);
+
+/* Writes a table as a sheet. */
+void write_sheet(const char *name, const uint16_t *numbers, size_t rows);
 
 /* Runs a command of the desk on a table as a sheet, or on two: its exit status, and what it prints. */
 int run_desk(const char *command, const char *option, const char *value, const draft *d, const uint16_t *second,
