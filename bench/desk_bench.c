@@ -1,12 +1,12 @@
 /*
-  desk_bench.c -- how long the desk takes from its start to its end, on the largest
+  desk_bench.c -- how long linkwords takes from its start to its end, on the largest
   tables of the benchmark
 
       desk_bench [ROUNDS]
 
   Prints the part of docs/BENCHMARKS.md on the desk, in medians of ROUNDS runs (31
-  if not given). Each of explain and why is run as a process, with its output to a
-  file. For why the last equation of the table is a conflict: five of its equations
+  if not given). Each of explain and why is run as a process, by the script linkwords,
+  with its output to a file. For why the last equation of the table is a conflict: five of its equations
   give way to the rows by which two bits that the others tie are to be 0 and 1. The
   current directory has to be bench/.
 
@@ -79,10 +79,10 @@ typedef struct {
     double whole, processor;
 } times;
 
-/* Runs the desk, which has to end with the status. */
+/* Runs linkwords, which has to end with the status. */
 static times run(char *command, char *path, int status)
 {
-    char *arguments[] = {"../desk/build/desk", command, path, NULL};
+    char *arguments[] = {"../linkwords", command, path, NULL};
     posix_spawn_file_actions_t actions;
     struct rusage used;
     pid_t child;
@@ -122,8 +122,9 @@ int main(int argc, char **argv)
     int rounds = argc > 1 ? atoi(argv[1]) : 31, missed = 0;
 
     rounds = rounds < 1 ? 1 : rounds > MOST_ROUNDS ? MOST_ROUNDS : rounds;
-    printf("\n## The desk\n\nFrom the start of the process to its end, and of that on the processor: medians of %d runs. Of `why` the last equation is a\n"
-           "conflict, and all that it says is found by `lw_solve_pieces` and checked by `lw_solve`. The goal is under %d ms.\n\n"
+    printf("\n## The desk\n\nFrom the start of the script linkwords to the end of the desk, and of that on the processor: medians of %d runs. Of `why` the\n"
+           "last equation is a conflict, and all that it says is found by `lw_solve_pieces` and checked by `lw_solve`. The goal is under\n"
+           "%d ms.\n\n"
            "| Table | `explain` | on the processor | `why` | on the processor |\n|---|---|---|---|---|\n", rounds, GOAL);
     for (size_t i = 0; i < SUBJECTS; i++) {
         times none = {-1, -1};

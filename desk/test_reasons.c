@@ -207,8 +207,10 @@ void put_bytes(const void *bytes, size_t len);
 const char *output_text(size_t *len);
 void forget_output(void);
 
+/* A new file each time: some file systems wait for the disk where an old one is overwritten. */
 void write_sheet(const char *name, const uint16_t *numbers, size_t rows)
 {
+    remove(name);
     FILE *file = fopen(name, "wb");
 
     if (file == NULL) {
