@@ -240,3 +240,12 @@ size_t plain_pairs(const ref_table *facts, uint16_t sources[][REF_WIDTH], size_t
     fill_side(sources[b], width_b, wider - width_b, right);
     return wider;
 }
+
+lw_record plain_call(const uint16_t *table, size_t len, size_t answer_len, size_t work_len, uint16_t *answer)
+{
+    static ref_table facts;
+    if (answer_len < 6 * PLAIN_BITS || work_len < 16384)
+        return (lw_record){.outcome = 10};
+    lw_record record = ref_check(table, len, &facts);
+    return record.outcome != 0 ? record : plain_solve(table, &facts, answer);
+}

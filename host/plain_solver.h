@@ -50,6 +50,12 @@ size_t plain_ties(const uint16_t *left, const uint16_t *right, size_t count, uin
 lw_record plain_solve(const uint16_t *table, const ref_table *facts, uint16_t *answer);
 
 /*
+  What lw_solve yields for any table and buffers of these lengths: 10, the table's
+  refusals by ref_check, or what plain_solve yields and writes.
+*/
+lw_record plain_call(const uint16_t *table, size_t len, size_t answer_len, size_t work_len, uint16_t *answer);
+
+/*
   The same with the equations from row limit on left off, of a table without line
   numbers. For outcomes 0 and 2, held[i] is what holds place i, as in a job: 4096
   plus the fixed bit of its class, or else the lowest place of its class. There

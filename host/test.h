@@ -50,6 +50,9 @@ __attribute__((format(printf, 3, 4)))
 #endif
 bool check(bool holds, where at, const char *format, ...);
 
+/* Tells how often each outcome was had, and checks that each of those to be seen was. */
+void check_outcomes(where at, const unsigned long *outcomes, size_t count, const unsigned *seen, size_t seen_count);
+
 /* Whether two records are the same, field by field. */
 bool same_record(lw_record a, lw_record b);
 

@@ -28,6 +28,17 @@ bool check(bool holds, where at, const char *format, ...)
     return false;
 }
 
+void check_outcomes(where at, const unsigned long *outcomes, size_t count, const unsigned *seen, size_t seen_count)
+{
+    printf("outcomes:");
+    for (size_t i = 0; i < count; i++)
+        if (outcomes[i] != 0)
+            printf(" %zu %lux", i, outcomes[i]);
+    printf("\n");
+    for (size_t i = 0; i < seen_count; i++)
+        check(outcomes[seen[i]] != 0, at, "outcome %u did not occur", seen[i]);
+}
+
 bool same_record(lw_record a, lw_record b)
 {
     return a.outcome == b.outcome && a.pieces == b.pieces && a.fresh == b.fresh && a.free == b.free &&

@@ -120,10 +120,7 @@ static void count_table(void)
 static void check_plain(where at, const table *t, const result *r)
 {
     static uint16_t answer[6 * PLAIN_BITS];
-    static ref_table facts;
-    lw_record record = ref_check(ALL(*t), &facts);
-    if (record.outcome == 0)
-        record = plain_solve(t->numbers, &facts, answer);
+    lw_record record = plain_call(ALL(*t), ANSWER, WORK, answer);
     check_record(at, "plain solver", r->record, record);
     check(memcmp(answer, r->answer, 6 * record.pieces * sizeof *answer) == 0, at, "another answer than the plain solver's");
 }

@@ -36,17 +36,6 @@ unsigned long outcomes[64];
 
 /* Both calls. */
 
-/* What both have to yield, and the answer's rows. */
-static lw_record expected(const uint16_t *numbers, size_t len, size_t answer_len, size_t work_len,
-                          uint16_t answer[ANSWER_LEAST])
-{
-    static ref_table facts;
-    if (answer_len < ANSWER_LEAST || work_len < WORK_LEAST)
-        return (lw_record){.outcome = 10};
-    lw_record record = ref_check(numbers, len, &facts);
-    return record.outcome != 0 ? record : plain_solve(numbers, &facts, answer);
-}
-
 /* A buffer between two zones. There are many calls, so the memory is the same for all. */
 enum { MOST = 2 * ANSWER_LEAST };
 
@@ -98,7 +87,7 @@ lw_record solve_both(where at, const char *name, const uint16_t *numbers, size_t
     lend(&work, &want_work, work_len, turn++);
     lw_record want = lw_solve(guarded_buffer(&t), len, buffer(&want_answer), answer_len, buffer(&want_work), work_len);
     lw_record got = lw_solve_pieces(guarded_buffer(&t), len, buffer(&answer), answer_len, buffer(&work), work_len);
-    lw_record plain = expected(numbers, len, answer_len, work_len, rows);
+    lw_record plain = plain_call(numbers, len, answer_len, work_len, rows);
     check_record(at, name, got, want);
     check_record(at, "the plain solver", got, plain);
     check(plain.outcome != 2 || memcmp(buffer(&answer), rows, 6 * plain.pieces * sizeof *rows) == 0, at,
@@ -598,13 +587,7 @@ static void test_outcomes(void)
 {
     static const unsigned seen[] = {0, 1, 2, 10, 11, 12, 13, 14, 15, 40, 16, 17};
 
-    printf("outcomes:");
-    for (unsigned i = 0; i < COUNT(outcomes); i++)
-        if (outcomes[i] != 0)
-            printf(" %u %lux", i, outcomes[i]);
-    printf("\n");
-    for (size_t i = 0; i < COUNT(seen); i++)
-        check(outcomes[seen[i]] != 0, HERE, "outcome %u did not occur", seen[i]);
+    check_outcomes(HERE, outcomes, COUNT(outcomes), seen, COUNT(seen));
 }
 
 const test_list tests = {

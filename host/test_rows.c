@@ -258,13 +258,7 @@ static void test_outcomes(void)
 {
     static const unsigned seen[] = {0, 1, 2, 10, 11, 12, 13, 14, 15, 40, 16, 17, 30, 31, 32};
 
-    printf("outcomes:");
-    for (unsigned i = 0; i < COUNT(outcomes); i++)
-        if (outcomes[i] != 0)
-            printf(" %u %lux", i, outcomes[i]);
-    printf("\n");
-    for (size_t i = 0; i < COUNT(seen); i++)
-        check(outcomes[seen[i]] != 0, HERE, "outcome %u did not occur", seen[i]);
+    check_outcomes(HERE, outcomes, COUNT(outcomes), seen, COUNT(seen));
     check(outcomes[18] == 0, HERE, "outcome 18 occurred");
 }
 

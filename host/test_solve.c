@@ -146,17 +146,6 @@ static void call(where at, const char *name, const uint16_t *numbers, size_t len
         call_one(&solvers[i], at, name, numbers, len, content, answer_len, work_len, want, want_answer);
 }
 
-/* What a solve yields and writes, 10 to 17 and 40 by the reference and the rest by the plain solver. */
-static lw_record expected(const uint16_t *numbers, size_t len, size_t answer_len, size_t work_len,
-                          uint16_t answer[ANSWER_LEAST])
-{
-    static ref_table facts;
-    if (answer_len < ANSWER_LEAST || work_len < WORK_LEAST)
-        return (lw_record){.outcome = 10};
-    lw_record record = ref_check(numbers, len, &facts);
-    return record.outcome != 0 ? record : plain_solve(numbers, &facts, answer);
-}
-
 static bool same_answer(lw_record record, const uint16_t *a, const uint16_t *b)
 {
     return record.outcome != 2 || memcmp(a, b, 6 * record.pieces * sizeof *a) == 0;
@@ -763,7 +752,7 @@ static void accept_revised(where at, const char *name, const table *revised, con
 {
     static uint16_t answer[ANSWER_LEAST];
 
-    lw_record record = expected(ALL(*counting), ANSWER_LEAST, WORK_LEAST, answer);
+    lw_record record = plain_call(ALL(*counting), ANSWER_LEAST, WORK_LEAST, answer);
     check_record(at, name, record, want);
     check_others(at, name, ALL(*revised), want, answer);
     call(at, name, ALL(*revised), NULL, ANSWER_LEAST, WORK_LEAST, want, answer);
@@ -824,7 +813,7 @@ static void test_revised_limits(void)
         add(&t, VARIABLE(64)), add(&counting, VARIABLE(64));
     for (size_t v = 0; v < 64; v++)
         add(&t, LINE(v, (v + 1) % 64, 65535 - v)), add(&counting, EQUATION(v, (v + 1) % 64));
-    accept_revised(HERE, "64 lines", &t, &counting, expected(ALL(counting), ANSWER_LEAST, WORK_LEAST, answer));
+    accept_revised(HERE, "64 lines", &t, &counting, plain_call(ALL(counting), ANSWER_LEAST, WORK_LEAST, answer));
     for (size_t e = 0; e < 64; e++) {
         t.numbers[4 * (64 + e) + 3] = (uint16_t)(1 + e % 32);
         if (e < 32)
@@ -950,12 +939,12 @@ static void test_memory(void)
         for (size_t j = 0; j < COUNT(works); j++) {
             size_t a = answers[i], w = works[j];
             bool few = a < 24576 || w < 16384;
-            lw_record want = expected(good, 16, a, w, answer);
+            lw_record want = plain_call(good, 16, a, w, answer);
             check(want.outcome == (few ? 10 : 2), HERE, "expected %u", want.outcome);
             call(HERE, "good table", good, 16, NULL, a, w, want, answer);
-            call(HERE, "no rows", NULL, 0, NULL, a, w, expected(NULL, 0, a, w, answer), answer);
+            call(HERE, "no rows", NULL, 0, NULL, a, w, plain_call(NULL, 0, a, w, answer), answer);
             for (size_t len = 7; len <= 8; len++) { /* refused 11, and 12 */
-                want = expected(bad, len, a, w, answer);
+                want = plain_call(bad, len, a, w, answer);
                 check(want.outcome == (few ? 10 : len == 7 ? 11 : 12), HERE, "expected %u", want.outcome);
                 call(HERE, "bad table", bad, len, NULL, a, w, want, answer);
             }
@@ -1271,7 +1260,7 @@ static uint32_t test_damaged_table(unsigned long number)
     if (one_in(32))
         work_len = one_in(2) ? WORK_LEAST - 1 : below(WORK_LEAST);
 
-    lw_record want = expected(d->t.numbers, d->t.len, answer_len, work_len, answer);
+    lw_record want = plain_call(d->t.numbers, d->t.len, answer_len, work_len, answer);
     snprintf(name, sizeof name, "damaged table %lu", number);
     call(HERE, name, d->t.numbers, d->t.len, NULL, answer_len, work_len, want, answer);
     return want.outcome;
@@ -1337,7 +1326,7 @@ static void test_large(void)
         size_t widest = 0, last = 0, cuts = 0, longest = 0;
         bool marker = false, has[SHORTS] = {false};
         make_large(&p);
-        lw_record want = expected(ALL(p.d.t), answer_len, work_len, answer);
+        lw_record want = plain_call(ALL(p.d.t), answer_len, work_len, answer);
         snprintf(name, sizeof name, "large table %lu", i);
         if (!check(want.outcome <= 2, HERE, "%s: refused %u, row %u", name, want.outcome, want.row))
             continue;
@@ -1475,7 +1464,7 @@ static void test_pieced(void)
     for (unsigned long i = 0; i < PIECED_TABLES; i++) {
         bool has[PIECED] = {false};
         make_pieced(&d, has);
-        lw_record want = expected(ALL(d.t), ANSWER_LEAST, WORK_LEAST, answer);
+        lw_record want = plain_call(ALL(d.t), ANSWER_LEAST, WORK_LEAST, answer);
         snprintf(name, sizeof name, "table of many pieces %lu", i);
         if (!check(want.outcome <= 2, HERE, "%s: refused %u, row %u", name, want.outcome, want.row))
             continue;
