@@ -1,7 +1,7 @@
 // Answers: what they mean, and the theorems that say so. There is no code here: specs/ has the definitions, proofs/ the theorems.
 
 // A row of the answer table: the variable; 0 or 1 for a fill of that bit, 2 for a fresh piece; its width; its fresh number, 0 for a fill.
-#[derive(Drop)]
+#[derive(Clone, Copy)]
 pub struct AnswerRow {
     pub variable: u16,
     pub kind: u16,
@@ -16,7 +16,7 @@ pub const FOUR: usize = 4;
 
 // A part of a run of numbers: where it starts and how many numbers it has.
 #[repr(C)]
-#[derive(Drop)]
+#[derive(Clone, Copy)]
 pub struct Part {
     pub start: usize,
     pub len: usize,

@@ -11,7 +11,7 @@ use forms::Piece;
 use terms::Row;
 
 // Bits high to low of a row.
-#[derive(Drop)]
+#[derive(Clone, Copy)]
 struct Cut {
     row: u16,
     high: u16,
@@ -19,7 +19,7 @@ struct Cut {
 }
 
 // What a cut of a join has of one part: bits high to low of a row of this width. No bits, if the width is 0.
-#[derive(Drop)]
+#[derive(Clone, Copy)]
 struct Part {
     row: u16,
     width: u16,

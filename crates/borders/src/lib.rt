@@ -7,14 +7,14 @@ ghost use Rattle.borders.specs.inner.Borders.{MarksBegins, beside_in, uneven_wit
 use answers::AnswerRow;
 
 // How many rows an answer has, and how many fresh pieces.
-#[derive(Drop)]
+#[derive(Clone, Copy)]
 pub struct Counts {
     pub pieces: usize,
     pub fresh: usize,
 }
 
 // The last row so far, and the counts of the places passed: variables that began, rows, and fresh pieces that appeared.
-#[derive(Drop)]
+#[derive(Clone, Copy)]
 pub struct Progress {
     pub begun: u16,
     pub rows: u16,

@@ -25,7 +25,7 @@ pub fn find(links: &mut [u16], s: u16) -> u16
 }
 
 // What a pair says: nothing new, a tie, or that two different fixed bits meet.
-#[derive(Drop)]
+#[derive(Clone, Copy)]
 pub enum Pairing {
     Nothing,
     Tie,

@@ -8,41 +8,41 @@ use sheets::Order;
 use terms::Row;
 
 // A place in a text.
-#[derive(Drop)]
+#[derive(Clone, Copy)]
 pub struct Cursor {
     pub at: usize,
 }
 
 // A number and the cursor behind it.
-#[derive(Drop)]
+#[derive(Clone, Copy)]
 pub enum Number {
     Value(u16, Cursor),
     NoNumber,
 }
 
 // The four values of a line and the cursor behind it.
-#[derive(Drop)]
+#[derive(Clone, Copy)]
 pub enum Four {
     Found(u16, u16, u16, u16, Cursor),
     NoFour,
 }
 
 // The column that is named, 0 to 3 for kind, a, b and c, and the cursor behind it.
-#[derive(Drop)]
+#[derive(Clone, Copy)]
 pub enum Name {
     Column(u16, Cursor),
     NoName,
 }
 
 // The line of names.
-#[derive(Drop)]
+#[derive(Clone, Copy)]
 pub enum Names {
     InOrder(Order, Cursor),
     NoNames,
 }
 
 // A line of values.
-#[derive(Drop)]
+#[derive(Clone, Copy)]
 pub enum Line {
     Values(Row, Cursor),
     NoLine,

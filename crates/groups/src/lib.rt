@@ -6,7 +6,7 @@ ghost use Rattle.groups.specs.inner.Counts.{linked};
 ghost use Rattle.groups.specs.inner.Groups.{GroupOf, is_row_of, last_row, Added, Covers, PutsPlace, Counts};
 
 // An equal row: word x, word y, by how many bits y is shifted upwards, and the mask of the bits that are then the same.
-#[derive(Drop)]
+#[derive(Clone, Copy)]
 struct Group {
     x: u16,
     y: u16,

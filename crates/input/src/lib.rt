@@ -8,7 +8,7 @@ ghost use Rattle.input.specs.Reading.{has_failed, is_open, after_read, InBounds,
 const MOST_READ: usize = 16385;
 
 // Whether more may come, the input has ended, or a read has failed.
-#[derive(Drop)]
+#[derive(Clone, Copy)]
 enum State {
     Open,
     Ended,
@@ -16,7 +16,7 @@ enum State {
 }
 
 // What was read: the first len of the bytes.
-#[derive(Drop)]
+#[derive(Clone, Copy)]
 pub struct Input {
     bytes: [u8; MOST_READ],
     len: usize,

@@ -3,7 +3,7 @@
 
 // The job's own record: the row of the next equation, and the ties so far.
 #[repr(C)]
-#[derive(Drop)]
+#[derive(Clone, Copy)]
 pub struct Job {
     pub next: u32,
     pub ties: u32,

@@ -55,7 +55,7 @@ fn lay(sent: &[u16], received: &[u16], window: &mut [u16])
 
 // How far a pass has come in either recording, and what it has found: pairs, those that break the sheet and the counter of the first of these,
 // and the bits that differ; or that a counter is not above the one before it.
-#[derive(Drop)]
+#[derive(Clone, Copy)]
 struct Pass {
     i: usize,
     j: usize,

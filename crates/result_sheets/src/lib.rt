@@ -6,7 +6,7 @@ pub const BYTES: usize = 2460;
 
 // A page.
 #[repr(C)]
-#[derive(Drop)]
+#[derive(Clone, Copy)]
 pub struct Page {
     pub bytes: [u8; BYTES],
 }

@@ -5,7 +5,7 @@ ghost use Rattle.std.specs.Prelude.{◌≡◌, true, ◌≤◌, length};
 ghost use Rattle.run_equations.specs.inner.Equations.{TakesSlices, TakesEquation, TakesInRuns, KeepsRuns};
 
 // What the slices of an equation come to: whether two different fixed bits met, how many ties, and how many steps and links these took.
-#[derive(Drop)]
+#[derive(Clone, Copy)]
 struct Slices {
     conflict: bool,
     ties: usize,
@@ -51,7 +51,7 @@ fn take_slices(
 }
 
 // The same of an equation, and how many pairs it has.
-#[derive(Drop)]
+#[derive(Clone, Copy)]
 struct Equation {
     conflict: bool,
     ties: usize,
@@ -95,7 +95,7 @@ fn take_equation(
 }
 
 // How far the equations were taken, as in crate taking; and whether it went on to there, or gave up.
-#[derive(Drop)]
+#[derive(Clone, Copy)]
 pub struct Taken {
     pub row: usize,
     pub ties: usize,

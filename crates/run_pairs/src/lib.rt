@@ -11,7 +11,7 @@ pub const TIE: u16 = 1;
 pub const CONFLICT: u16 = 2;
 
 // What pairs from one on say, for how many of them, and how many links were followed.
-#[derive(Drop)]
+#[derive(Clone, Copy)]
 pub struct Step {
     pub what: u16,
     pub len: u16,

@@ -4,7 +4,7 @@ ghost use Rattle.std.specs.Prelude.{◌≡◌, cond, ◌≤◌, eqb};
 ghost use Rattle.run_slices.specs.inner.Slices.{TakesSlice};
 
 // What the pairs of a slice say: how many ties, or that two different fixed bits meet; and how many steps and links that took.
-#[derive(Drop)]
+#[derive(Clone, Copy)]
 pub struct Taken {
     pub conflict: bool,
     pub ties: usize,

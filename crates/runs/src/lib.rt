@@ -9,7 +9,7 @@ ghost use Rattle.runs.specs.inner.Finds.{FindsRun};
 ghost use Rattle.runs.specs.inner.Starts.{StartsRuns};
 
 // A root, for how many sources the roots go on side by side with it, and how many links were followed to it.
-#[derive(Drop)]
+#[derive(Clone, Copy)]
 pub struct Found {
     pub root: u16,
     pub len: u16,

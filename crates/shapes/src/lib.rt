@@ -10,7 +10,7 @@ const FRESH: u16 = 2;
 
 // What the rows passed leave for the next one: the last row's variable and the one above it, or 0 at first; the last row's kind; the
 // width of its variable so far; the bits so far; how many fresh pieces were seen and how many bits they have.
-#[derive(Drop)]
+#[derive(Clone, Copy)]
 struct Progress {
     variable: u16,
     next: u16,
@@ -22,7 +22,7 @@ struct Progress {
 }
 
 // Whether an answer table has the form; where it has, the bits of its pattern and its fresh bits.
-#[derive(Drop)]
+#[derive(Clone, Copy)]
 pub struct Found {
     pub fine: bool,
     pub bits: u16,

@@ -7,7 +7,7 @@ pub const SPACE: u8 = 32;
 pub const NEWLINE: u8 = 10;
 
 // Which column stands first, second, third and fourth.
-#[derive(Drop)]
+#[derive(Clone, Copy)]
 pub struct Order {
     pub first: u16,
     pub second: u16,
@@ -17,7 +17,7 @@ pub struct Order {
 
 // What reading a sheet finds: too many bytes, a wrong line of names, a 513th line, a wrong line, or so many rows.
 // `sheet_number` and `sheet_row` have document 01's number and row for each.
-#[derive(Drop)]
+#[derive(Clone, Copy)]
 pub enum Sheet {
     TooLong,
     WrongNames,
@@ -27,7 +27,7 @@ pub enum Sheet {
 }
 
 // A line of text: its first len bytes.
-#[derive(Drop)]
+#[derive(Clone, Copy)]
 pub struct Text {
     pub bytes: [u8; 80],
     pub len: usize,

@@ -7,7 +7,7 @@ ghost use Rattle.sides.specs.inner.Sides.{WritesSide, WritesSides};
 
 // Where a form is read: the piece and, at one of its bits, the source, how far on the next bit's source is (0 in a fill, 1 in a part of a
 // variable), and how many bits of the piece are left behind it.
-#[derive(Drop)]
+#[derive(Clone, Copy)]
 pub struct Reader {
     pub piece: u16,
     pub source: u16,

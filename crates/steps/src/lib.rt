@@ -6,7 +6,7 @@ ghost use Rattle.steps.specs.inner.Steps.{next_row, StepsFrom, TriesStep};
 use terms::Record;
 
 // What a call on a job yields: the record, and the job's two numbers as they are then.
-#[derive(Drop)]
+#[derive(Clone, Copy)]
 pub struct Step {
     pub found: Record,
     pub next: u32,

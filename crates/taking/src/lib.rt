@@ -8,7 +8,7 @@ use sides::Reader;
 
 // How far the equations were taken: to the row at which two different fixed bits met, or to the row at which taking was to end; and the ties
 // before it.
-#[derive(Drop)]
+#[derive(Clone, Copy)]
 pub struct Taken {
     pub row: usize,
     pub ties: usize,

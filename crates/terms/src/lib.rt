@@ -29,7 +29,7 @@ pub const MAX_EQUATIONS: usize = 64;
 
 // The record that every call returns (document 01, "The solver's answer").
 #[repr(C)]
-#[derive(Drop)]
+#[derive(Clone, Copy)]
 pub struct Record {
     pub outcome: u32,
     pub pieces: u32,
@@ -41,7 +41,7 @@ pub struct Record {
 
 // A row of the table (document 01: row record).
 #[repr(C)]
-#[derive(Drop)]
+#[derive(Clone, Copy)]
 pub struct Row {
     pub kind: u16,
     pub a: u16,
@@ -51,7 +51,7 @@ pub struct Row {
 
 // What the check of a table finds: no fault, a table that is not at most 512 whole rows, or the first rule
 // broken and the row that breaks it. `fault_record` has the number and the row for each.
-#[derive(Drop)]
+#[derive(Clone, Copy)]
 pub enum Fault {
     Accepted,
     Shape,

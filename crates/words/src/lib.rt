@@ -83,7 +83,7 @@ pub fn meets(plan: &[u16], window: &[u16]) -> bool
 }
 
 // The bits of a word that are fixed, and what they are.
-#[derive(Drop)]
+#[derive(Clone, Copy)]
 struct Fixed {
     mask: u16,
     value: u16,
