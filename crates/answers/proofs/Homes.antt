@@ -112,9 +112,9 @@ module _ (rows : List AnswerRow) (f : List ℕ) (W : WholePieces rows f) (j : �
     where
       go : (b : Bool) → is_fresh (answer_row_at rows j) ≡ b → row.width ≡ (answer_row_at rows j).width
       go true e =
-          sym (W.one_Width h home-in ((first-places rows).home_fresh j e))
+          sym (W.one_width h home-in ((first-places rows).home_fresh j e))
           ∙ ap (fresh_width rows) ((first-places rows).home_number j e)
-          ∙ W.one_Width j l e
+          ∙ W.one_width j l e
       go false e = ap (λ (i : ℕ). (answer_row_at rows i).width) (home_fill rows j e)
 
   pub same_bits : row_bits rows f (answer_row_at rows j) ≡ row_bits rows f (answer_row_at rows (home_row rows j))

@@ -11,7 +11,7 @@ use Rattle.answers.specs.Pairs.{Pair, satisfies_pairs, ties}
 use Rattle.answers.proofs.Conflicts.{unsat_at, ties_before}
 use Rattle.answers.specs.Representatives.{satisfies_all, all_pairs, none_satisfies}
 use Rattle.laws.specs.Lists.{least}
-use Rattle.answers.specs.inner.Classes.{run, run_all}
+use Rattle.answers.specs.inner.Classes.{merge, run, run_all}
 use Rattle.answers.specs.Solve.{pairs_together}
 use Rattle.laws.proofs.Bools.{and_second}
 use Rattle.answers.proofs.Equations.{all-pairs}
@@ -21,7 +21,7 @@ use Rattle.answers.proofs.Order.{satisfies-append}
 run-append : (c : List ℕ) (qs rs : List Pair) → run c (qs ++ rs) ≡ run (run c qs) rs
 unfolding run
 run-append c [] rs = refl
-run-append c (q ∷ qs) rs = run-append _ qs rs
+run-append c (q ∷ qs) rs = run-append (merge c q) qs rs
 
 pub run_together : (c : List ℕ) (es : List (List Pair)) → run c (pairs_together es) ≡ run_all c es
 unfolding pairs_together run_all

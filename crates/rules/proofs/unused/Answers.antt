@@ -5,44 +5,40 @@ use native.Mathlib.Omega.{arith}
 use borrow.Author.Tests.{ne_eqb}
 use Rattle.terms.specs.Faults.{unused_column}
 use Rattle.terms.proofs.RowKinds.{each_kind}
-use Rattle.rules.proofs.unused.Statement.{statement}
-use Rattle.rules.proofs.unused.Tie as tie
+use Rattle.rules.proofs.unused.Goals as goal
 
-returns : tie.Need-returns
+pub returns-then-kind-eq-EXTRACT : goal.returns-then-kind-eq-EXTRACT
 unfolding unused_column
-returns c =
+returns-then-kind-eq-EXTRACT c =
     each_kind _ _ (λ h. absurd (omega arith)) (λ h. absurd (omega arith)) (λ h. absurd (omega arith)) (λ h. refl)
     (λ h. absurd (omega arith)) (λ h. absurd (omega arith))
 
-returns-2 : tie.Need-returns-2
+pub returns-then-kind-eq-EQUATION : goal.returns-then-kind-eq-EQUATION
 unfolding unused_column
-returns-2 c =
+returns-then-kind-eq-EQUATION c =
     each_kind _ _ (λ h. absurd (omega arith)) (λ h. absurd (omega arith)) (λ h. absurd (omega arith)) (λ h. absurd (omega arith))
     (λ h. refl) (λ h. absurd (omega arith))
 
-returns-3 : tie.Need-returns-3
+pub returns-then-c-ne0 : goal.returns-then-c-ne0
 unfolding unused_column
-returns-3 c =
-    let z = ne_eqb _ 0 c.if3.true in
+returns-then-c-ne0 c =
+    let z = ne_eqb _ 0 c.if-c-ne0.true in
     each_kind _ _ (λ h. rw (z, or-true)) (λ h. rw z) (λ h. rw z) (λ h. absurd (omega arith)) (λ h. absurd (omega arith)) (λ h. rw z)
 
-returns-4 : tie.Need-returns-4
+pub returns-then-b-ne0 : goal.returns-then-b-ne0
 unfolding unused_column
-returns-4 c =
-    each_kind _ _ (λ h. rw (ne_eqb _ 0 c.if5.true)) (λ h. absurd (omega arith)) (λ h. absurd (omega arith))
+returns-then-b-ne0 c =
+    each_kind _ _ (λ h. rw (ne_eqb _ 0 c.if-b-ne0.true)) (λ h. absurd (omega arith)) (λ h. absurd (omega arith))
     (λ h. absurd (omega arith)) (λ h. absurd (omega arith)) (λ h. absurd (omega arith))
 
-returns-5 : tie.Need-returns-5
+pub returns-else-b-ne0 : goal.returns-else-b-ne0
 unfolding unused_column
-returns-5 c =
-    let z = c.before.before.if3.false in
-    each_kind _ _ (λ h. rw (c.if5.false, z)) (λ h. rw z) (λ h. rw z) (λ h. refl) (λ h. refl) (λ h. rw z)
+returns-else-b-ne0 c =
+    let z = c.if-c-ne0.false in
+    each_kind _ _ (λ h. rw (c.if-b-ne0.false, z)) (λ h. rw z) (λ h. rw z) (λ h. refl) (λ h. refl) (λ h. rw z)
 
-returns-6 : tie.Need-returns-6
+pub returns-else-kind-eq-VARIABLE : goal.returns-else-kind-eq-VARIABLE
 unfolding unused_column
-returns-6 c =
-    let z = c.before.if3.false in
+returns-else-kind-eq-VARIABLE c =
+    let z = c.if-c-ne0.false in
     each_kind _ _ (λ h. absurd (omega arith)) (λ h. rw z) (λ h. rw z) (λ h. refl) (λ h. refl) (λ h. rw z)
-
-pub unused_spec : {M : Type 1} → statement M
-unused_spec = tie.close (tie.spec returns returns-2 returns-3 returns-4 returns-5 returns-6)
