@@ -1,0 +1,28 @@
+-- `right_side` meets its contract: the part lies within the table lent. Assumes nothing.
+use Prim.Native.Nat.{ℕ, ◌+◌, ◌-◌}
+use mathlib.Core.Path.{◌≡◌, ap₂}
+use native.Mathlib.Omega.{arith}
+use lib.ListN.{take, drop}
+use Rattle.answers.specs.RightSide.{right_side, right_side_length}
+use Rattle.answers.proofs.RightSide.{part_lent}
+use borrow.Author.Rules.{rules}
+use Rattle.answer_table.proofs.right_side.Goals as goal
+
+pub overflow_add-end : goal.overflow_add-end
+overflow_add-end c =
+    let s = c.args in
+    omega (arith, c.right_part-part.ensures.start, c.right_part-part.ensures.len, part_lent s.answer.now s.rows s.variable)
+
+pub offset_bounds-answer-start : goal.offset_bounds-answer-start
+offset_bounds-answer-start c =
+    let s = c.args in
+    omega (arith, c.right_part-part.ensures.start, c.right_part-part.ensures.len, part_lent s.answer.now s.rows s.variable)
+
+pub returns : goal.returns
+unfolding right_side
+returns c =
+    let s = c.args in
+    let p = c.right_part-part.result in
+    let e = c.right_part-part.ensures in
+    let n : p.start + p.len - p.start ≡ right_side_length s.answer.now s.rows s.variable = omega (arith, e.1) in
+    ap₂ (λ (m i : ℕ). take m (drop i s.answer.now)) n e.0
