@@ -222,6 +222,7 @@ class Function:
                     more = f".{t[1]}.{ps[k]}{t[3]}"
             return f"{m[1]}.{new}{more}"
 
+        body = re.sub(r"\((" + re.escape(var) + r")\)(?=\.)", r"\1", body)
         return re.sub(r"(?<![^\s(){};,])(" + re.escape(var) + r")((?:\." + NAME + r")+)(?![^\s(){};,])", one, body)
 
     def type_of(self, body):

@@ -24,5 +24,10 @@ returns c =
     let s = c.args in
     let p = c.right_part-part.result in
     let e = c.right_part-part.ensures in
-    let n : p.start + p.len - p.start ≡ right_side_length s.answer.now s.rows s.variable = omega (arith, e.1) in
-    ap₂ (λ (m i : ℕ). take m (drop i s.answer.now)) n e.0
+    let n : p.start + p.len - p.start ≡ right_side_length s.answer.now s.rows s.variable = omega (arith, e.len) in
+    ap₂ (λ (m i : ℕ). take m (drop i s.answer.now)) n e.start
+
+pub slice_bounds-result-end : goal.slice_bounds-result-end
+slice_bounds-result-end c =
+    let s = c.args in
+    omega (arith, c.right_part-part.ensures.start, c.right_part-part.ensures.len, part_lent s.answer.now s.rows s.variable)

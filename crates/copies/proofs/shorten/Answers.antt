@@ -7,6 +7,7 @@ use native.Mathlib.Omega.{arith}
 use Prim.Native.Nat.{◌-◌, ◌<◌, ◌≤◌}
 use mathlib.Core.Logic.{inl, inr, ⊎_elim}
 use Rattle.copies.proofs.shorten.Goals as goal
+use Rattle.copies.proofs.shorten.Goals.{else-loop-r-test, then-loop-r-test+then-table-r}
 
 pub loop-r-init : goal.loop-r-init
 loop-r-init c = (omega arith, shortening_first _ _)
@@ -19,4 +20,8 @@ loop-r-preserved c =
 pub returns : goal.returns
 returns c =
     let k = c.loop-r.invariant in
-    record { few = omega (arith, k.0); rows = shortening_done _ _ _ _ k.1 k.0 (⊎_elim (λ l. inl l.left) (λ l. inr (omega (arith, rows_length c.args.table.now, l.1.taken))) c.loop-r-test.branch) }
+    record {
+      few = omega (arith, k.0);
+      rows = shortening_done _ _ _ _ k.1 k.0
+          (elim c.loop-r-test.branch [ else-loop-r-test w ↦ inl w.loop-r-test.false | then-loop-r-test+then-table-r w ↦ inr (omega (arith, rows_length c.args.table.now, w.if-table-r.true)) ]);
+    }

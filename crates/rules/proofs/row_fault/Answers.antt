@@ -49,7 +49,7 @@ unfolding first_rule rules_in
 returns-then-unused c =
     rw (
       kept-12 c.before.before.before,
-      said_13 c.before.before ∙ (c).if2.true,
+      said_13 c.before.before ∙ c.if-unused.true,
     )
     (ap Unused c.narrow-at.ensures)
 
@@ -59,7 +59,7 @@ returns-then-bad_names c =
     rw (
       kept-12 c.before.before.before.before.before,
       said_13 c.before.before.before.before ∙ c.if-unused.false,
-      said-14 c.before.before ∙ (c).if3.true,
+      said-14 c.before.before ∙ c.if-bad_names.true,
     )
     (ap Named c.narrow-at.ensures)
 
@@ -70,7 +70,7 @@ returns-then-bad_width c =
       kept-12 c.before.before.before.before.before.before.before.before,
       said_13 c.before.before.before.before.before.before.before ∙ c.if-unused.false,
       said-14 c.before.before.before.before.before ∙ c.if-bad_names.false,
-      said_15 c.before.before ∙ (c).if4.true,
+      said_15 c.before.before ∙ c.if-bad_width.true,
     )
     (ap Width c.narrow-at.ensures)
 
@@ -82,7 +82,7 @@ returns-then-bad_value c =
       said_13 c.before.before.before.before.before.before.before.before.before ∙ c.if-unused.false,
       said-14 c.before.before.before.before.before.before.before ∙ c.if-bad_names.false,
       said_15 c.before.before.before.before ∙ c.if-bad_width.false,
-      said_40 c.before.before ∙ (c).if5.true,
+      said_40 c.before.before ∙ c.if-bad_value.true,
     )
     (ap Value c.narrow-at.ensures)
 
@@ -95,7 +95,7 @@ returns-then-bad_bounds c =
       said-14 c.before.before.before.before.before.before.before.before.before.before ∙ c.if-bad_names.false,
       said_15 c.before.before.before.before.before.before.before ∙ c.if-bad_width.false,
       said_40 c.before.before.before.before.before ∙ c.if-bad_value.false,
-      said-16 c.before.before ∙ (c).if6.true,
+      said-16 c.before.before ∙ c.if-bad_bounds.true,
     )
     (ap Bounds c.narrow-at.ensures)
 
@@ -109,7 +109,7 @@ returns-then-too_many c =
       said_15 c.before.before.before.before.before.before.before.before.before ∙ c.if-bad_width.false,
       said_40 c.before.before.before.before.before.before.before ∙ c.if-bad_value.false,
       said-16 c.before.before.before.before ∙ c.if-bad_bounds.false,
-      said-17 c.before.before ∙ (c).if7.true,
+      said-17 c.before.before ∙ c.if-too_many.true,
     )
     (ap Count c.narrow-at.ensures)
 
@@ -123,5 +123,5 @@ returns c =
       said_15 c.before.before.before.before.before.before.before.before.before ∙ c.if-bad_width.false,
       said_40 c.before.before.before.before.before.before.before ∙ c.if-bad_value.false,
       said-16 c.before.before.before.before ∙ c.if-bad_bounds.false,
-      said-17 c.before.before ∙ (c).if7.false,
+      said-17 c.before.before ∙ c.if-too_many.false,
     )
