@@ -94,6 +94,25 @@ def declarations(text):
     return head, uses, decls
 
 
+def tuple_parts(e):
+    """The parts of a tuple that stands in parentheses, or None."""
+    if not (e.startswith("(") and e.endswith(")")):
+        return None
+    depth, cut = 0, [1]
+    for i, ch in enumerate(e):
+        if ch in "({":
+            depth += 1
+        elif ch in ")}":
+            depth -= 1
+            if depth == 0 and i < len(e) - 1:
+                return None
+        elif ch == "," and depth == 1:
+            cut.append(i + 1)
+    parts = [e[a:b].rstrip().rstrip(",").strip() for a, b in zip(cut, cut[1:] + [len(e) - 1])]
+    parts = [p for p in parts if p]
+    return parts if len(parts) > 1 else None
+
+
 class Function:
     def __init__(self, crate, f, data, text):
         self.crate, self.f, self.text = crate, f, text
@@ -132,12 +151,38 @@ class Function:
         q = place
         while q in self.places:
             it = self.places[q]
-            if DASH(it[2][0]) == DASH(name):
+            if DASH(it[2][0]).lower() == DASH(name).lower():
                 return it[2][1], it[3], q
             if not it[1]:
                 break
             q = it[1]
         return name, None, None
+
+    in_answer = False
+
+    def helpers_at(self):
+        """The place of the record that each helper takes."""
+        out = {}
+        for d in self.decls:
+            if d.kind is None:
+                m = re.search(r"\(\w+ : tie\.((?:After|Then|Else|In|At|Start|Join)[^\s(){};,]*)", "\n".join(d.lines))
+                if m:
+                    for k in self.places:
+                        if DASH(k).lower() == DASH(m[1]).lower():
+                            out[d.name] = k
+        return out
+
+    def passed(self, body, var, place, more):
+        """A record of an earlier place that a helper is given."""
+        for name, at in self.helpers_at().items():
+            n, q = 0, place
+            while q != at and q in self.places and self.places[q][1]:
+                q = self.places[q][1]
+                n += 1
+            if q != at:
+                continue
+            body = re.sub(r"(?<![^\s(){};,])" + re.escape(name) + r" " + re.escape(var) + r"(?:\.before)*(?=[\s(){};,]|$)", f"{name} {var}" + ".BEFORE" * (n + more), body)
+        return body
 
     def key(self):
         return f"{self.crate}::{self.f.replace('/', '::')}"
@@ -146,9 +191,10 @@ class Function:
         it = LABELS.get(callee, {}).get(kind, [])
         return it[n] if len(it) > 1 and n < len(it) and it[n] else str(n)
 
-    def as_record(self, body):
+    def as_record(self, body, names=None):
         """The answer to several clauses: a tuple becomes a record of them."""
-        names = LABELS.get(self.key(), {}).get("ensures", [])
+        if names is None:
+            names = LABELS.get(self.key(), {}).get("ensures", [])
         if len(names) < 2:
             return body
         head, rest = body.split(" =", 1)
@@ -162,22 +208,9 @@ class Function:
             elif m[0] == "in" and depth == 0:
                 at = m.end()
         pre, e = rest[:at], rest[at:].strip()
-        parts = None
-        if e.startswith("(") and e.endswith(")"):
-            depth, cut, ok = 0, [1], True
-            for i, ch in enumerate(e):
-                if ch in "({":
-                    depth += 1
-                elif ch in ")}":
-                    depth -= 1
-                    if depth == 0 and i < len(e) - 1:
-                        ok = False
-                        break
-                elif ch == "," and depth == 1:
-                    cut.append(i + 1)
-            if ok:
-                parts = [e[a:b].rstrip().rstrip(",").strip() for a, b in zip(cut, cut[1:] + [len(e) - 1])]
-                parts = [p for p in parts if p]
+        parts = tuple_parts(e)
+        while parts and len(parts) < len(names) and (last := tuple_parts(parts[-1])):
+            parts = parts[:-1] + last
         if parts is None or len(parts) < len(names):
             parts = [f"({e}).{i}" for i in range(len(names))]
         if len(parts) > len(names):
@@ -199,6 +232,7 @@ class Function:
     def paths(self, body, var, place):
         """Turns the paths that begin with var, a record of the place."""
         body = self.aliases(body, var, place)
+        body = self.passed(body, var, place, 1 if var == getattr(self, "var", "c") and self.in_answer else 0)
 
         def one(m):
             rest = m[2]
@@ -206,6 +240,8 @@ class Function:
             while rest.startswith(".before"):
                 back += 1
                 rest = rest[len(".before") :]
+            if rest.startswith(".BEFORE"):
+                return m[0]
             fm = re.match(r"\.(" + NAME + r")(.*)$", rest, re.S)
             if not fm:
                 return m[1] + ".before" * (back + 1) if (back or True) else m[0]
@@ -233,7 +269,7 @@ class Function:
             for k, n in self.new_place.items():
                 if DASH(k) == DASH(old):
                     self.used_lts = True
-                    return f"lts.{k} tie.the-claims reads.Pre reads.Post" + "".join(f" goal.the-invariant-{l[0]} goal.the-decreases-{l[0]}" for l in self.loop_order())
+                    return f"lts.{k} tie.the-claims reads.Pre reads.Post" + "".join(f" goal.the-invariant-{l[0]} goal.the-decreases-{l[0]}" for l in self.loop_order()) + (" tie.handed_clauses" if len(LABELS.get(self.key(), {}).get("ensures", [])) > 1 else "")
             return m[0]
 
         return re.sub(r"tie\.((?:After|Then|Else|In|At|Start|Join)[^\s(){};,]*)((?: (?:invariant|decreases)-" + NAME + r")*)", one, body)
@@ -300,10 +336,20 @@ class Function:
                 self.var = v[1] if v else "c"
             out.append(l)
         body = "\n".join(out)
-        body = self.paths(body, getattr(self, "var", "c"), place)
+        self.in_answer = True
+        body = self.paths(body, getattr(self, "var", "c"), place).replace(".BEFORE", ".before")
+        self.in_answer = False
+        body = re.sub(r"(?:not-true|not-false) \S+ (c\.[^\s()]+)", r"\1", body)
         if new == "returns" or new.startswith("returns-"):
             first = body.index("\n" + new + " ")
             body = body[:first] + self.as_record(body[first:])
+        elif m := re.match(r"(.*)-requires(?:-\d+)?$", new):
+            f = m[1].split("-")[0]
+            found = [k for k in LABELS if k.split("::")[-1] == f]
+            found = [k for k in found if k.startswith(self.crate + "::")] or found
+            if found and len(names := LABELS[found[0]]["requires"]) > 1:
+                first = body.index("\n" + new + " ")
+                body = body[:first] + self.as_record(body[first:], names)
         return self.type_of(body)
 
     def helper(self, d):
@@ -313,7 +359,7 @@ class Function:
         for m in re.finditer(r"\((\w+) : tie\.((?:After|Then|Else|In|At|Start|Join)[^\s(){};,]*)", text):
             for k in self.places:
                 if DASH(k) == DASH(m[2]):
-                    text = self.paths(text, m[1], k)
+                    text = self.paths(text, m[1], k).replace(".BEFORE", ".before")
         return "\n".join(d.comment + [self.type_of(text)])
 
     def answers(self, wanted):

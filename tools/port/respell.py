@@ -125,7 +125,7 @@ def turn(path, text):
 
 def clauses(path, text):
     """In src/ a name with a capital letter inside stands in clauses alone."""
-    return TOKEN.sub(lambda m: table.get(m[0], m[0]), text)
+    return TOKEN.sub(lambda m: table[m[0]] if m[0] in table and (path.endswith(".edit") or re.search("[A-Z]", m[0])) else m[0], text)
 
 
 n = 0

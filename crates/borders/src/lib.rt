@@ -83,7 +83,7 @@ fn mark_uneven(marks: &[u16], links: &[u16], side: u16, n: u16, uneven: &mut [u1
 }
 
 // Whether place i goes on with the row of the place before it.
-pub fn goes-on(marks: &[u16], links: &[u16], after: &[u16], before: &[u16], i: u16) -> bool
+pub fn goes_on(marks: &[u16], links: &[u16], after: &[u16], before: &[u16], i: u16) -> bool
     ensures { result ≡ goes_in marks.now links.now after.now before.now i }
 {
     let at = numbers::wide(i);
@@ -227,7 +227,7 @@ fn put_places(
     let mut i: u16 = 0;
     while i < n {
         numbers::store(numbers, numbers::wide(i), p.fresh);
-        let on = goes-on(marks, links, after, before, i);
+        let on = goes_on(marks, links, after, before, i);
         end_row(answer, on, p);
         p = step(marks, links, numbers, on, p, i);
         i += 1;

@@ -49,5 +49,5 @@ homes_tested t room b f k l =
     let p = and_parts (eqb (length t % 6) 0) (rows_fine [] (answer_rows_of t)) f in
     let whole : length t % 6 ≡ 0 = eqb-true (length t % 6) 0 p.0 in
     let R : TellsRight (answer_rows_of t) t b = k (orderly (answer_rows_of t) (formed_rows (answer_rows_of t) p.1)) l in
-    same_test _ b (λ h. R.All-right (written_right t whole (same-word (answer_numbers (answer_rows_of t)) t h)))
+    same_test _ b (λ h. R.all_right (written_right t whole (same-word (answer_numbers (answer_rows_of t)) t h)))
     (λ h. rw (right_written t whole (R.only_right h)) (word_same t))

@@ -82,7 +82,7 @@ fn sheet_row(s: Sheet) -> u32
 }
 
 // How many rows were read.
-fn row-count(s: Sheet) -> u16
+fn row_count(s: Sheet) -> u16
     ensures { result ≡ row_count s }
 {
     match s {
@@ -108,7 +108,7 @@ pub fn read_sheet(text: &[u8], table: &mut [u16]) -> Record
     if table.len() < 2048 {
         return records::refuse(32, 0);
     }
-    let n = row-count(found);
+    let n = row_count(found);
     numbers::copy(&rows[..], numbers::wide(n) * 4, table);
     records::complete(n as u32, 0)
 }

@@ -26,7 +26,7 @@ fn begin(table: &[u16], room: usize, widths: &mut [u16], places: &mut [u16]) -> 
 }
 
 // Whether a record is that of a step that leaves a pattern.
-fn goes-on(outcome: u32) -> bool
+fn goes_on(outcome: u32) -> bool
     ensures { result ≡ goes_on outcome }
 {
     if outcome == 0 {
@@ -50,7 +50,7 @@ fn step_with(
 {
     let step = steps::try_step(table, widths, places, bits, next, ties, work, links);
     let found = step.found;
-    if goes-on(found.outcome) {
+    if goes_on(found.outcome) {
         areas::put_holders(links, work);
     }
     step

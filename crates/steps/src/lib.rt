@@ -24,7 +24,7 @@ fn end_row(row: usize, to: usize, rows: usize) -> usize
 }
 
 // The next row after the equation of row r, where taking it ended at a row: NEVER, if it ended at r.
-fn next-row(table: &[u16], r: usize, row: usize) -> u32
+fn next_row(table: &[u16], r: usize, row: usize) -> u32
     requires { r < length table.now / 4 }
     ensures { result ≡ next_row table.now r row }
 {
@@ -57,7 +57,7 @@ fn step_from(
     let found = solver::conclude(table, bits, row, all, links, &mut none[..0]);
     Step {
         found: found,
-        next: next-row(table, r, taken.row),
+        next: next_row(table, r, taken.row),
         ties: numbers::short(all),
     }
 }
