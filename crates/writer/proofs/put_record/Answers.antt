@@ -1,0 +1,21 @@
+-- `put_record` meets its contract: the values behind the names. Assumes nothing.
+use mathlib.Core.Path.{sym, ◌∙◌}
+use Rattle.sheets.proofs.Printed.{room_there, room_not_there, put_none}
+use Rattle.writer.proofs.Lines.{record_put}
+use borrow.Author.Rules.{rules}
+use Rattle.writer.proofs.put_record.Goals as goal
+
+pub returns-then-not-lines_fit : goal.returns-then-not-lines_fit
+returns-then-not-lines_fit c =
+    record { place = (put_none _ _ _ _ (room_not_there _ _ _ (sym c.lines_fit.ensures ∙ c.if-not-lines_fit.true))).0; bytes = (put_none _ _ _ _ (room_not_there _ _ _ (sym c.lines_fit.ensures ∙ c.if-not-lines_fit.true))).1 }
+
+pub returns : goal.returns
+returns c =
+    let a = c.args in
+    let room = room_there _ _ _ (sym c.lines_fit.ensures ∙ c.if-not-lines_fit.false) in
+    record {
+      place = (record_put a.found _ _ a.out.now _ _ a.at _ _ room
+          c.record_names.ensures c.put_line-behind.ensures c.record_values.ensures c.put_line.ensures).0;
+      bytes = (record_put a.found _ _ a.out.now _ _ a.at _ _ room
+          c.record_names.ensures c.put_line-behind.ensures c.record_values.ensures c.put_line.ensures).1;
+    }
