@@ -120,6 +120,7 @@ class Function:
         self.d = data
         self.places = {p[0]: p for p in data["places"]}
         self.new_place = dict(zip([p[0] for p in data["places"]], data.get("places_by_name", [])))
+        self.arms = {p[0]: a for p, a in zip(data["places"], data.get("arms", [])) if a}
         self.needs, self.asked = {}, {}
         for (o, n), at in zip(data["needs"], data["asked_at"]):
             self.needs[DASH(o)] = n
@@ -177,7 +178,8 @@ class Function:
         for name, at in self.helpers_at().items():
             n, q = 0, place
             while q != at and q in self.places and self.places[q][1]:
-                q = self.places[q][1]
+                for _ in range(self.arms[q][1] if q in self.arms else 1):
+                    q = self.places[q][1]
                 n += 1
             if q != at:
                 continue
@@ -247,6 +249,12 @@ class Function:
                 return m[1] + ".before" * (back + 1) if (back or True) else m[0]
             name, more = fm[1], fm[2]
             new, callee, at = self.field(place, back, name)
+            if at in self.arms:
+                new = self.arms[at][0]
+                for f, step, path in self.arms[at][2]:
+                    if DASH(step).lower() == DASH(name).lower() and path and more.startswith("." + ".".join(path)):
+                        more = "." + f + more[len("." + ".".join(path)) :]
+                        break
             if callee and (t := re.match(r"\.ensures\.(\d+)(.*)$", more, re.S)):
                 more = ".ensures." + self.label(callee, "ensures", int(t[1])) + t[2]
             if name == "requires" and (t := re.match(r"\.(\d+)(.*)$", more, re.S)):

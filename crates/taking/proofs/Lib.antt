@@ -1,3 +1,4 @@
 pub mod Taking
 pub mod Forms
 pub mod Passing
+pub mod Asked

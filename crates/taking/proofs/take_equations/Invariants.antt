@@ -11,6 +11,7 @@ use Rattle.classes.specs.inner.Links.{roots_of}
 use Rattle.sides.specs.inner.Reading.{Stands}
 use Rattle.sides.specs.inner.Sides.{SidesRead, left_side, right_side}
 use Rattle.taking.specs.inner.Equations.{Holding}
+use Rattle.taking.proofs.Asked.{Given, Room}
 use Rattle.taking.proofs.Taking.{Taking, Between}
 use Rattle.taking.proofs.Forms.{Standing}
 use Rattle.taking.proofs.take_equations.Given as goal
