@@ -2,7 +2,6 @@
 use mathlib.Core.Path.{sym, ◌∙◌}
 use Rattle.sheets.proofs.Printed.{room_there, room_not_there, put_none}
 use Rattle.writer.proofs.Lines.{answer_put}
-use borrow.Author.Rules.{rules}
 use Rattle.writer.proofs.put_answer.Goals as goal
 
 pub returns-then-not-lines_fit : goal.returns-then-not-lines_fit
@@ -15,7 +14,7 @@ returns c =
     let room = room_there _ _ _ (sym c.lines_fit.ensures ∙ c.if-not-lines_fit.false) in
     record {
       place = (answer_put a.answer.now _ a.out.now _ _ a.at _ _ room
-          c.answer_names.ensures c.put_line-behind.ensures c.put_rows.ensures).0;
+          c.answer_names.ensures (c.put_line-behind.ensures.place, c.put_line-behind.ensures.bytes) (c.put_rows.ensures.place, c.put_rows.ensures.bytes)).0;
       bytes = (answer_put a.answer.now _ a.out.now _ _ a.at _ _ room
-          c.answer_names.ensures c.put_line-behind.ensures c.put_rows.ensures).1;
+          c.answer_names.ensures (c.put_line-behind.ensures.place, c.put_line-behind.ensures.bytes) (c.put_rows.ensures.place, c.put_rows.ensures.bytes)).1;
     }

@@ -1,7 +1,6 @@
 -- `put_bytes` meets its contract: nothing is written without room; else i bytes are written. Assumes nothing.
-use mathlib.Core.Path.{◌≡◌, ◌∙◌}
-use Prim.Native.Nat.{◌+◌, ◌-◌, ◌≤◌, ◌<◌}
-use native.Mathlib.Omega.{arith}
+use mathlib.Core.Path.{◌≡◌}
+use Prim.Native.Nat.{◌-◌, ◌≤◌}
 use lib.ListN.{length, take}
 use Rattle.sheets.specs.inner.Printed.{written}
 use Rattle.writer.proofs.put_bytes.Given as goal

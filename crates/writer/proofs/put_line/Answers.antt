@@ -7,7 +7,6 @@ use lib.ListN.{length}
 use lib.Seq.{take_all}
 use Rattle.sheets.specs.Print.{shown}
 use Rattle.sheets.proofs.Printed.{PutIn}
-use borrow.Author.Rules.{rules}
 use Rattle.writer.proofs.put_line.Goals as goal
 
 pub returns-then-all-len : goal.returns-then-all-len
@@ -18,12 +17,12 @@ returns-then-all-len c =
     let p = c.put_bytes in
     record {
       place = (subst (λ (x : List ℕ). PutIn (length x) a.out.now a.at x p.new.out p.result)
-          (sym (take_all a.line.len a.line.bytes h)) p.ensures).0;
+          (sym (take_all a.line.len a.line.bytes h)) (p.ensures.place, p.ensures.bytes)).0;
       bytes = (subst (λ (x : List ℕ). PutIn (length x) a.out.now a.at x p.new.out p.result)
-          (sym (take_all a.line.len a.line.bytes h)) p.ensures).1;
+          (sym (take_all a.line.len a.line.bytes h)) (p.ensures.place, p.ensures.bytes)).1;
     }
 
 pub returns : goal.returns
 unfolding shown
 returns c =
-    record { place = (c.put_bytes-2.ensures).0; bytes = (c.put_bytes-2.ensures).1 }
+    record { place = c.put_bytes-2.ensures.place; bytes = c.put_bytes-2.ensures.bytes }

@@ -2,7 +2,6 @@
 use mathlib.Core.Path.{sym, ◌∙◌}
 use Rattle.sheets.proofs.Printed.{room_there, room_not_there, put_none}
 use Rattle.writer.proofs.Lines.{record_put}
-use borrow.Author.Rules.{rules}
 use Rattle.writer.proofs.put_record.Goals as goal
 
 pub returns-then-not-lines_fit : goal.returns-then-not-lines_fit
@@ -15,7 +14,7 @@ returns c =
     let room = room_there _ _ _ (sym c.lines_fit.ensures ∙ c.if-not-lines_fit.false) in
     record {
       place = (record_put a.found _ _ a.out.now _ _ a.at _ _ room
-          c.record_names.ensures c.put_line-behind.ensures c.record_values.ensures c.put_line.ensures).0;
+          c.record_names.ensures (c.put_line-behind.ensures.place, c.put_line-behind.ensures.bytes) c.record_values.ensures (c.put_line.ensures.place, c.put_line.ensures.bytes)).0;
       bytes = (record_put a.found _ _ a.out.now _ _ a.at _ _ room
-          c.record_names.ensures c.put_line-behind.ensures c.record_values.ensures c.put_line.ensures).1;
+          c.record_names.ensures (c.put_line-behind.ensures.place, c.put_line-behind.ensures.bytes) c.record_values.ensures (c.put_line.ensures.place, c.put_line.ensures.bytes)).1;
     }

@@ -1,8 +1,7 @@
 -- `put_rows` meets its contract: the lines of the first i rows are written (`RowsPut`). Assumes nothing.
 use mathlib.Core.Path.{sym, ◌∙◌}
-use Prim.Native.Nat.{◌+◌, ◌-◌, ◌*◌, ◌/◌, ◌≤◌, ◌<◌}
+use Prim.Native.Nat.{◌+◌, ◌*◌, ◌/◌, ◌≤◌, ◌<◌}
 use native.Mathlib.Omega.{arith}
-use borrow.Author.Tests.{not-false}
 use lib.ListN.{length}
 use Rattle.sheets.proofs.PrintedText.{line_at}
 use Rattle.sheets.proofs.Printed.{room_there, room_not_there, put_none, put_in}
@@ -16,7 +15,7 @@ use Rattle.writer.proofs.put_rows.Reads as reads
 room : (d : lts.Else1 tie.the-claims reads.Pre reads.Post goal.the-invariant-loop-i goal.the-decreases-loop-i tie.handed_clauses)
     → d.args.at + length d.args.answer.now / 6 * 80
     ≤ length d.args.out.now
-room d = room_there _ _ _ (sym d.lines_fit.ensures ∙ not-false _ d.if-not-lines_fit.false)
+room d = room_there _ _ _ (sym d.lines_fit.ensures ∙ d.if-not-lines_fit.false)
 
 pub returns-then-not-lines_fit : goal.returns-then-not-lines_fit
 returns-then-not-lines_fit c =
@@ -35,7 +34,7 @@ loop-i-preserved c =
     let text = line_loaded answer (l.i * 6) _ _ _ _ _ _ _ c.load.ensures c.load-in-loop-i.ensures c.load-in-loop-i-2.ensures c.load-in-loop-i-3.ensures c.load-in-loop-i-4.ensures c.load-in-loop-i-5.ensures c.answer_values-line.ensures in
     rows_more answer a.out.now a.at l.out l.behind l.i _ _ l.invariant h
     (line_put _ (line_at answer (l.i * 6)) l.out _ l.behind _ text few (omega (arith, h, l.invariant.room, l.invariant.kept))
-    c.put_line-behind.ensures)
+    (c.put_line-behind.ensures.place, c.put_line-behind.ensures.bytes))
 
 pub returns : goal.returns
 returns c =

@@ -1,7 +1,5 @@
 -- `put_rows` meets its contract: the lines of the first i rows are written (`RowsPut`). Assumes nothing.
-use mathlib.Core.Path.{◌∙◌}
-use Prim.Native.Nat.{◌+◌, ◌-◌, ◌*◌, ◌/◌, ◌≤◌, ◌<◌}
-use native.Mathlib.Omega.{arith}
+use Prim.Native.Nat.{◌-◌, ◌/◌}
 use lib.ListN.{length}
 use Rattle.writer.proofs.Lines.{RowsPut}
 use Rattle.writer.proofs.put_rows.Given as goal
