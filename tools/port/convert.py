@@ -159,6 +159,14 @@ class Function:
             q = it[1]
         return name, None, None
 
+    def arm(self, at, name, more):
+        """The new path of what a match arm gives, where the old path names the step at a place; else None."""
+        for new, step, path in self.arms[at][2] if at in self.arms else []:
+            old = "." + ".".join(path)
+            if path and DASH(step).lower() == DASH(name).lower() and (more == old or more.startswith(old + ".")):
+                return f".{self.arms[at][0]}.{new}{more[len(old):]}"
+        return None
+
     in_answer = False
 
     def helpers_at(self):
@@ -193,6 +201,11 @@ class Function:
         it = LABELS.get(callee, {}).get(kind, [])
         return it[n] if len(it) > 1 and n < len(it) and it[n] else str(n)
 
+    def whole(self, callee, e):
+        """All clauses that a call gives, as the pair that they were."""
+        it = LABELS.get(callee, {}).get("ensures", [])
+        return "(" + ", ".join(f"{e}.{n}" for n in it) + ")" if len(it) > 1 and all(it) else e
+
     def as_record(self, body, names=None):
         """The answer to several clauses: a tuple becomes a record of them."""
         if names is None:
@@ -224,10 +237,17 @@ class Function:
         while m := re.search(r"let (" + NAME + r") = (" + re.escape(var) + r"(?:\.before)+) in *\n? *", body):
             x = m[1]
             body = body[: m.start()] + re.sub(r"(?<![^\s(){};,])" + re.escape(x) + r"(?=\.|[\s()};,]|$)", m[2], body[m.end() :])
+        # a name of what a match arm gives is written out
+        for m in list(re.finditer(r"let (" + NAME + r") = (" + re.escape(var) + r"((?:\.before)*)\.(" + NAME + r")(?:\.given(?:\.\d+)*)?) in *\n? *", body)):
+            new, callee, at = self.field(place, m[3].count(".before"), m[4])
+            if callee is None and at in self.arms:
+                body = body.replace(m[0], "")
+                body = re.sub(r"(?<![^\s(){};,])" + re.escape(m[1]) + r"(?=\.|[\s()};,]|$)", m[2], body)
         for m in list(re.finditer(r"let (" + NAME + r") = (" + re.escape(var) + r"((?:\.before)*)\.(" + NAME + r")) in", body)):
             new, callee, at = self.field(place, m[3].count(".before"), m[4])
             if callee:
                 body = re.sub(r"(?<![^\s(){};,])(" + re.escape(m[1]) + r")\.ensures\.(\d+)", lambda k: f"{k[1]}.ensures.{self.label(callee, 'ensures', int(k[2]))}", body)
+                body = re.sub(r"(?<![^\s(){};,])(" + re.escape(m[1]) + r"\.ensures)(?![^\s(){};,])", lambda k: self.whole(callee, k[1]), body)
                 body = re.sub(r"(?<![^\s(){};,])(" + re.escape(m[1]) + r")\.(new|auto|type_inv)((?:\.1)*)\.0(?=[\s(){};,.]|$)", lambda k: f"{k[1]}.{k[2]}.{(self.d['params'].get(callee, []) + [str(k[3].count('1'))] * 99)[k[3].count('1')]}", body)
         return body
 
@@ -249,12 +269,12 @@ class Function:
                 return m[1] + ".before" * (back + 1) if (back or True) else m[0]
             name, more = fm[1], fm[2]
             new, callee, at = self.field(place, back, name)
+            if callee is None and (k := self.arm(at, name, more)):
+                return m[1] + k
             if at in self.arms:
                 new = self.arms[at][0]
-                for f, step, path in self.arms[at][2]:
-                    if DASH(step).lower() == DASH(name).lower() and path and more.startswith("." + ".".join(path)):
-                        more = "." + f + more[len("." + ".".join(path)) :]
-                        break
+            if callee and more == ".ensures":
+                return self.whole(callee, f"{m[1]}.{new}.ensures")
             if callee and (t := re.match(r"\.ensures\.(\d+)(.*)$", more, re.S)):
                 more = ".ensures." + self.label(callee, "ensures", int(t[1])) + t[2]
             if name == "requires" and (t := re.match(r"\.(\d+)(.*)$", more, re.S)):
@@ -368,6 +388,7 @@ class Function:
             for k in self.places:
                 if DASH(k) == DASH(m[2]):
                     text = self.paths(text, m[1], k).replace(".BEFORE", ".before")
+        text = re.sub(r"(?:not-true|not-false) \S+ (\w+\.[^\s()]+)", r"\1", text)
         return "\n".join(d.comment + [self.type_of(text)])
 
     def answers(self, wanted):

@@ -1,13 +1,12 @@
 -- Where the four values of a line are decimal, the line in any spelling is the same. Assumes nothing.
-use mathlib.Core.Path.{◌≡◌, refl, ◌∙◌}
-use mathlib.Core.Bool.{Bool, true, false, cond}
+use mathlib.Core.Path.{◌≡◌, refl}
 use mathlib.Core.List.{List}
-use Prim.Native.Nat.{ℕ, ◌+◌}
+use Prim.Native.Nat.{ℕ}
 use native.Mathlib.Omega.{arith}
 use lib.ListN.{drop}
 use Rattle.terms.specs.declared.Row.{Row}
 use Rattle.sheets.specs.declared.Order.{Order}
-use Rattle.sheets.specs.Text.{NumberFound, LineFound, Value, NoNumber, Values, NoLine, decimal_at, number_at, field_at, ended_by, with_number, line_at}
+use Rattle.sheets.specs.Text.{NumberFound, LineFound, Value, NoNumber, Values, decimal_at, number_at, field_at, ended_by, with_number, line_at}
 use Rattle.sheets.proofs.Spelled.{number_decimal}
 use Rattle.cursor.specs.inner.Found.{decimal_field_at, decimal_line_at}
 

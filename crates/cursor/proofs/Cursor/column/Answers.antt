@@ -3,7 +3,6 @@ use Rattle.sheets.proofs.Fields.{seen_within, kind_within}
 use Rattle.sheets.specs.Text.{column_at}
 use native.Mathlib.Omega.{arith}
 use mathlib.Core.Path.{sym, ◌∙◌}
-use borrow.Author.Rules.{rules}
 use Rattle.cursor.proofs.Cursor.column.Goals as goal
 
 pub overflow_add-result : goal.overflow_add-result

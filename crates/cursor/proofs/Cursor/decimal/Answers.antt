@@ -1,10 +1,9 @@
 -- `decimal` meets its contract. The loop's invariant: the digits from here on, after the value so far, give the number that stands at the
 -- start. Assumes nothing.
-use mathlib.Core.Path.{◌≡◌, ◌∙◌}
-use mathlib.Core.Logic.{⊎_elim}
-use Prim.Native.Nat.{◌≤◌, ◌-◌}
+use mathlib.Core.Path.{◌∙◌}
 use native.Mathlib.Omega.{arith}
 use Rattle.sheets.proofs.Numbers.{past, not_digit, zero_last, zero_digit, zero_other, starts, ends, stops, over, goes-on}
+use Rattle.cursor.proofs.Cursor.decimal.Goals.{else-loop-i-test, then-loop-i-test+then-d-gt9}
 use Rattle.cursor.proofs.Cursor.decimal.Goals as goal
 
 pub returns-then-text-from : goal.returns-then-text-from
@@ -49,4 +48,4 @@ pub returns : goal.returns
 returns c =
     let p = c.loop-i in
     let s' = c.args.text.now in
-    ⊎_elim (λ w. ends s' p.v p.i w.left ∙ p.invariant.1.1) (λ w. stops s' p.v p.i w.0.taken w.2.result w.2.ensures.0 w.3.taken ∙ p.invariant.1.1) c.loop-i-test.branch
+    elim c.loop-i-test.branch [ else-loop-i-test w ↦ ends s' p.v p.i w.loop-i-test.false ∙ p.invariant.1.1 | then-loop-i-test+then-d-gt9 w ↦ stops s' p.v p.i w.loop-i-test.true w.digit-d-in-loop-i.result w.digit-d-in-loop-i.ensures.0 w.if-d-gt9.true ∙ p.invariant.1.1 ]

@@ -1,8 +1,7 @@
 -- `decimal` meets its contract. The loop's invariant: the digits from here on, after the value so far, give the number that stands at the
 -- start. Assumes nothing.
-use mathlib.Core.Path.{◌≡◌, ◌∙◌}
+use mathlib.Core.Path.{◌≡◌}
 use Prim.Native.Nat.{◌≤◌, ◌-◌}
-use native.Mathlib.Omega.{arith}
 use lib.ListN.{length, drop}
 use Rattle.sheets.specs.Text.{more_digits, decimal_at}
 use Rattle.cursor.proofs.Cursor.decimal.Given as goal

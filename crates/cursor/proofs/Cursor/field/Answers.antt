@@ -4,20 +4,19 @@ use Rattle.sheets.specs.Text.{field_at}
 use Rattle.cursor.specs.inner.Found.{number_found}
 use native.Mathlib.Omega.{arith}
 use mathlib.Core.Path.{sym, ◌∙◌, ap}
-use borrow.Author.Rules.{rules}
 use Rattle.cursor.proofs.Cursor.field.Goals as goal
 
 pub returns-in_default : goal.returns-in_default
 unfolding field_at
-returns-in_default c = rw (sym c.number.ensures ∙ ap number_found c.enum_told-1.given.1)
+returns-in_default c = rw (sym c.number.ensures ∙ ap number_found c.in_default.is)
 
 pub overflow_add-result : goal.overflow_add-result
 overflow_add-result c = omega (arith, seen_within _ _ _ (sym c.sees_byte.ensures ∙ c.if-sees_byte.true))
 
 pub returns-then-sees_byte : goal.returns-then-sees_byte
 unfolding field_at
-returns-then-sees_byte c = rw (sym c.number.ensures ∙ ap number_found c.v-1.given.1, sym c.sees_byte.ensures ∙ c.if-sees_byte.true)
+returns-then-sees_byte c = rw (sym c.number.ensures ∙ ap number_found c.in-Value.is, sym c.sees_byte.ensures ∙ c.if-sees_byte.true)
 
 pub returns : goal.returns
 unfolding field_at
-returns c = rw (sym c.number.ensures ∙ ap number_found c.v-1.given.1, sym c.sees_byte.ensures ∙ c.if-sees_byte.false)
+returns c = rw (sym c.number.ensures ∙ ap number_found c.in-Value.is, sym c.sees_byte.ensures ∙ c.if-sees_byte.false)

@@ -1,10 +1,10 @@
 -- `hexadecimal` meets its contract. The loop's invariant: the digits from here on, after the value so far, give the number that stands at
 -- the start, and the value has room in the digits read. Assumes nothing.
 use mathlib.Core.Path.{◌≡◌, ◌∙◌}
-use mathlib.Core.Logic.{⊎_elim}
-use Prim.Native.Nat.{suc, ◌≤◌, ◌<◌, ◌-◌, ◌^◌}
+use Prim.Native.Nat.{suc, ◌-◌}
 use native.Mathlib.Omega.{arith}
 use Rattle.sheets.proofs.Numbers.{hex_past, hex_not_digit, hex_starts, hex_ends, hex_stops, hex_over, hex_goes_on, room_most, room_next}
+use Rattle.cursor.proofs.Cursor.hexadecimal.Goals.{else-loop-i-test, then-loop-i-test+then-d-gt15}
 use Rattle.cursor.proofs.Cursor.hexadecimal.Goals as goal
 
 pub returns-then-text-from : goal.returns-then-text-from
@@ -53,4 +53,4 @@ pub returns : goal.returns
 returns c =
     let p = c.loop-i in
     let s' = c.args.text.now in
-    ⊎_elim (λ w. hex_ends s' p.more p.v p.i w.left ∙ p.invariant.1.1.1) (λ w. hex_stops s' p.more p.v p.i w.0.taken w.2.result w.2.ensures.0 w.3.taken ∙ p.invariant.1.1.1) c.loop-i-test.branch
+    elim c.loop-i-test.branch [ else-loop-i-test w ↦ hex_ends s' p.more p.v p.i w.loop-i-test.false ∙ p.invariant.1.1.1 | then-loop-i-test+then-d-gt15 w ↦ hex_stops s' p.more p.v p.i w.loop-i-test.true w.hex_digit-d.result w.hex_digit-d.ensures.0 w.if-d-gt15.true ∙ p.invariant.1.1.1 ]

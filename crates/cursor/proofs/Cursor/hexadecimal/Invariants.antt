@@ -1,8 +1,7 @@
 -- `hexadecimal` meets its contract. The loop's invariant: the digits from here on, after the value so far, give the number that stands at
 -- the start, and the value has room in the digits read. Assumes nothing.
-use mathlib.Core.Path.{◌≡◌, ◌∙◌}
+use mathlib.Core.Path.{◌≡◌}
 use Prim.Native.Nat.{◌≤◌, ◌<◌, ◌-◌, ◌^◌}
-use native.Mathlib.Omega.{arith}
 use lib.ListN.{length, drop}
 use Rattle.sheets.specs.Text.{more_hex_digits, hexadecimal_at}
 use Rattle.cursor.proofs.Cursor.hexadecimal.Given as goal

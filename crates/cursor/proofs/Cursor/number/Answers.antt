@@ -3,7 +3,6 @@ use Rattle.sheets.proofs.Fields.{seen_within}
 use Rattle.sheets.proofs.Numbers.{h_seen, h_unseen}
 use native.Mathlib.Omega.{arith}
 use mathlib.Core.Path.{sym, ◌∙◌}
-use borrow.Author.Rules.{rules}
 use Rattle.cursor.proofs.Cursor.number.Goals as goal
 
 pub overflow_add-behind : goal.overflow_add-behind
