@@ -204,13 +204,15 @@ class Function:
     def whole(self, callee, e):
         """All clauses that a call gives, as the pair that they were."""
         it = LABELS.get(callee, {}).get("ensures", [])
+        if len(it) == 1 and it[0]:
+            return f"{e}.{it[0]}"
         return "(" + ", ".join(f"{e}.{n}" for n in it) + ")" if len(it) > 1 and all(it) else e
 
     def as_record(self, body, names=None):
         """The answer to several clauses: a tuple becomes a record of them."""
         if names is None:
             names = LABELS.get(self.key(), {}).get("ensures", [])
-        if len(names) < 2:
+        if not names or not names[0]:
             return body
         head, rest = body.split(" =", 1)
         # the expression behind the last 'in' at the top
@@ -226,11 +228,14 @@ class Function:
         parts = tuple_parts(e)
         while parts and len(parts) < len(names) and (last := tuple_parts(parts[-1])):
             parts = parts[:-1] + last
-        if parts is None or len(parts) < len(names):
+        if len(names) == 1:
+            parts = [e]
+        elif parts is None or len(parts) < len(names):
             parts = [f"({e}).{i}" for i in range(len(names))]
         if len(parts) > len(names):
             parts = parts[: len(names) - 1] + ["(" + ", ".join(parts[len(names) - 1 :]) + ")"]
-        return f"{head} ={pre}\n    record {{ " + "; ".join(f"{n} = {p}" for n, p in zip(names, parts)) + " }"
+        quoted = ["«record»" if n == "record" else n for n in names]
+        return f"{head} ={pre}\n    record {{ " + "; ".join(f"{n} = {p}" for n, p in zip(quoted, parts)) + " }"
 
     def aliases(self, body, var, place):
         """Writes out names that a 'let' gives to an earlier place; a name of a step that calls a function has its tuples turned."""
@@ -367,7 +372,9 @@ class Function:
         self.in_answer = True
         body = self.paths(body, getattr(self, "var", "c"), place).replace(".BEFORE", ".before")
         self.in_answer = False
-        body = re.sub(r"(?:not-true|not-false) \S+ (c\.[^\s()]+)", r"\1", body)
+        body = re.sub(r"(?:not-true|not-false) \S+ (c\.[^\s()]+)", r"\1", body).replace(".well-formed", ".well_formed")
+        for o, n in [x for x in self.d["args"] if x[0].startswith(".args .")]:
+            body = re.sub(r"(?<![^\s(){};,])((?:\w+\.)?args|a)\." + re.escape(o[7:]) + r"(?=[\s(){};,.]|$)", r"\1." + n[7:], body)
         if new == "returns" or new.startswith("returns-"):
             first = body.index("\n" + new + " ")
             body = body[:first] + self.as_record(body[first:])
