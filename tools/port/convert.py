@@ -201,6 +201,20 @@ class Function:
         it = LABELS.get(callee, {}).get(kind, [])
         return it[n] if len(it) > 1 and n < len(it) and it[n] else str(n)
 
+    def nested(self, callee, e, path):
+        """A clause that a call gives, by its path in the old nested pairs."""
+        it = LABELS.get(callee, {}).get("ensures", [])
+        if len(it) < 2 or not all(it):
+            return e + "".join("." + n for n in path)
+        k = 0
+        while k < len(it) - 1 and path and path[0] == "1":
+            k, path = k + 1, path[1:]
+        if k < len(it) - 1 and not path:
+            return "(" + ", ".join(f"{e}.{n}" for n in it[k:]) + ")"
+        if k < len(it) - 1:
+            path = path[1:]
+        return f"{e}.{it[k]}" + "".join("." + n for n in path)
+
     def whole(self, callee, e):
         """All clauses that a call gives, as the pair that they were."""
         it = LABELS.get(callee, {}).get("ensures", [])
@@ -280,8 +294,10 @@ class Function:
                 new = self.arms[at][0]
             if callee and more == ".ensures":
                 return self.whole(callee, f"{m[1]}.{new}.ensures")
-            if callee and (t := re.match(r"\.ensures\.(\d+)(.*)$", more, re.S)):
-                more = ".ensures." + self.label(callee, "ensures", int(t[1])) + t[2]
+            if callee and (t := re.match(r"\.ensures((?:\.\d+)+)(.*)$", more, re.S)):
+                got = self.nested(callee, f"{m[1]}.{new}.ensures", t[1].split(".")[1:])
+                if not t[2] or not got.startswith("("):
+                    return got + t[2]
             if name == "requires" and (t := re.match(r"\.(\d+)(.*)$", more, re.S)):
                 more = "." + self.label(self.key(), "requires", int(t[1])) + t[2]
             if callee and (t := re.match(r"\.(new|auto|type_inv)((?:\.1)*)\.0(.*)$", more, re.S)):
