@@ -265,7 +265,7 @@ class Function:
         for m in list(re.finditer(r"let (" + NAME + r") = (" + re.escape(var) + r"((?:\.before)*)\.(" + NAME + r")) in", body)):
             new, callee, at = self.field(place, m[3].count(".before"), m[4])
             if callee:
-                body = re.sub(r"(?<![^\s(){};,])(" + re.escape(m[1]) + r")\.ensures\.(\d+)", lambda k: f"{k[1]}.ensures.{self.label(callee, 'ensures', int(k[2]))}", body)
+                body = re.sub(r"(?<![^\s(){};,])(" + re.escape(m[1]) + r"\.ensures)((?:\.\d+)+)", lambda k: self.nested(callee, k[1], k[2].split(".")[1:]), body)
                 body = re.sub(r"(?<![^\s(){};,])(" + re.escape(m[1]) + r"\.ensures)(?![^\s(){};,])", lambda k: self.whole(callee, k[1]), body)
                 body = re.sub(r"(?<![^\s(){};,])(" + re.escape(m[1]) + r")\.(new|auto|type_inv)((?:\.1)*)\.0(?=[\s(){};,.]|$)", lambda k: f"{k[1]}.{k[2]}.{(self.d['params'].get(callee, []) + [str(k[3].count('1'))] * 99)[k[3].count('1')]}", body)
         return body
