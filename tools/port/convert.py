@@ -245,7 +245,8 @@ class Function:
         if len(names) == 1:
             parts = [e]
         elif parts is None or len(parts) < len(names):
-            parts = [f"({e}).{i}" for i in range(len(names))]
+            last = len(names) - 1
+            parts = [f"({e})" + ".1" * i + (".0" if i < last else "") for i in range(len(names))]
         if len(parts) > len(names):
             parts = parts[: len(names) - 1] + ["(" + ", ".join(parts[len(names) - 1 :]) + ")"]
         quoted = ["«record»" if n == "record" else n for n in names]
