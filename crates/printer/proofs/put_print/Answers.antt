@@ -5,7 +5,6 @@ use native.Mathlib.Omega.{arith}
 use lib.ListN.{length, replicate, length-replicate}
 use lib.Seq.{length-take-le}
 use Rattle.printer.proofs.Prints.{prints_none, prints_record, rows_fit, prints_answer}
-use borrow.Author.Rules.{rules}
 use Rattle.printer.proofs.put_print.Goals as goal
 use Rattle.printer.proofs.put_print.Lts as lts
 use Rattle.printer.proofs.put_print.Tie as tie

@@ -9,7 +9,6 @@ use Rattle.terms.specs.declared.Record.{Record}
 use Rattle.sheets.specs.Call.{sheet_record}
 use Rattle.sheets.proofs.TableRead.{pieces_few, table-read}
 use Rattle.sheets.proofs.Solving.{stop_sheet, solved}
-use borrow.Author.Rules.{rules}
 use Rattle.printer.proofs.solve_text.Goals as goal
 use Rattle.printer.proofs.solve_text.Lts as lts
 use Rattle.printer.proofs.solve_text.Tie as tie
