@@ -5,8 +5,8 @@ use Rattle.input.specs.Reading.{InBounds}
 use Rattle.input.proofs.Reading.{left}
 use Rattle.input.proofs.Input.read.Given as goal
 
-abbrev pub invariant-loop-input : goal.invariant-loop-input
-invariant-loop-input l = InBounds l.input
+abbrev pub invariant-loop-stdin : goal.invariant-loop-stdin
+invariant-loop-stdin l = InBounds l.input
 
-abbrev pub decreases-loop-input : goal.decreases-loop-input
-decreases-loop-input l = left l.input
+abbrev pub decreases-loop-stdin : goal.decreases-loop-stdin
+decreases-loop-stdin l = left l.input
