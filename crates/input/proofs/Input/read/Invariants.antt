@@ -1,6 +1,4 @@
 -- `read` meets its contract: each turn leaves less to come. Assumes nothing.
-use mathlib.Core.Path.{◌∙◌}
-use native.Mathlib.Omega.{arith}
 use Rattle.input.specs.Reading.{InBounds}
 use Rattle.input.proofs.Reading.{left}
 use Rattle.input.proofs.Input.read.Given as goal
