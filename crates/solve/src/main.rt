@@ -10,7 +10,7 @@ use std::io::{Print, Stderr, Stdout};
 // Writes the print of what was read to standard output; whether all of it was written. No contract can say what a program has written, so
 // what is written is stated here as what the caller has to show of the bytes handed over. This function is the program's only way to
 // standard output.
-fn write_print(stdout: Stdout, input: Input, print: &[u8]) -> bool
+fn write_print(input: Input, print: &[u8], stdout: Stdout) -> bool
     requires whole { Whole input }
     requires print_value { print.now ≡ program_text (text_of input) }
 {
@@ -18,14 +18,14 @@ fn write_print(stdout: Stdout, input: Input, print: &[u8]) -> bool
 }
 
 // Solves what was read and prints its answer.
-fn answer(stdout: Stdout, input: Input) -> bool
+fn answer(input: Input, stdout: Stdout) -> bool
     requires { Whole input }
 {
     let bytes = input.bytes();
     let len = input.len();
     let mut print = [0u8; printer::PRINT_ROOM];
     let end = printer::put_print(&bytes[..len], &mut print[..]);
-    write_print(stdout, input, &print[..end])
+    write_print(input, &print[..end], stdout)
 }
 
 // A failure is told on standard error alone, and the program ends with status 0 all the same. Where a read fails no record is printed.
@@ -43,7 +43,7 @@ fn main(rt: HostRuntime) {
         tell_unread(rt.stderr());
         return;
     }
-    if !answer(rt.stdout(), input) {
+    if !answer(input, rt.stdout()) {
         tell_unwritten(rt.stderr());
     }
 }
