@@ -138,7 +138,14 @@ pub fn print_values(stdout: Stdout, table: &[u16], bits: usize, out: &mut [u8]) 
 }
 
 // The record and the pattern that a table's answer gives at fresh bits, every second of which is 1, the first of these given.
-pub fn print_pattern(stdout: Stdout, table: &[u16], answer: &[u16], first: usize, free: usize, out: &mut [u8]) {
+pub fn print_pattern(
+    stdout: Stdout,
+    table: &[u16],
+    answer: &[u16],
+    first: usize,
+    free: usize,
+    out: &mut [u8],
+) {
     let mut fresh = [0u8; terms::MAX_BITS];
     mark_every(&mut fresh[..], first, 2);
     let len = numbers::lesser(free, terms::MAX_BITS);
