@@ -97,8 +97,7 @@ fn print_case(rt: HostRuntime, name: &[u8], out: &mut [u8]) {
 }
 
 // The length of the program's argument of a number, put at the start of the name: 0 where it is too long for it, and none behind the last.
-fn argument(rt: HostRuntime, i: usize, name: &mut [u8]) -> Option<usize>
-{
+fn argument(rt: HostRuntime, i: usize, name: &mut [u8]) -> Option<usize> {
     match rt.arg(i, name) {
         Ok(len) => Some(len),
         Err(FillError::TooLong) => Some(0),
