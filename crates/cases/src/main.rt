@@ -4,6 +4,12 @@
 // 1, 3, 5, .. being 1. The file stdout is made by an enumeration in C of all patterns (host/print_cases.c), which shares no code with this;
 // the sheets of 64 variables have too many patterns, and are solved by the plain solver in C.
 
+ghost use Rattle.std.specs.Prelude.{length, ◌≤◌};
+
+use std::env::{Env, FillError};
+use std::fs::File;
+use std::io::{Print, Read, Stdout};
+
 // How many bytes are read at the most: one more than a sheet may have.
 const MOST_READ: usize = 16385;
 
@@ -14,7 +20,7 @@ const MOST_NAME: usize = 255;
 const TABLE: usize = 2048;
 
 // What is printed behind the record and the answer.
-fn print_table(table: &[u16], out: &mut [u8]) {
+fn print_table(stdout: Stdout, table: &[u16], out: &mut [u8]) {
     let mut answer = [0u16; solver::ANSWER];
     let mut work = [0u16; solver::MEMORY];
     let found = solver::solve(table, &mut answer[..], &mut work[..]);
@@ -22,57 +28,93 @@ fn print_table(table: &[u16], out: &mut [u8]) {
     if outcome > 2 {
         return;
     }
-    details::print_forms(table, out);
+    details::print_forms(stdout, table, out);
     if outcome == 1 {
         return;
     }
     let free = found.free as usize;
-    details::print_values(table, free + found.ties as usize, out);
+    details::print_values(stdout, table, free + found.ties as usize, out);
     if outcome == 0 {
         return;
     }
-    io::write_all(libc::STDOUT_FILENO, b"patterns\n");
+    let _ = stdout.write_all(b"patterns\n");
     let len = numbers::lesser(found.pieces as usize * answers::ROW, solver::ANSWER);
-    details::print_pattern(table, &answer[..len], 0, free, out);
-    details::print_pattern(table, &answer[..len], 1, free, out);
+    details::print_pattern(stdout, table, &answer[..len], 0, free, out);
+    details::print_pattern(stdout, table, &answer[..len], 1, free, out);
 }
 
 // All that is printed for a sheet behind its name.
-fn print_sheet(text: &[u8], out: &mut [u8]) {
+fn print_sheet(stdout: Stdout, text: &[u8], out: &mut [u8]) {
     let len = printer::put_print(text, out);
-    details::write_first(out, len);
+    details::write_first(stdout, out, len);
     let mut table = [0u16; TABLE];
     let read = reader::read_sheet(text, &mut table[..]);
     if read.outcome != 0 {
         return;
     }
     let numbers = numbers::lesser(read.pieces as usize * 4, TABLE);
-    print_table(&table[..numbers], out);
+    print_table(stdout, &table[..numbers], out);
+}
+
+// Reads a file until the text is full, the file ends or a read fails; how many bytes were read.
+fn read_full(mut file: File, text: &mut [u8]) -> usize
+    ensures { result ≤ length text.new }
+{
+    let mut len = 0;
+    while len < text.len() {
+        match file.read(&mut text[len..]) {
+            Ok(0) => break,
+            Ok(got) => len += got,
+            Err(_) => break,
+        }
+    }
+    len
+}
+
+// Opens the sheet of a name; no sheet has a name that is no text.
+fn open_sheet(rt: HostRuntime, name: &[u8]) -> Option<File> {
+    match str::from_utf8(name) {
+        Ok(path) => File::open(&rt, path).ok(),
+        Err(_) => None,
+    }
 }
 
 // Reads the sheet of a name, and prints the name and what the sheet gives.
-fn print_case(name: &[u8], out: &mut [u8]) {
-    io::write_all(libc::STDOUT_FILENO, name);
-    io::write_all(libc::STDOUT_FILENO, b"\n");
-    let fd = os::open_read(name);
-    if fd < 0 {
-        io::write_all(libc::STDOUT_FILENO, b"no such sheet\n");
-        return;
+fn print_case(rt: HostRuntime, name: &[u8], out: &mut [u8]) {
+    let stdout = rt.stdout();
+    let _ = stdout.write_all(name);
+    let _ = stdout.write_all(b"\n");
+    match open_sheet(rt, name) {
+        None => {
+            let _ = stdout.write_all(b"no such sheet\n");
+        }
+        Some(file) => {
+            let mut text = [0u8; MOST_READ];
+            let len = numbers::lesser(read_full(file, &mut text[..]), MOST_READ);
+            print_sheet(stdout, &text[..len], out);
+        }
     }
-    let mut text = [0u8; MOST_READ];
-    let len = numbers::lesser(io::read_full(fd, &mut text[..]), MOST_READ);
-    libc::close(fd);
-    print_sheet(&text[..len], out);
 }
 
-fn main() {
+// The length of the program's argument of a number, put at the start of the name: 0 where it is too long for it, and none behind the last.
+fn argument(rt: HostRuntime, i: usize, name: &mut [u8]) -> Option<usize> {
+    match rt.arg(i, name) {
+        Ok(len) => Some(len),
+        Err(FillError::TooLong) => Some(0),
+        Err(FillError::NotPresent) => None,
+    }
+}
+
+fn main(rt: HostRuntime) {
     let mut out = [0u8; printer::PRINT_ROOM];
     let mut name = [0u8; MOST_NAME];
-    let count = os::arg_count();
-    let mut i = 1;
-    while i < count {
-        let len = numbers::lesser(os::arg(i, &mut name[..]), MOST_NAME);
-        print_case(&name[..len], &mut out[..]);
-        i += 1;
+    for i in 1..usize::MAX {
+        match argument(rt, i, &mut name[..]) {
+            None => break,
+            Some(found) => {
+                let len = numbers::lesser(found, MOST_NAME);
+                print_case(rt, &name[..len], &mut out[..]);
+            }
+        }
     }
 }

@@ -4,15 +4,16 @@ ghost use Rattle.std.specs.Prelude.{◌≡◌, cond, eqb, length};
 ghost use Rattle.details.specs.inner.Printing.{mark_at, marks, four_line, pieces_behind, pieces_put};
 
 use sheets::Text;
+use std::io::{Print, Stdout};
 use terms::Record;
 
 // The numbers of a normal form.
 const FORM: usize = 4096;
 
 // Writes the first n bytes of a buffer, or all of it, to standard output.
-pub fn write_first(out: &[u8], n: usize) {
+pub fn write_first(stdout: Stdout, out: &[u8], n: usize) {
     let len = numbers::lesser(n, out.len());
-    io::write_all(libc::STDOUT_FILENO, &out[..len]);
+    let _ = stdout.write_all(&out[..len]);
 }
 
 // 1 for each step-th number from the first on, 0 for the others.
@@ -50,7 +51,7 @@ fn digit(bit: u8) -> u8
 }
 
 // Writes a record's values as a line, and behind them up to 4,096 bits as a line of digits.
-fn print_bits(found: Record, bits: &[u8], out: &mut [u8]) {
+fn print_bits(stdout: Stdout, found: Record, bits: &[u8], out: &mut [u8]) {
     let mut line = [10u8; 4097];
     let len = numbers::lesser(bits.len(), 4096);
     let mut i = 0;
@@ -60,12 +61,12 @@ fn print_bits(found: Record, bits: &[u8], out: &mut [u8]) {
     }
     let at = writer::put_line(lines::record_values(found), out, 0);
     let end = writer::put_bytes(&line[..len + 1], out, at);
-    write_first(out, end);
+    write_first(stdout, out, end);
 }
 
-fn print_record(found: Record, out: &mut [u8]) {
+fn print_record(stdout: Stdout, found: Record, out: &mut [u8]) {
     let end = writer::put_line(lines::record_values(found), out, 0);
-    write_first(out, end);
+    write_first(stdout, out, end);
 }
 
 // A line of four values.
@@ -95,49 +96,56 @@ fn put_pieces(form: &[u16], n: usize, out: &mut [u8], at: usize) -> usize
 }
 
 // The record and the normal form of a row.
-fn print_form(table: &[u16], row: usize, out: &mut [u8]) {
+fn print_form(stdout: Stdout, table: &[u16], row: usize, out: &mut [u8]) {
     let mut form = [0u16; FORM];
     let found = normalizer::normal_form(table, row, &mut form[..]);
     let at = writer::put_line(lines::record_values(found), out, 0);
     let end = put_pieces(&form[..], found.pieces as usize, out, at);
-    write_first(out, end);
+    write_first(stdout, out, end);
 }
 
-pub fn print_forms(table: &[u16], out: &mut [u8]) {
-    io::write_all(libc::STDOUT_FILENO, b"forms\n");
+pub fn print_forms(stdout: Stdout, table: &[u16], out: &mut [u8]) {
+    let _ = stdout.write_all(b"forms\n");
     let mut row = 0;
     while row < table.len() / 4 {
-        print_form(table, row, out);
+        print_form(stdout, table, row, out);
         row += 1;
     }
 }
 
 // The record and the value of a row under a pattern.
-fn print_value(table: &[u16], row: usize, pattern: &[u8], out: &mut [u8]) {
+fn print_value(stdout: Stdout, table: &[u16], row: usize, pattern: &[u8], out: &mut [u8]) {
     let mut value = [0u8; terms::MAX_WIDTH];
     let found = evaluator::value(table, row, pattern, &mut value[..]);
     if found.outcome != 0 {
-        print_record(found, out);
+        print_record(stdout, found, out);
         return;
     }
     let len = numbers::lesser(found.free as usize, terms::MAX_WIDTH);
-    print_bits(found, &value[..len], out);
+    print_bits(stdout, found, &value[..len], out);
 }
 
-pub fn print_values(table: &[u16], bits: usize, out: &mut [u8]) {
-    io::write_all(libc::STDOUT_FILENO, b"values\n");
+pub fn print_values(stdout: Stdout, table: &[u16], bits: usize, out: &mut [u8]) {
+    let _ = stdout.write_all(b"values\n");
     let mut pattern = [0u8; terms::MAX_BITS];
     mark_every(&mut pattern[..], 0, 3);
     let len = numbers::lesser(bits, terms::MAX_BITS);
     let mut row = 0;
     while row < table.len() / 4 {
-        print_value(table, row, &pattern[..len], out);
+        print_value(stdout, table, row, &pattern[..len], out);
         row += 1;
     }
 }
 
 // The record and the pattern that a table's answer gives at fresh bits, every second of which is 1, the first of these given.
-pub fn print_pattern(table: &[u16], answer: &[u16], first: usize, free: usize, out: &mut [u8]) {
+pub fn print_pattern(
+    stdout: Stdout,
+    table: &[u16],
+    answer: &[u16],
+    first: usize,
+    free: usize,
+    out: &mut [u8],
+) {
     let mut fresh = [0u8; terms::MAX_BITS];
     mark_every(&mut fresh[..], first, 2);
     let len = numbers::lesser(free, terms::MAX_BITS);
@@ -151,5 +159,5 @@ pub fn print_pattern(table: &[u16], answer: &[u16], first: usize, free: usize, o
         &mut work[..],
     );
     let bits = numbers::lesser(found.free as usize, terms::MAX_BITS);
-    print_bits(found, &pattern[..bits], out);
+    print_bits(stdout, found, &pattern[..bits], out);
 }

@@ -13,11 +13,10 @@ use lib.Seq.{length-take-le}
 use lib.Signed.{lt_z, non_neg}
 use borrow.Author.Tests.{ltb-true, ltb-false, lt-ltb, le-ltb}
 use Rattle.laws.proofs.Bools.{and_parts, and_first}
-use Rattle.libc.specs.Io.{Moved}
 use Rattle.input.specs.declared.State.{State}
 use Rattle.input.specs.declared.State.TheVariants.{Open, Ended, Failed}
 use Rattle.input.specs.declared.Input.{Input}
-use Rattle.input.specs.Reading.{text_of, may_come, has_failed, is_open, after_read, InBounds, GoesOn, Whole, ReadFrom}
+use Rattle.input.specs.Reading.{Moved, text_of, may_come, has_failed, is_open, after_read, InBounds, GoesOn, Whole, ReadFrom}
 
 -- below 0
 pub read_failed : (bytes : List ℕ) (len : ℕ) (got : ℤ) → lt_z got (pos 0) ≡ true

@@ -1,8 +1,10 @@
 // Standard input, read to its end, or to one byte more than a sheet may have. What was read is passed by value, and its fields are seen
 // here alone: no program can make one up, so whoever has one has read it.
-ghost use Rattle.std.specs.Prelude.{◌≡◌, false, ◌-◌, ◌≤◌};
-ghost use Rattle.libc.specs.Io.{Moved};
-ghost use Rattle.input.specs.Reading.{has_failed, is_open, after_read, InBounds, GoesOn, Whole};
+ghost use Rattle.std.specs.Prelude.{◌≡◌, false, ◌-◌, ◌≤◌, IfOk};
+ghost use Rattle.input.specs.Reading.{moved, Moved, has_failed, is_open, after_read, InBounds, GoesOn, Whole};
+
+use std::io;
+use std::io::{Read, Stdin};
 
 // How many bytes are read at the most: one more than a sheet may have.
 const MOST_READ: usize = 16385;
@@ -21,6 +23,19 @@ pub struct Input {
     bytes: [u8; MOST_READ],
     len: usize,
     state: State,
+}
+
+// A read's answer as a number: how many bytes have come, or -1 where it failed. A read has no room for more bytes than a sheet may have and one.
+fn moved_by(got: io::Result<usize>, room: usize) -> isize
+    requires room_bound { room ≤ 16385 }
+    requires within { IfOk got (λ n. n ≤ room) }
+    ensures number { result ≡ moved got }
+    ensures moved { Moved room result }
+{
+    match got {
+        Ok(n) => n as isize,
+        Err(_) => -1,
+    }
 }
 
 // What a read's answer makes of a text of so many bytes: below 0 it failed, at 0 the input has ended, else so many bytes have come.
@@ -68,18 +83,18 @@ impl Input {
 
     // One read more: what was read stays where it is, and what comes stands behind it. No contract says what a read gives, so nothing proves
     // that the bytes and the answer handed on here are those of the read.
-    fn more(self) -> Input
+    fn more(self, mut stdin: Stdin) -> Input
         requires { InBounds self }
         ensures { GoesOn self result }
     {
         let mut bytes = self.bytes;
         let len = self.len;
-        let got = libc::read(libc::STDIN_FILENO, &mut bytes[len..]);
-        after(bytes, len, got)
+        let got = stdin.read(&mut bytes[len..]);
+        after(bytes, len, moved_by(got, MOST_READ - len))
     }
 
     // Reads until the input has ended or there are more bytes than a sheet may have.
-    pub fn read() -> Input
+    pub fn read(stdin: Stdin) -> Input
         ensures { has_failed result.state ≡ false → Whole result }
     {
         let mut input = Input {
@@ -88,7 +103,7 @@ impl Input {
             state: State::Open,
         };
         while input.open() {
-            input = input.more();
+            input = input.more(stdin);
         }
         input
     }

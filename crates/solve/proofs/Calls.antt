@@ -12,7 +12,7 @@ use prog.Routine.{Routine}
 use types.Logic.{Logic}
 use contract.Lifetimes.{Lfts}
 use contract.Monad.{Fun}
-use contract.Notation.{Connectives, connectives}
+use contract.Notation.{connectives}
 use denote.Triple.Entry.{Args}
 use Rattle.input.specs.Reading.{text_of, Whole}
 use Rattle.answers.specs.Answer.{answer_numbers}

@@ -5,50 +5,45 @@ ghost use Rattle.sheets.specs.Program.{program_text};
 ghost use Rattle.input.specs.Reading.{text_of, Whole};
 
 use input::Input;
+use std::io::{Print, Stderr, Stdout};
 
 // Writes the print of what was read to standard output; whether all of it was written. No contract can say what a program has written, so
 // what is written is stated here as what the caller has to show of the bytes handed over. This function is the program's only way to
 // standard output.
-fn write_print(input: Input, print: &[u8]) -> bool
+fn write_print(input: Input, print: &[u8], stdout: Stdout) -> bool
     requires whole { Whole input }
     requires print_value { print.now ≡ program_text (text_of input) }
 {
-    io::write_all(libc::STDOUT_FILENO, print)
+    stdout.write_all(print).is_ok()
 }
 
 // Solves what was read and prints its answer.
-fn answer(input: Input) -> bool
+fn answer(input: Input, stdout: Stdout) -> bool
     requires { Whole input }
 {
     let bytes = input.bytes();
     let len = input.len();
     let mut print = [0u8; printer::PRINT_ROOM];
     let end = printer::put_print(&bytes[..len], &mut print[..]);
-    write_print(input, &print[..end])
+    write_print(input, &print[..end], stdout)
 }
 
-// A program has no exit status of its own, so a failure is told on standard error. Where a read fails no record is printed.
-fn tell_unread() {
-    io::write_all(
-        libc::STDERR_FILENO,
-        b"solve: standard input cannot be read\n",
-    );
+// A failure is told on standard error alone, and the program ends with status 0 all the same. Where a read fails no record is printed.
+fn tell_unread(stderr: Stderr) {
+    let _ = stderr.write_all(b"solve: standard input cannot be read\n");
 }
 
-fn tell_unwritten() {
-    io::write_all(
-        libc::STDERR_FILENO,
-        b"solve: standard output cannot be written\n",
-    );
+fn tell_unwritten(stderr: Stderr) {
+    let _ = stderr.write_all(b"solve: standard output cannot be written\n");
 }
 
-fn main() {
-    let input = Input::read();
+fn main(rt: HostRuntime) {
+    let input = Input::read(rt.stdin());
     if input.failed() {
-        tell_unread();
+        tell_unread(rt.stderr());
         return;
     }
-    if !answer(input) {
-        tell_unwritten();
+    if !answer(input, rt.stdout()) {
+        tell_unwritten(rt.stderr());
     }
 }
