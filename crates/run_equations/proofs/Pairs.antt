@@ -1,6 +1,5 @@
 -- Pairs taken slice by slice, and equation by equation: what crate taking says of an equation's pairs holds of them in runs.
-use mathlib.Core.Path.{◌≡◌, refl, sym, ap, ap₂, ◌∙◌, subst}
-use mathlib.Core.Logic.{◌⊎◌, inl, inr, ◌≢◌}
+use mathlib.Core.Path.{◌≡◌, refl, sym, ap, ap₂, ◌∙◌}
 use mathlib.Core.Bool.{Bool, true, false, cond}
 use mathlib.Core.List.{List, [], ◌∷◌, ◌++◌, map}
 use Prim.Native.Nat.{ℕ, zero, suc, ◌+◌, ◌-◌, ◌*◌, ◌≤◌, ◌<◌, min}
@@ -16,13 +15,13 @@ use Rattle.terms.specs.Table.{rows_of, row_at, bits_of, next_equation}
 use Rattle.answers.specs.Pairs.{Pair, pairs_of}
 use Rattle.answers.specs.inner.Classes.{rep, merge, run, links}
 use Rattle.classes.specs.inner.Links.{roots_of}
-use Rattle.classes.proofs.Links.{Stands, Canon}
+use Rattle.classes.proofs.Links.{Canon}
 use Rattle.classes.proofs.Roots.{stands_roots, roots-length}
 use Rattle.sides.specs.inner.Sides.{pairs_from, Prepared, SidesWritten}
 use Rattle.taking.specs.inner.Equations.{Holding}
 use Rattle.taking.proofs.Taking.{Taking}
 use Rattle.slices.specs.Along.{along, run_pairs}
-use Rattle.slices.specs.Cut.{Slice, spelled_pairs}
+use Rattle.slices.specs.Cut.{spelled_pairs}
 use Rattle.slices.proofs.Cuts.{spelled_more}
 use Rattle.slicer.specs.inner.Cutting.{slice_at, slices_in, SidesStand, SidesCut, CutsSides}
 use Rattle.slicer.proofs.SideForms.{both_read}
