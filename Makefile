@@ -2,8 +2,8 @@
 #
 #   make                        proves and builds the library, as an archive and as
 #                               a shared library, the program and the desk
-#   make check                  the quick look: the layout, every crate proved, the
-#                               programs run, and the C tests; no must-fail edits
+#   make check                  the quick look: every crate proved, the programs
+#                               run, and the C tests; no must-fail edits
 #   make install PREFIX=/usr    installs header, both libraries, the command with all
 #                               that it needs, its completion for bash, manual pages,
 #                               pkg-config files and a CMake package; DESTDIR is put
@@ -11,7 +11,7 @@
 #   make install-data           of these, what needs no proof: header, completion,
 #                               manual pages, pkg-config files and CMake package
 #   make uninstall              removes what make install has installed
-#   make clean                  removes target/ and desk/build/
+#   make clean                  removes crates/*/out/, build/ and desk/build/
 
 TOP = .
 include library.mk
@@ -20,7 +20,7 @@ PREFIX = /usr/local
 DESTDIR =
 INSTALL = install
 
-PROGRAM = target/bin/solve
+PROGRAM = crates/solve/out/solve
 ROOT = $(DESTDIR)$(PREFIX)
 
 # The header has the version; the manual pages, the pkg-config files and the CMake package are given it.
@@ -29,28 +29,31 @@ FILL_IN = sed -e 's|@PREFIX@|$(PREFIX)|' -e 's|@VERSION@|$(VERSION)|'
 
 # The shared library has the archive's objects, and exports the calls alone.
 SONAME = liblinkwords.so.0
-SHARED = target/staticlib/$(SONAME)
+SHARED = build/$(SONAME)
 
 .PHONY: all check desk install install-data uninstall clean
 
 all: $(LIB) $(SHARED) $(PROGRAM) desk
 
 $(SHARED): $(LIB) package/exports.map
+	mkdir -p $(@D)
 	$(CC) -shared -Wl,-soname,$(SONAME) -Wl,--version-script=package/exports.map -Wl,-z,defs \
 	    -o $@ -Wl,--whole-archive $(LIB) -Wl,--no-whole-archive
 
 desk: $(LIB)
 	$(MAKE) -C desk
 
-# rt leaves a program as it is if nothing that it is made of has changed.
+# `rt run` proves a program, builds it and runs it; it leaves one as it is if nothing that it is made of has changed.
 $(PROGRAM): $(SOURCES)
-	rt check solve
+	cd crates/solve && rt run <stdin >/dev/null
 	touch $@
 
+# The layout is looked at by `rt ci` alone. Of cases, which reads the files that its arguments name, `rt run` makes the program only.
 check:
-	rt fmt --check
-	rt check
-	rt staticlib linkwords
+	rt all check
+	cd crates/solve && rt run <stdin | cmp - stdout
+	cd crates/cases && rt run </dev/null >/dev/null
+	cd crates/cases/data && xargs ../out/cases <../args | cmp - ../stdout
 	$(MAKE) -C host test
 	$(MAKE) -C desk test
 
@@ -88,4 +91,4 @@ uninstall:
 	for folder in lib/cmake/linkwords libexec/linkwords; do test ! -d $(ROOT)/$$folder || rmdir $(ROOT)/$$folder; done
 
 clean:
-	rm -rf target desk/build
+	rm -rf crates/*/out build desk/build

@@ -9,20 +9,21 @@
 #   $(BUILD)/some_program: $(call objects,some_program some_part) $(LIB)
 #   	$(LINK)
 #
-# The library is built first where it is missing or older than the sources of its
-# crates, for whatever has $(LIB) among its prerequisites. C files are compiled
+# The library is proved and built first, by `rt lib`, where it is missing or older
+# than the sources of the crates, for whatever has $(LIB) among its prerequisites.
+# (`rt ci` takes it away, as all that stands in a crate's out/.) C files are compiled
 # one by one to objects in $(BUILD); what they include is noted there too, so that
 # no Makefile lists headers.
 
 .DEFAULT_GOAL = all
 .DELETE_ON_ERROR:
 
-LIB = $(TOP)/target/staticlib/liblinkwords.a
+LIB = $(TOP)/crates/linkwords/out/liblinkwords.a
 HEADER = $(TOP)/include/linkwords.h
-SOURCES := $(TOP)/crates.txt $(shell find $(TOP)/crates -type f \( -name '*.rt' -o -name '*.antt' \))
+SOURCES := $(TOP)/crates.txt $(shell find $(TOP)/crates -name out -prune -o -type f \( -name '*.rt' -o -name '*.antt' \) -print)
 
 $(LIB): $(SOURCES)
-	cd $(TOP) && rt staticlib linkwords
+	cd $(TOP)/crates/linkwords && rt lib
 
 BUILD = build
 CC = cc

@@ -7,7 +7,7 @@
     edits(crate)            the must-fail edits: name, first line, and whether it is one of a definition
 
 One definition is a name with its type and its equations, an antt record with its fields, an antt data type with its constructors, or a
-struct or an enum of src/ with its fields or cases. What the kit brings (mathlib, Prim, lib) is not in the crates and is not read.
+struct or an enum of src/ with its fields or cases. What the kit brings (std, mathlib, Prim, lib) is not in the crates and is not read.
 """
 import glob, os, re, sys
 
@@ -15,7 +15,7 @@ TOP = os.path.dirname(os.path.dirname(os.path.abspath(__file__)))
 DECLARES = re.compile(r"(?:(?:pub|abbrev|unfoldable) )*(?:(record|data) ([^\s:]+)|([^\s:(){}]+) :(?=\s|$))")
 MEMBER = re.compile(r"  (?:pub )?((?:[^\s:(){}]+ )+):(?=\s|$)")
 USE = re.compile(r"(?:ghost )?use ([^\s{;]+?)(?:\.\{([^}]*)\})?(?: as (\S+?))?;?$")
-MODULE = re.compile(r"Rattle·(\w+?)(?:·specs|·proofs)?\.(specs|proofs)\.(\S+)$")
+MODULE = re.compile(r"Rattle\.(\w+)\.(specs|proofs)\.(\S+)$")
 
 
 def files(pattern):
@@ -175,7 +175,7 @@ class House:
         out = {}
         for d in definitions:
             for name in (d.members if d.form == "data" else []) + [d.name]:
-                for part in [name] + [p for p in name.split("_") if p and "_" in name]:
+                for part in [name] + [p for p in name.split("◌") if p and "◌" in name]:
                     out[part] = d
         return out
 
@@ -191,7 +191,7 @@ class House:
                     n, as_ = (n.split(" as ") + [n])[:2]
                     if n not in brought:
                         sys.exit("house: %s uses %s of %s, which is not found" % (file.path, n, module))
-                    out[as_.strip("_")] = brought[n]
+                    out[as_.strip("◌")] = brought[n]
                 if other:
                     out.update({"%s.%s" % (other, n): d for n, d in brought.items()})
             out.update(self.declared(file.definitions) if isinstance(file, Antt) else {})
