@@ -256,13 +256,18 @@ class Function:
         """Writes out names that a 'let' gives to an earlier place; a name of a step that calls a function has its tuples turned."""
         while m := re.search(r"let (" + NAME + r") = (" + re.escape(var) + r"(?:\.before)+) in *\n? *", body):
             x = m[1]
-            body = body[: m.start()] + re.sub(r"(?<![^\s(){};,])" + re.escape(x) + r"(?=\.|[\s()};,]|$)", m[2], body[m.end() :])
+            body = body[: m.start()] + re.sub(r"(?<![^\s(){};,])(?<!let )" + re.escape(x) + r"(?=\.|[\s()};,]|$)", m[2], body[m.end() :])
         # a name of what a match arm gives is written out
         for m in list(re.finditer(r"let (" + NAME + r") = (" + re.escape(var) + r"((?:\.before)*)\.(" + NAME + r")(?:\.given(?:\.\d+)*)?) in *\n? *", body)):
             new, callee, at = self.field(place, m[3].count(".before"), m[4])
             if callee is None and at in self.arms:
                 body = body.replace(m[0], "")
                 body = re.sub(r"(?<![^\s(){};,])" + re.escape(m[1]) + r"(?=\.|[\s()};,]|$)", m[2], body)
+        for m in list(re.finditer(r"let (" + NAME + r") = (" + re.escape(var) + r"((?:\.before)*)\.(" + NAME + r"))\.(?:auto|new) in", body)):
+            new, callee, at = self.field(place, m[3].count(".before"), m[4])
+            if callee:
+                ps = self.d["params"].get(callee, [])
+                body = re.sub(r"(?<![^\s(){};,])(" + re.escape(m[1]) + r")((?:\.1)*)\.0(?=[\s(){};,.]|$)", lambda k: f"{k[1]}.{ps[k[2].count('1')] if k[2].count('1') < len(ps) else k[2]}", body)
         for m in list(re.finditer(r"let (" + NAME + r") = (" + re.escape(var) + r"((?:\.before)*)\.(" + NAME + r")) in", body)):
             new, callee, at = self.field(place, m[3].count(".before"), m[4])
             if callee:
@@ -319,7 +324,7 @@ class Function:
             for k, n in self.new_place.items():
                 if DASH(k) == DASH(old):
                     self.used_lts = True
-                    return f"lts.{k} tie.the-claims reads.Pre reads.Post" + "".join(f" goal.the-invariant-{l[0]} goal.the-decreases-{l[0]}" for l in self.loop_order()) + (" tie.handed_clauses" if len(LABELS.get(self.key(), {}).get("ensures", [])) > 1 else "")
+                    return f"lts.{k} tie.the-claims reads.Pre reads.Post" + "".join(f" goal.the-invariant-{l[0]} goal.the-decreases-{l[0]}" for l in self.loop_order()) + (" tie.handed_clauses" if any(len(LABELS.get(k, {}).get("ensures", [])) > 1 for k in [self.key(), *self.d["params"]]) else "")
             return m[0]
 
         return re.sub(r"tie\.((?:After|Then|Else|In|At|Start|Join)[^\s(){};,]*)((?: (?:invariant|decreases)-" + NAME + r")*)", one, body)

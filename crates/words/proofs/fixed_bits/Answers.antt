@@ -1,0 +1,34 @@
+-- `fixed_bits` meets its contract: a bit more of the mask and of the value at each turn. Assumes nothing.
+use mathlib.Core.Path.{◌≡◌, ◌∙◌, ap}
+use Prim.Native.Nat.{ℕ, suc, ◌+◌, ◌*◌, ◌-◌, ◌≤◌, ◌<◌}
+use lib.ListN.{get_or}
+use native.Mathlib.Omega.{arith}
+use Rattle.words.proofs.FixedRows.{none_yet, bit_more, room_left, all-bits}
+use Rattle.words.proofs.fixed_bits.Reads as reads
+use Rattle.words.proofs.fixed_bits.Lts as lts
+use Rattle.numbers.proofs.load.Reads as load-reads
+use Rattle.numbers.proofs.narrow.Reads as narrow-reads
+use Rattle.numbers.proofs.one_if.Reads as one-if-reads
+use Rattle.words.proofs.fixed_bits.Goals as goal
+
+-- what is there so far fits in 16 bits
+bound : (d : lts.At-loop (load-reads.Asked, load-reads.Learnt, one-if-reads.Asked, one-if-reads.Learnt, narrow-reads.Asked, narrow-reads.Learnt) reads.Pre reads.Post invariant-loop decreases-loop)
+    → (d.loop.mask < 65536) × (d.loop.value < 65536)
+bound d = room_left d.before.before.args.links.now d.before.before.args.v d.loop.q d.loop.mask d.loop.value d.loop.invariant.0 d.loop.invariant.1
+
+pub loop-q-init : goal.loop-q-init
+loop-q-init c = (omega arith, none_yet c.args.links.now c.args.v)
+
+pub loop-q-preserved : goal.loop-q-preserved
+loop-q-preserved c =
+    let a = c.args in
+    let two : 16 * a.v + c.loop-q.q + 2 ≡ suc (suc (16 * a.v + c.loop-q.q)) = omega arith in (
+      omega arith,
+      bit_more a.links.now a.v c.loop-q.q c.loop-q.mask c.loop-q.value c.load-link.result c.one_if-zero.result c.one_if-one.result
+          c.loop-q-test.true (c.load-link.ensures ∙ ap (λ (i : ℕ). get_or a.links.now i 0) two) c.one_if-zero.ensures.0 c.one_if-one.ensures.0 c.loop-q.invariant.1,
+    )
+
+pub returns : goal.returns
+returns c =
+    let a = c.args in
+    all-bits a.links.now a.v c.loop-q.q c.loop-q.mask c.loop-q.value _ _ c.loop-q.invariant.0 c.loop-q-test.false c.loop-q.invariant.1 c.narrow.ensures c.narrow-2.ensures
