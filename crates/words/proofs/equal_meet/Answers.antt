@@ -11,20 +11,14 @@ use Rattle.groups.specs.inner.Places.{equal_test}
 use Rattle.words.proofs.Testing.{below_none, below_more, below-broken, equal_read}
 use Rattle.words.proofs.equal_meet.Reads as reads
 use Rattle.words.proofs.equal_meet.Lts as lts
-use Rattle.numbers.proofs.lesser.Reads as lesser-reads
-use Rattle.words.proofs.number.Reads as number-reads
-use Rattle.words.proofs.word.Reads as word-reads
 use Rattle.words.proofs.equal_meet.Goals as goal
-use Rattle.words.proofs.equal_meet.Lts as lts
 use Rattle.words.proofs.equal_meet.Tie as tie
-use Rattle.words.proofs.equal_meet.Reads as reads
 
 -- the test of the row is the one that is made
 test : (m : lts.After-number5 tie.the-claims reads.Pre reads.Post goal.the-invariant-loop-g goal.the-decreases-loop-g) → let a = m.args in
     equal_test a.plan.now a.window.now m.loop-g.g
     ≡ eqb (bit_and (bit_xor m.word-x.result (m.word-y.result * 2 ^ (m.number-shift.result % 16) % 18446744073709551616)) m.number-in-loop-g-3.result) 0
 test m =
-    let m.before.before.before.before.before.before.before.before = m.before.before.before.before.before.before.before.before in
     let a = m.args in
     equal_read a.plan.now a.window.now m.loop-g.g _ _ _ _ _ _ m.number-in-loop-g.ensures.0 m.word-x.ensures.0 m.number-in-loop-g-2.ensures.0
     m.word-y.ensures.0 m.word-y.ensures.1 m.number-shift.ensures.0 m.number-in-loop-g-3.ensures.0

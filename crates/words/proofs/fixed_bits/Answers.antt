@@ -4,17 +4,7 @@ use Prim.Native.Nat.{ℕ, suc, ◌+◌, ◌*◌, ◌-◌, ◌≤◌, ◌<◌}
 use lib.ListN.{get_or}
 use native.Mathlib.Omega.{arith}
 use Rattle.words.proofs.FixedRows.{none_yet, bit_more, room_left, all-bits}
-use Rattle.words.proofs.fixed_bits.Reads as reads
-use Rattle.words.proofs.fixed_bits.Lts as lts
-use Rattle.numbers.proofs.load.Reads as load-reads
-use Rattle.numbers.proofs.narrow.Reads as narrow-reads
-use Rattle.numbers.proofs.one_if.Reads as one-if-reads
 use Rattle.words.proofs.fixed_bits.Goals as goal
-
--- what is there so far fits in 16 bits
-bound : (d : lts.At-loop (load-reads.Asked, load-reads.Learnt, one-if-reads.Asked, one-if-reads.Learnt, narrow-reads.Asked, narrow-reads.Learnt) reads.Pre reads.Post invariant-loop decreases-loop)
-    → (d.loop.mask < 65536) × (d.loop.value < 65536)
-bound d = room_left d.before.before.args.links.now d.before.before.args.v d.loop.q d.loop.mask d.loop.value d.loop.invariant.0 d.loop.invariant.1
 
 pub loop-q-init : goal.loop-q-init
 loop-q-init c = (omega arith, none_yet c.args.links.now c.args.v)

@@ -11,19 +11,13 @@ use Rattle.words.specs.inner.Plan.{fixed_test}
 use Rattle.words.proofs.Testing.{below_none, below_more, below-broken, fixed_read}
 use Rattle.words.proofs.fixed_meet.Reads as reads
 use Rattle.words.proofs.fixed_meet.Lts as lts
-use Rattle.numbers.proofs.lesser.Reads as lesser-reads
-use Rattle.words.proofs.number.Reads as number-reads
-use Rattle.words.proofs.word.Reads as word-reads
 use Rattle.words.proofs.fixed_meet.Goals as goal
-use Rattle.words.proofs.fixed_meet.Lts as lts
 use Rattle.words.proofs.fixed_meet.Tie as tie
-use Rattle.words.proofs.fixed_meet.Reads as reads
 
 -- the test of the row is the one that is made
 test : (m : lts.After-number4 tie.the-claims reads.Pre reads.Post goal.the-invariant-loop-j goal.the-decreases-loop-j) → let a = m.args in
     fixed_test a.plan.now a.window.now m.loop-j.j ≡ eqb (bit_and m.word-x.result m.number-in-loop-j-2.result) m.number-in-loop-j-3.result
 test m =
-    let m.before.before.before.before.before.before = m.before.before.before.before.before.before in
     let a = m.args in
     fixed_read a.plan.now a.window.now m.loop-j.j _ _ _ _ m.number-in-loop-j.ensures.0 m.word-x.ensures.0 m.number-in-loop-j-2.ensures.0 m.number-in-loop-j-3.ensures.0
 

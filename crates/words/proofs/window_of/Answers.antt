@@ -10,6 +10,7 @@ use Rattle.terms.specs.Table.{rows_of}
 use Rattle.terms.proofs.Rows.{rows_length}
 use Rattle.words.proofs.Windows.{window_from, window_first, window_end, window_other, window_more, window_broken}
 use Rattle.words.proofs.window_of.Goals as goal
+use Rattle.words.proofs.window_of.Goals.{then-kind-eq-VARIABLE+else-width-ne16, else-kind-eq-VARIABLE}
 
 pub loop-r-init : goal.loop-r-init
 loop-r-init c = (omega arith, omega arith, window_first (rows_of c.args.table.now))
@@ -27,23 +28,23 @@ pub loop-r-preserved : goal.loop-r-preserved
 loop-r-preserved c =
     let l = c.loop-r in
     let t = rows_of c.args.table.now in
-    ⊎_elim
-    (λ w. (
-      omega (arith, w.2, l.invariant.0),
-      omega (arith, c.loop-r-test.true),
-      ap (λ (n : ℕ). window_from n (drop (l.r + 1) t)) w.2
-          ∙ sym (window_more l.k t l.r (omega (arith, c.loop-r-test.true, rows_length c.args.table.now))
-          (ap (λ (row : Row). row.kind) (sym c.row_at-row.ensures) ∙ w.0.taken)
-          (ap (λ (row : Row). row.a) (sym c.row_at-row.ensures) ∙ w.1.left)) ∙ l.invariant.2,
-    ))
-    (λ w. (
-      omega (arith, w.1, l.invariant.0),
-      omega (arith, c.loop-r-test.true),
-      ap (λ (n : ℕ). window_from n (drop (l.r + 1) t)) w.1
-          ∙ sym (window_other l.k t l.r (omega (arith, c.loop-r-test.true, rows_length c.args.table.now))
-          (λ e. w.0.left (ap (λ (row : Row). row.kind) c.row_at-row.ensures ∙ e))) ∙ l.invariant.2,
-    ))
-    c.if-kind-eq-VARIABLE.branch
+    elim c.if-kind-eq-VARIABLE.branch [
+      | then-kind-eq-VARIABLE+else-width-ne16 w ↦ (
+        omega (arith, w.k-is, l.invariant.0),
+        omega (arith, c.loop-r-test.true),
+        ap (λ (n : ℕ). window_from n (drop (l.r + 1) t)) w.k-is
+            ∙ sym (window_more l.k t l.r (omega (arith, c.loop-r-test.true, rows_length c.args.table.now))
+            (ap (λ (row : Row). row.kind) (sym c.row_at-row.ensures) ∙ w.if-kind-eq-VARIABLE.true)
+            (ap (λ (row : Row). row.a) (sym c.row_at-row.ensures) ∙ w.if-width-ne16.false)) ∙ l.invariant.2,
+      )
+      | else-kind-eq-VARIABLE w ↦ (
+        omega (arith, w.k-is, l.invariant.0),
+        omega (arith, c.loop-r-test.true),
+        ap (λ (n : ℕ). window_from n (drop (l.r + 1) t)) w.k-is
+            ∙ sym (window_other l.k t l.r (omega (arith, c.loop-r-test.true, rows_length c.args.table.now))
+            (λ e. w.if-kind-eq-VARIABLE.false (ap (λ (row : Row). row.kind) c.row_at-row.ensures ∙ e))) ∙ l.invariant.2,
+      )
+    ]
 
 pub returns : goal.returns
 returns c =
