@@ -201,9 +201,9 @@ class Function:
         it = LABELS.get(callee, {}).get(kind, [])
         return it[n] if len(it) > 1 and n < len(it) and it[n] else str(n)
 
-    def nested(self, callee, e, path):
+    def nested(self, callee, e, path, kind="ensures"):
         """A clause that a call gives, by its path in the old nested pairs."""
-        it = LABELS.get(callee, {}).get("ensures", [])
+        it = LABELS.get(callee, {}).get(kind, [])
         if len(it) < 2 or not all(it):
             return e + "".join("." + n for n in path)
         k = 0
@@ -304,8 +304,8 @@ class Function:
                 got = self.nested(callee, f"{m[1]}.{new}.ensures", t[1].split(".")[1:])
                 if not t[2] or not got.startswith("("):
                     return got + t[2]
-            if name == "requires" and (t := re.match(r"\.(\d+)(.*)$", more, re.S)):
-                more = "." + self.label(self.key(), "requires", int(t[1])) + t[2]
+            if name == "requires" and (t := re.match(r"((?:\.\d+)+)(.*)$", more, re.S)):
+                more = self.nested(self.key(), "", t[1].split(".")[1:], "requires") + t[2]
             if callee and (t := re.match(r"\.(new|auto|type_inv)((?:\.1)*)\.0(.*)$", more, re.S)):
                 k = t[2].count("1")
                 ps = self.d["params"].get(callee, [])
