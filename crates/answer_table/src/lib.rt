@@ -1,4 +1,6 @@
 // The answer table as numbers: a row read, its own four numbers written, and the right side of a variable as a part of the table.
+#![tactic(auto)]
+
 ghost use Rattle.std.specs.Prelude.{◌≡◌, drop};
 ghost use Rattle.answers.specs.RightSide.{row_variables, rows_before, rows_on, right_side_start, right_side_length, right_side};
 ghost use Rattle.answers.specs.Answer.{answer_rows_of, answer_row_at};

@@ -1,4 +1,5 @@
 // Answers: what they mean, and the theorems that say so. There is no code here: specs/ has the definitions, proofs/ the theorems.
+#![tactic(auto)]
 
 // A row of the answer table: the variable; 0 or 1 for a fill of that bit, 2 for a fresh piece; its width; its fresh number, 0 for a fill.
 #[derive(Clone, Copy)]

@@ -3,6 +3,8 @@
 // of their calls to the next. Each leaf, a variable or a constant or a part of one, is appended to the form so far as one piece, a value or a
 // part of one as one piece for each bit, and each piece is made one with the last one where they meet. So the two phases of figure 3 are one
 // pass, and what stands in the buffer is always the normal form of the bits that were met.
+#![tactic(auto)]
+
 ghost use Rattle.std.specs.Prelude.{◌≡◌};
 ghost use Rattle.forms.specs.Form.{fill};
 ghost use Rattle.appender.specs.inner.Cuts.{is_leaf, leaf_piece, AppendsFill, AppendsBits, AppendsLeaf, AppendsForm, AppendsCut, left_bits, right_bits, AppendsPart, AppendsParts};

@@ -1,5 +1,7 @@
 // The work area of an open job (document 02, (viii)): for each variable bit what holds it, and 0 after the last. It is compared with the
 // links of a table's sources, and written from them. Links have for each source its representative.
+#![tactic(auto)]
+
 ghost use Rattle.std.specs.Prelude.{◌≡◌, eqb, length};
 ghost use Rattle.terms.specs.Table.{same_word};
 ghost use Rattle.laws.specs.Buffers.{overwrite};

@@ -1,5 +1,7 @@
 // An answer's rows (document 01, "The solver's answer"), from the classes of its bits. The places where a variable begins are marked, and
 // the representatives whose places have different neighbours; then one pass over the places writes the rows, four numbers each.
+#![tactic(auto)]
+
 ghost use Rattle.std.specs.Prelude.{◌≡◌, cond, suc, min, ◌≤◌, eqb, length};
 ghost use Rattle.borders.specs.inner.Rows.{PutsRows};
 ghost use Rattle.borders.specs.inner.Borders.{MarksBegins, beside_in, uneven_with, MarksUneven, goes_in, number_in, step_in, row_written, PutsPlaces, PutsWith};

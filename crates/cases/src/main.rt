@@ -3,6 +3,7 @@
 // the pattern whose bits 0, 3, 6, .. are 1; and for outcome 2 the record and the pattern of the fresh bits 0, 2, 4, .. being 1, and of
 // 1, 3, 5, .. being 1. The file stdout is made by an enumeration in C of all patterns (host/print_cases.c), which shares no code with this;
 // the sheets of 64 variables have too many patterns, and are solved by the plain solver in C.
+#![tactic(auto)]
 
 ghost use Rattle.std.specs.Prelude.{length, ◌≤◌};
 

@@ -1,5 +1,7 @@
 // The check of a table: rules 11 to 17 of document 01 and 40 of document 02 (crate rules), each row's width, and where the variables stand.
 // A table is lent as numbers, four to a row. It is one pass, with three running totals.
+#![tactic(auto)]
+
 ghost use Rattle.std.specs.Prelude.{◌≡◌, ◌+◌, ◌-◌, ◌%◌, ◌≤◌, length};
 ghost use Rattle.terms.specs.Table.{widths_of};
 ghost use Rattle.checker.specs.inner.Check.{fault_in, rows_passed, row_placed, NumbersTable, PlacesTable};

@@ -1,6 +1,8 @@
 // Classes of equal bits (document 01, "tied bits") over a lent run of numbers: each source links to a lower one of its class, or to
 // itself. Sources 0 and 1 are the fixed bits, place i is i + 2. Each function takes every input; what it promises of the classes is for
 // links that point down.
+#![tactic(auto)]
+
 ghost use Rattle.classes.specs.inner.Links.{number_of, Finds, Takes, Settles};
 
 // The root of a source; each second link on the way is halved. A link to a root stays.

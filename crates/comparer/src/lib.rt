@@ -1,6 +1,8 @@
 // Old layout against new (document 02, (xii)): two tables with the same variables are compared by the classes of their bits (crate linking).
 // With h[s] for the representative of source s in the first and g[s] in the second, the first's patterns are among the second's exactly if
 // h[g[s]] = h[s] for every source. A table whose equations led to a conflict has no patterns.
+#![tactic(auto)]
+
 ghost use Rattle.std.specs.Prelude.{◌≡◌, ◌≤◌, length};
 ghost use Rattle.terms.specs.Table.{rows_of, same_word};
 ghost use Rattle.terms.specs.inner.Placed.{Placed};

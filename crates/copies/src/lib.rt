@@ -1,5 +1,7 @@
 // A copy of a table in which each cut of a cut is made one cut, so that the normal forms of its rows take few calls, and in which the
 // revised equations are left off (document 02, (vii)).
+#![tactic(auto)]
+
 ghost use Rattle.std.specs.Prelude.{◌≡◌, suc, ◌≤◌, min, length, drop};
 ghost use Rattle.terms.specs.Table.{rows_of, row_at, some_row, of_line, revised};
 ghost use Rattle.copies.specs.inner.Shortened.{short_in, stored_row, Shortens};

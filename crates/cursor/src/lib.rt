@@ -1,5 +1,7 @@
 // The text cursor (document 01, "Lines are read from the first to the last"): a place in a text, passed by value. Each method says what it
 // found there and gives the cursor behind it.
+#![tactic(auto)]
+
 ghost use Rattle.std.specs.Prelude.{◌≡◌, leb, length};
 ghost use Rattle.sheets.specs.Text.{decimal_at, hexadecimal_at, number_at, field_at, line_at, column_at, name_at, names_at};
 ghost use Rattle.cursor.specs.inner.Found.{number_found, name_found, names_found, line_found, four_found, decimal_field_at, decimal_line_at};

@@ -1,5 +1,7 @@
 // What the program cases prints of a table behind its answer: the record and the normal form of each row, the record and the value of each row
 // under a pattern, and the patterns of fresh bits.
+#![tactic(auto)]
+
 ghost use Rattle.std.specs.Prelude.{◌≡◌, cond, eqb, length};
 ghost use Rattle.details.specs.inner.Printing.{mark_at, marks, four_line, pieces_behind, pieces_put};
 

@@ -1,6 +1,8 @@
 // A row's value under a pattern (document 01, "a join sets two values side by side, a cut keeps bits").
 // Each bit is found by recursion into earlier rows: a concatenation passes the bit on to one of its sides, an
 // extraction to the row that it is cut from, until a variable or a fixed word is met.
+#![tactic(auto)]
+
 ghost use Rattle.std.specs.Prelude.{◌≡◌, true, ◌+◌, ◌/◌, ◌<◌, ◌≤◌, get_or, length};
 ghost use Rattle.terms.specs.Table.{rows_of, row_at, bits_of, fixed_word, width_of, value_of};
 ghost use Rattle.laws.specs.Buffers.{overwrite};

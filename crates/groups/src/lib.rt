@@ -1,5 +1,7 @@
 // The equal rows of a plan (document 02, (ii)): for each pair of words and each shift one mask of the bits that are to be the same. Place i
 // is bit 15 - i % 16 of word i / 16.
+#![tactic(auto)]
+
 ghost use Rattle.std.specs.Prelude.{◌≡◌, ◌+◌, ◌-◌, ◌*◌, ◌^◌, ◌≤◌, ◌<◌, length};
 ghost use Rattle.groups.specs.inner.Places.{PutsEqual};
 ghost use Rattle.groups.specs.inner.Counts.{linked};

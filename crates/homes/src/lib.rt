@@ -1,6 +1,8 @@
 // Home and high bit of each answer row: the variable and the highest bit where its piece first appears. Rows of four numbers are widened
 // to six from the last one back, each with its own place; then each later appearance of a fresh piece takes the two numbers of the first.
 // The test of a table goes the same way and writes nothing.
+#![tactic(auto)]
+
 ghost use Rattle.std.specs.Prelude.{◌≡◌, ◌+◌, ◌*◌, ◌≤◌, length};
 ghost use Rattle.answers.specs.inner.FourNumbers.{answer_columns};
 ghost use Rattle.homes.specs.inner.Homes.{width_on, row_put, Widens, home_in, home_copied, SetsHome, SetsHomes, PutsHomes, MarksFirst, MarksFirsts, home_fine, TestsRows, TestsHomes};

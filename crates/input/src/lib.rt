@@ -1,5 +1,7 @@
 // Standard input, read to its end, or to one byte more than a sheet may have. What was read is passed by value, and its fields are seen
 // here alone: no program can make one up, so whoever has one has read it.
+#![tactic(auto)]
+
 ghost use Rattle.std.specs.Prelude.{◌≡◌, false, ◌-◌, ◌≤◌, IfOk};
 ghost use Rattle.input.specs.Reading.{moved, Moved, has_failed, is_open, after_read, InBounds, GoesOn, Whole};
 

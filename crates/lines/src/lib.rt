@@ -1,4 +1,6 @@
 // The lines that are printed, of a record and of an answer table, each made byte by byte and passed by value.
+#![tactic(auto)]
+
 ghost use Rattle.std.specs.Prelude.{◌≡◌, []};
 ghost use Rattle.lines.specs.inner.Push.{pushed, push_all};
 ghost use Rattle.sheets.specs.Print.{field, line_of, record_names, record_values, answer_names, answer_values};

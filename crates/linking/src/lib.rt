@@ -1,5 +1,7 @@
 // The classes of a table's bits (document 01, "The solver's answer": tied bits), as a link for each source: the equations of a copy of the
 // table (crate copies) are taken (taking) from sources that link to themselves; then each link is its source's representative.
+#![tactic(auto)]
+
 ghost use Rattle.std.specs.Prelude.{◌%◌, ◌≤◌, length};
 ghost use Rattle.linking.specs.inner.Classes.{Unlinks, SettlesTies, TableClasses, ClassesWith};
 

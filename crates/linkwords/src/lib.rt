@@ -1,5 +1,7 @@
 // The calls that a host links (include/linkwords.h): each is one line over the crate that does the work, and has its
 // statement. A slice is a pointer and then a length.
+#![tactic(auto)]
+
 ghost use Rattle.std.specs.Prelude.{◌≡◌, length};
 ghost use Rattle.terms.specs.Value.{value_record, value_after};
 ghost use Rattle.forms.specs.Call.{form_record, form_after};

@@ -1,5 +1,7 @@
 // An answer table filled with fresh bits (document 01, "The solver's answer"): its form was read (crate shapes), and each row's bits are written to
 // the pattern. The call, which asks for the table that the answer was solved from, is in the crate matcher.
+#![tactic(auto)]
+
 ghost use Rattle.std.specs.Prelude.{◌≡◌};
 ghost use Rattle.laws.specs.Buffers.{Behind};
 ghost use Rattle.maker.specs.inner.Filling.{byte_in, bytes_in, WritesRows, Fills};

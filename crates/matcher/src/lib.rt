@@ -1,5 +1,7 @@
 // The pattern call (document 02, (x)): patterns are made of the answer solved from the term table lent, and of no other. The table is solved again,
 // its answer is compared with the one lent, number by number, and that one is filled (crate maker).
+#![tactic(auto)]
+
 ghost use Rattle.std.specs.Prelude.{◌≡◌, ◌*◌, ◌≤◌, eqb, length};
 ghost use Rattle.areas.specs.inner.Areas.{agree};
 ghost use Rattle.assignments.specs.Matching.{make_record, make_after, make_work};

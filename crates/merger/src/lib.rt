@@ -2,6 +2,8 @@
 // the lower record is passed, where they are equal the two are a pair; and each counter is tested as it is passed. A pair's words are laid side
 // by side and tested against a plan of the sheet, which is made once (crate words). What stands on one side only needs no pass: it is what the
 // pairs leave.
+#![tactic(auto)]
+
 ghost use Rattle.std.specs.Prelude.{◌≡◌, true, false, not, ◌&&◌, cond, ◌++◌, ◌+◌, ◌≤◌, eqb, length};
 ghost use Rattle.std.specs.Int.Bits.{bit_xor};
 ghost use Rattle.std.specs.Int.Count.{ones};

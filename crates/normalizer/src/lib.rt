@@ -1,5 +1,7 @@
 // The normal form call (document 01, "Normal form" and "Where a call stops"): the table is checked, its variables are placed, and the row's
 // normal form is appended to nothing.
+#![tactic(auto)]
+
 ghost use Rattle.std.specs.Prelude.{◌≡◌, length};
 ghost use Rattle.forms.specs.Call.{form_record, form_after};
 

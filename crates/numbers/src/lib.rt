@@ -1,4 +1,6 @@
 // Numbers: read and written where they are there, added and compared within their widths.
+#![tactic(auto)]
+
 ghost use Rattle.std.specs.Prelude.{◌≡◌, cond, ◌+◌, ◌-◌, ◌/◌, ◌%◌, ◌^◌, ◌≤◌, min, max, eqb, get_or, length, replicate, set, take};
 ghost use Rattle.laws.specs.Lists.{all_bits};
 ghost use Rattle.laws.specs.Buffers.{overwrite, set_four};

@@ -1,4 +1,6 @@
 // The pages of a result sheet for the panel folder (document 02, request (iv)). A line is made by value and put behind the lines before it.
+#![tactic(auto)]
+
 ghost use Rattle.std.specs.Prelude.{◌≡◌, [], ◌<◌, get_or};
 ghost use Rattle.sheets.specs.Writing.{digits};
 ghost use Rattle.sheets.specs.inner.Printed.{printed_in};

@@ -1,4 +1,6 @@
 // The pieces of a normal form in a buffer of numbers: one is read, written, or appended, and made one with the last piece where they meet.
+#![tactic(auto)]
+
 ghost use Rattle.std.specs.Prelude.{◌≡◌};
 ghost use Rattle.forms.specs.Form.{meets};
 ghost use Rattle.pieces.specs.inner.Pieces.{piece_at, put_piece, merged_in, pushed_count, pushed_numbers};

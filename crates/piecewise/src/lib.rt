@@ -1,5 +1,7 @@
 // The solver in whole pieces (document 001, section 6): what crate solver says of a table, number by number, by another way. The equations are
 // taken in whole runs (run_classes), and the answer is made from runs (run_answers); where taking gives up, crate solver answers from the start.
+#![tactic(auto)]
+
 ghost use Rattle.std.specs.Prelude.{◌≡◌, ◌≤◌, suc, length};
 ghost use Rattle.answers.specs.Solve.{solve_record, answer_after, work_after};
 ghost use Rattle.solver.specs.inner.Call.{AnswersTable};

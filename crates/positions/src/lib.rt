@@ -1,5 +1,7 @@
 // Marker positions in a run of words (document 02, (ii)): a table of 16-bit variables is turned into a plan once (crate words), and the
 // window at each start is tested against the plan.
+#![tactic(auto)]
+
 ghost use Rattle.std.specs.Prelude.{◌≡◌, cond, ◌+◌, ◌≤◌, ◌<◌, length, set};
 ghost use Rattle.terms.specs.Table.{rows_of, bits_of};
 ghost use Rattle.terms.specs.inner.Placed.{Placed};

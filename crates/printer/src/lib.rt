@@ -1,4 +1,6 @@
 // What the program prints for a text (document 01, "Sheet and program"), put into a buffer: the record and, for outcome 2, the answer table.
+#![tactic(auto)]
+
 ghost use Rattle.std.specs.Prelude.{◌≡◌, length};
 ghost use Rattle.sheets.specs.Program.{text_record, text_answer, print_length, print_after};
 

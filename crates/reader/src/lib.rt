@@ -1,4 +1,6 @@
 // The reader of a sheet (document 01, "Sheet and program"): a line of names, then the lines of values, read by a text cursor.
+#![tactic(auto)]
+
 ghost use Rattle.std.specs.Prelude.{◌≡◌, length};
 ghost use Rattle.laws.specs.Buffers.{overwrite};
 ghost use Rattle.terms.specs.Table.{row_numbers};

@@ -1,4 +1,6 @@
 // The records that calls return.
+#![tactic(auto)]
+
 ghost use Rattle.std.specs.Prelude.{◌≡◌, ◌-◌};
 ghost use Rattle.terms.specs.Faults.{is_accepted};
 ghost use Rattle.terms.specs.Calls.{refusal, completed, fault_number, fault_row, fault_record};

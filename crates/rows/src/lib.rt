@@ -1,6 +1,8 @@
 // A run of row records as the numbers of a table (document 01: the table is lent as a run of row records of four
 // 16-bit numbers). The records are copied into a buffer of numbers, four for each, and the calls work on those.
 // `flatten` takes a slice of structs and is proved by a walk of its code, by hand; what it calls is on numbers.
+#![tactic(auto)]
+
 ghost use Rattle.std.specs.Prelude.{◌≡◌, length, ◌+◌, ◌-◌};
 ghost use Rattle.laws.specs.Buffers.{overwrite};
 ghost use Rattle.rows.specs.inner.Held.{held, fitting, put_whole};

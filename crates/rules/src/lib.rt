@@ -1,5 +1,7 @@
 // The rules of a row: document 01's 12 to 17 and document 02's 40, the row's width, and the bits that it adds. A table is lent as numbers,
 // four to a row. A row's rules ask only for the kinds and widths of earlier rows and for three totals.
+#![tactic(auto)]
+
 ghost use Rattle.std.specs.Prelude.{◌≡◌, ◌+◌, ◌-◌, ◌%◌, ◌≤◌, get_or};
 ghost use Rattle.terms.specs.Table.{rows_of, width_in, bits_in};
 ghost use Rattle.terms.specs.Faults.{unused_column, not_term, misnamed, wrong_width, wrong_value, wrong_bounds, too_many, first_rule};

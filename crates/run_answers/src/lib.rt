@@ -1,5 +1,7 @@
 // What is made of equations that were taken in whole runs (document 001, section 6): the record and the answer of crate solver, after a
 // closing sweep in runs (run_sweep), and the answer's rows from runs (run_rows).
+#![tactic(auto)]
+
 ghost use Rattle.std.specs.Prelude.{length};
 ghost use Rattle.run_answers.specs.inner.Answers.{ConcludesInRuns, AnswersInRuns};
 

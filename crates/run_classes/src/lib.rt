@@ -1,5 +1,7 @@
 // The classes of a table's bits in whole runs: the equations of a copy of the table (crate copies) are taken in runs (run_equations), from
 // sources that link to themselves, each variable one run (runs).
+#![tactic(auto)]
+
 ghost use Rattle.std.specs.Prelude.{◌≡◌, true, length};
 ghost use Rattle.run_classes.specs.inner.Classes.{BeginsRuns, TakesCopy};
 

@@ -1,6 +1,8 @@
 // The equations of a table taken one after the other in whole pieces (document 001, section 6): each is cut once (crate slicer), and the
 // pairs of each slice are taken run by run (run_slices), until two different fixed bits meet. Where runs are short, so that steps cost more
 // than bits, it gives up: that decides the time and nothing else.
+#![tactic(auto)]
+
 ghost use Rattle.std.specs.Prelude.{◌≡◌, true, ◌≤◌, length};
 ghost use Rattle.run_equations.specs.inner.Equations.{TakesSlices, TakesEquation, TakesInRuns, KeepsRuns};
 

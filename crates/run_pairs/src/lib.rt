@@ -1,5 +1,7 @@
 // Pairs taken in whole runs (document 001, section 6, "csolve"): what crate classes does pair by pair is done here for as many pairs at
 // once as their runs go side by side.
+#![tactic(auto)]
+
 ghost use Rattle.std.specs.Prelude.{◌≡◌, true, cond, ◌-◌, min, ltb};
 ghost use Rattle.run_pairs.specs.inner.Taken.{Shortens, Alike, TakesRun};
 

@@ -1,5 +1,7 @@
 // An answer's rows from classes in whole runs (document 01, "The solver's answer"): what crate borders does place by place is done at the ends
 // of runs, and the places of a run that go on with a row are passed at once.
+#![tactic(auto)]
+
 ghost use Rattle.std.specs.Prelude.{◌≡◌, true, ◌≤◌, max, length};
 ghost use Rattle.run_rows.specs.inner.Wide.{wider};
 ghost use Rattle.run_rows.specs.inner.Lined.{MarksRun, MarksRuns, IsClear, AllClear, Stretches, PutsInRuns, PutsWithRuns, PutsRowsInRuns};

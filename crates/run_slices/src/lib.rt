@@ -1,5 +1,7 @@
 // The pairs of a slice taken in whole runs (document 001, section 6): one step of crate run_pairs after the other, until the slice is used
 // up or two different fixed bits meet.
+#![tactic(auto)]
+
 ghost use Rattle.std.specs.Prelude.{◌≡◌, cond, ◌≤◌, eqb};
 ghost use Rattle.run_slices.specs.inner.Slices.{TakesSlice};
 

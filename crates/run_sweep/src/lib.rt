@@ -1,5 +1,7 @@
 // The closing sweep in whole runs (document 001, section 6, "lazy constant propagation"): one rising pass over the runs, behind which each
 // source links to its root. Fixed bits and roots are passed on through any chain of words, and a second pass would change nothing.
+#![tactic(auto)]
+
 ghost use Rattle.run_sweep.specs.inner.Settled.{SettlesRun, SettlesRuns};
 
 // The run of x goes straight to its roots, as far as the run goes that it links to. How many sources that are.

@@ -1,6 +1,8 @@
 // Classes of equal bits in whole runs. The links are those of crate classes: one for each source. Beside them the sources from 2 on are cut
 // into runs: `last` has for each source the last one of its run, `first` at that one the first. In a run links go side by side. A run of
 // roots is linked as a whole, and no bit of it is looked at by itself.
+#![tactic(auto)]
+
 ghost use Rattle.std.specs.Prelude.{◌≡◌, cond, ◌+◌, ◌-◌, ◌%◌, ltb, get_or};
 ghost use Rattle.slices.specs.Along.{along};
 ghost use Rattle.runs.specs.inner.Puts.{PutsRun};

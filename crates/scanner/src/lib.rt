@@ -1,5 +1,7 @@
 // What the methods of the text cursor are made of: a digit, in decimal or hexadecimal, whether a byte or the name kind stands at a place of a
 // text, and four values placed in the columns of a row.
+#![tactic(auto)]
+
 ghost use Rattle.std.specs.Prelude.{◌≡◌, ◌≤◌};
 ghost use Rattle.sheets.specs.Text.{digit_of, hex_digit_of, sees, value_for, row_of_values, sees_kind, all_different};
 

@@ -1,5 +1,7 @@
 // The form of an answer table (document 01, "The solver's answer"), as the pattern maker asks for it. One pass tests the rows one by one and
 // finds where the bits of each fresh piece begin among the fresh bits; then home and high bit of every row are tested (crate homes).
+#![tactic(auto)]
+
 ghost use Rattle.std.specs.Prelude.{◌≡◌, cond, length};
 ghost use Rattle.shapes.specs.inner.Shapes.{width_before, is_new, variable_in, widths_in, fill_in, fresh_in, fine_in, advanced, ReadsForm, FindsForm};
 

@@ -1,5 +1,6 @@
 // Sheets (document 01, "Sheet and program"): what is found in a text, and the lines that are printed. There is no code here: specs/ has the
 // definitions, proofs/ the theorems.
+#![tactic(auto)]
 
 // The bytes that separate values and end a line.
 pub const SPACE: u8 = 32;

@@ -1,5 +1,7 @@
 // The equations of a table: which row is the next one; the normal forms of its filled sides, each in a buffer of its own; and a reader that
 // takes a side's bits, as sources and high end first, from the form where it was written.
+#![tactic(auto)]
+
 ghost use Rattle.std.specs.Prelude.{◌≡◌};
 ghost use Rattle.terms.specs.Table.{rows_of, next_equation};
 ghost use Rattle.sides.specs.inner.Reading.{first_in, next_in, risen, Stands, StepsOn};

@@ -1,5 +1,7 @@
 // The first cut of an equation (document 001, section 6, "slicing"): its two filled sides, as the normal forms that crate sides writes, are
 // cut wherever either one has a border, and nowhere else. Two readers go from border to border.
+#![tactic(auto)]
+
 ghost use Rattle.std.specs.Prelude.{◌≡◌, cond, ◌+◌, ◌%◌, eqb};
 ghost use Rattle.slicer.specs.inner.Cutting.{passed_in, PutsSlice, CutsSides};
 

@@ -1,5 +1,7 @@
 // The program (document 01, "Sheet and program"): it reads a sheet from standard input, solves it, and prints the record and, for
 // outcome 2, the answer table. The whole print is put into a buffer first (crate printer), so that it can be stated what is written.
+#![tactic(auto)]
+
 ghost use Rattle.std.specs.Prelude.{◌≡◌};
 ghost use Rattle.sheets.specs.Program.{program_text};
 ghost use Rattle.input.specs.Reading.{text_of, Whole};

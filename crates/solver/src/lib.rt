@@ -1,5 +1,7 @@
 // The solver (document 01, "The solver's answer"). The classes of a table's bits (crate linking) give the answer's rows (borders), and these
 // their homes (homes).
+#![tactic(auto)]
+
 ghost use Rattle.std.specs.Prelude.{◌≡◌, ◌≤◌, suc, length};
 ghost use Rattle.answers.specs.Solve.{solve_record, answer_after, work_after};
 ghost use Rattle.solver.specs.inner.Call.{Concludes, AnswersTaken, AnswersTable};

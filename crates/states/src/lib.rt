@@ -1,5 +1,7 @@
 // A job and its work area read (document 02, (viii)): the equations before the next row are taken anew, from a copy of the table (crate
 // copies), and compared: what these do not leave is no job of this table. Nothing but links and room is written.
+#![tactic(auto)]
+
 ghost use Rattle.std.specs.Prelude.{◌≡◌, length};
 ghost use Rattle.terms.specs.Table.{rows_of};
 ghost use Rattle.jobs.specs.Call.{has_line, breaks43};

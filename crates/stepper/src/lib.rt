@@ -1,5 +1,7 @@
 // The calls of a job kept open (document 02, (viii)): a table's equations are taken one by one. A job is two numbers, the next row and the
 // ties so far, and a work area with what holds each variable bit. Nothing lent is written before all is known.
+#![tactic(auto)]
+
 ghost use Rattle.std.specs.Prelude.{◌≡◌, cond, suc, eqb, length};
 ghost use Rattle.jobs.specs.Call.{open_record, open_job, open_work, step_record, step_job, step_work, job_answer_record, job_answer_after};
 ghost use Rattle.steps.specs.inner.Steps.{goes_on, StepsPlaced, PreviewsPlaced, Begins, OpensArea, AnswersPlaced};

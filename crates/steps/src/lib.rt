@@ -1,5 +1,7 @@
 // A step on a job tried (document 02, (viii)): the job is read (crate states), and the equation of its next row taken over the classes of
 // those before it. Nothing that is lent for good is written.
+#![tactic(auto)]
+
 ghost use Rattle.std.specs.Prelude.{◌≡◌, cond, ◌/◌, ◌<◌, eqb, length};
 ghost use Rattle.steps.specs.inner.Steps.{next_row, StepsFrom, TriesStep};
 

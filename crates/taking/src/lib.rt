@@ -1,6 +1,8 @@
 // The equations of a table taken one after the other (document 01, "The solver's answer"). The bit pairs of each are read from the normal
 // forms of its sides, where these were written (crate sides); each pair joins the classes of its two bits (classes), until two different
 // fixed bits meet.
+#![tactic(auto)]
+
 ghost use Rattle.std.specs.Prelude.{length};
 ghost use Rattle.taking.specs.inner.Equations.{TellsAlike, TakesEquations, LeavesForms};
 

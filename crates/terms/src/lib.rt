@@ -1,5 +1,6 @@
 // The term table: its rows, its limits, the records that calls return, and the faults of a table. There is no code here: specs/ has the
 // definitions, proofs/ the theorems.
+#![tactic(auto)]
 
 // The kinds of a row.
 pub const VARIABLE: u16 = 0;

@@ -1,5 +1,7 @@
 // The word test (document 02, (ii)): a table of 16-bit variables is turned into a plan once, and each window of words is then tested
 // against the plan with a few word operations. Place i is bit 15 - i % 16 of word i / 16.
+#![tactic(auto)]
+
 ghost use Rattle.std.specs.Prelude.{◌≡◌, cond, ◌+◌, ◌≤◌, ◌<◌, min, length, get_or};
 ghost use Rattle.laws.specs.Lists.{below};
 ghost use Rattle.groups.specs.inner.Places.{equal_test};

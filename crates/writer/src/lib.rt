@@ -1,5 +1,7 @@
 // Bytes and lines put into a buffer. A function is given a place in the buffer. It writes all of its bytes from that place on and gives the
 // place behind them, or, where there is too little room, writes nothing and gives the place itself.
+#![tactic(auto)]
+
 ghost use Rattle.std.specs.Prelude.{◌≡◌, ◌+◌, ◌*◌, ◌/◌, length};
 ghost use Rattle.sheets.specs.Print.{shown, record_text, answer_lines, answer_text};
 ghost use Rattle.sheets.specs.inner.Printed.{fits, printed, behind, printed_in, behind_in};

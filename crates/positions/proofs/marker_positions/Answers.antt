@@ -29,4 +29,4 @@ is-placed d = d.check_and_place-fault.ensures.placed (found d.before.before.befo
 pub returns-then-not-accepted : goal.returns-then-not-accepted
 returns-then-not-accepted c =
     let bad = ap is_accepted (sym (found c.before.before.before.before.before.before)) ∙ sym c.accepted.ensures ∙ c.if-not-accepted.true in
-    record { «record» = (stop_fault _ _ _ bad _ (c.fault_record.ensures ∙ ap fault_record (found c.before.before.before.before.before.before))).0; list = (stop_fault _ _ _ bad _ (c.fault_record.ensures ∙ ap fault_record (found c.before.before.before.before.before.before))).1 }
+    record { «record» = (stop_fault c.args.table.now c.args.words.now c.args.list.now bad _ (c.fault_record.ensures ∙ ap fault_record (found c.before.before.before.before.before.before))).0; list = (stop_fault c.args.table.now c.args.words.now c.args.list.now bad _ (c.fault_record.ensures ∙ ap fault_record (found c.before.before.before.before.before.before))).1 }

@@ -16,16 +16,15 @@ is-good table p = ap is_accepted p.numbered.accepted
 
 pub returns-then-k-eq0 : goal.returns-then-k-eq0
 returns-then-k-eq0 c =
-    record { «record» = (stop_41 _ _ _ (is-good _ c.requires.placed) _ c.window_of-k.ensures c.if-k-eq0.true _ c.refuse.ensures).0; list = (stop_41 _ _ _ (is-good _ c.requires.placed) _ c.window_of-k.ensures c.if-k-eq0.true _ c.refuse.ensures).1 }
+    record { «record» = (stop_41 c.args.table.now c.args.words.now c.args.list.now (is-good _ c.requires.placed) _ c.window_of-k.ensures c.if-k-eq0.true _ c.refuse.ensures).0; list = (stop_41 c.args.table.now c.args.words.now c.args.list.now (is-good _ c.requires.placed) _ c.window_of-k.ensures c.if-k-eq0.true _ c.refuse.ensures).1 }
 
 pub returns-then-words-gt-MAX_WORDS : goal.returns-then-words-gt-MAX_WORDS
 returns-then-words-gt-MAX_WORDS c =
-    record { «record» = (stop_42 _ _ _ (is-good _ c.requires.placed) _ c.window_of-k.ensures c.if-k-eq0.false c.if-words-gt-MAX_WORDS.true _ c.refuse-then-words-gt-MAX_WORDS.ensures).0; list = (stop_42 _ _ _ (is-good _ c.requires.placed) _ c.window_of-k.ensures c.if-k-eq0.false c.if-words-gt-MAX_WORDS.true _ c.refuse-then-words-gt-MAX_WORDS.ensures).1 }
+    record { «record» = (stop_42 c.args.table.now c.args.words.now c.args.list.now (is-good _ c.requires.placed) _ c.window_of-k.ensures c.if-k-eq0.false c.if-words-gt-MAX_WORDS.true _ c.refuse-then-words-gt-MAX_WORDS.ensures).0; list = (stop_42 c.args.table.now c.args.words.now c.args.list.now (is-good _ c.requires.placed) _ c.window_of-k.ensures c.if-k-eq0.false c.if-words-gt-MAX_WORDS.true _ c.refuse-then-words-gt-MAX_WORDS.ensures).1 }
 
 pub returns : goal.returns
 returns c =
     let k = c.window_of-k.ensures in
     let some = c.if-k-eq0.false in
     let tells = (c.prepare.ensures c.requires.placed c.requires.bits_value (window_there _ _ k some).0 (omega arith)).0 in
-    let all = (c.find_starts-found.ensures.count, c.find_starts-found.ensures.list) in
-    record { «record» = (found_all _ _ _ (is-good _ c.requires.placed) _ k some _ tells (omega (arith, c.if-words-gt-MAX_WORDS.false)) _ _ _ all.0.0 all.1 c.complete.ensures).0; list = (found_all _ _ _ (is-good _ c.requires.placed) _ k some _ tells (omega (arith, c.if-words-gt-MAX_WORDS.false)) _ _ _ all.0.0 all.1 c.complete.ensures).1 }
+    record { «record» = (found_all c.args.table.now c.args.words.now c.args.list.now (is-good _ c.requires.placed) _ k some _ tells (omega (arith, c.if-words-gt-MAX_WORDS.false)) _ _ _ c.find_starts-found.ensures.count.0 c.find_starts-found.ensures.list c.complete.ensures).0; list = (found_all c.args.table.now c.args.words.now c.args.list.now (is-good _ c.requires.placed) _ k some _ tells (omega (arith, c.if-words-gt-MAX_WORDS.false)) _ _ _ c.find_starts-found.ensures.count.0 c.find_starts-found.ensures.list c.complete.ensures).1 }
