@@ -1,0 +1,31 @@
+-- `compare_recordings` meets its contract: a table that is refused, and one that is placed. Assumes nothing.
+use mathlib.Core.Path.{◌≡◌, sym, ◌∙◌, ap}
+use native.Mathlib.Omega.{arith}
+use Rattle.terms.specs.declared.Fault.TheVariants.{Accepted}
+use Rattle.terms.specs.Faults.{is_accepted, first_fault}
+use Rattle.terms.specs.Calls.{fault_record}
+use Rattle.terms.specs.inner.Placed.{Placed}
+use Rattle.terms.proofs.AcceptedTable.{fault_none}
+use Rattle.checker.proofs.Checking.{fault_found}
+use Rattle.merger.proofs.Concluding.{stop_fault}
+use borrow.Author.Rules.{rules}
+use Rattle.merger.proofs.compare_recordings.Goals as goal
+use Rattle.merger.proofs.compare_recordings.Lts as lts
+use Rattle.merger.proofs.compare_recordings.Tie as tie
+use Rattle.merger.proofs.compare_recordings.Reads as reads
+
+-- the fault that the check found is the table's
+found : (d : lts.After-check_and_place tie.the-claims reads.Pre reads.Post tie.handed_clauses) → d.check_and_place-fault.result ≡ first_fault d.args.table.now
+found d = d.check_and_place-fault.ensures.fault ∙ fault_found _ _ (omega arith)
+
+no-fault : (d : lts.Else1 tie.the-claims reads.Pre reads.Post tie.handed_clauses) → first_fault d.args.table.now ≡ Accepted
+no-fault d = fault_none _ (ap is_accepted (sym (found d.before.before.before.before)) ∙ sym d.accepted.ensures ∙ d.if-not-accepted.false)
+
+-- the table was placed
+is-placed : (d : lts.Else1 tie.the-claims reads.Pre reads.Post tie.handed_clauses) → Placed d.args.table.now d.check_and_place-fault.new.widths d.check_and_place-fault.new.places
+is-placed d = d.check_and_place-fault.ensures.placed (found d.before.before.before.before ∙ no-fault d) (omega arith)
+
+pub returns-then-not-accepted : goal.returns-then-not-accepted
+returns-then-not-accepted c =
+    let bad = ap is_accepted (sym (found c.before.before.before.before.before.before)) ∙ sym c.accepted.ensures ∙ c.if-not-accepted.true in
+    record { «record» = stop_fault _ _ _ bad _ (c.fault_record.ensures ∙ ap fault_record (found c.before.before.before.before.before.before)) }
