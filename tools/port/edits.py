@@ -88,7 +88,8 @@ for path in sorted(glob.glob(f"{WAS}/crates/*/must-fail/*.edit")):
     for line in read(path).split("\n"):
         if line.startswith("file: "):
             file = line[6:].strip()
-            texts.setdefault(file, read(f"{to.split('/must-fail/')[0]}/{file}"))
+            there = f"{to.split('/must-fail/')[0]}/{file}"
+            texts.setdefault(file, read(there) if os.path.exists(there) else "")
             out.append(line)
         elif line.startswith("old: "):
             old = line[5:]
