@@ -1,11 +1,13 @@
 -- What each call says of the rows that are copied it says of all rows lent: 513 rows are copied, and a call refuses every table of
 -- more than 512 rows in one way, whatever its numbers are. Assumes nothing.
-use mathlib.Core.Path.{◌≡◌, refl}
+use mathlib.Core.Path.{◌≡◌, refl, sym, ◌∙◌, ap}
 use mathlib.Core.Bool.{Bool, true, false, ◌||◌, cond}
 use mathlib.Core.List.{List}
-use Prim.Native.Nat.{ℕ}
+use Prim.Native.Nat.{ℕ, ◌≤◌}
+use native.Mathlib.Omega.{arith}
 use lib.Dec.{eqb, ltb}
-use lib.ListN.{length}
+use lib.ListN.{length, take}
+use lib.Seq.{length-take-le}
 use Rattle.terms.specs.declared.Row.{Row}
 use Rattle.terms.specs.declared.Fault.TheVariants.{Shape}
 use Rattle.terms.specs.Calls.{refusal, stop_at}
@@ -13,9 +15,31 @@ use Rattle.terms.specs.Faults.{first_fault}
 use Rattle.terms.specs.Value.{value_record, value_after}
 use Rattle.forms.specs.Call.{form_record, form_after}
 use Rattle.terms.specs.Table.{row_numbers}
-use Rattle.rows.proofs.Held.{all-or_over}
-use Rattle.rows.proofs.OverFlat.{copied}
+use Rattle.rows.proofs.Held.{all-or_over, held_read, held_room}
+use Rattle.laws.proofs.Buffers.{overwrite-length}
+use Rattle.rows.specs.inner.Held.{held, area_numbers}
+use Rattle.laws.specs.Buffers.{overwrite}
 use Rattle.answers.specs.Solve.{solve_record, answer_after, work_after}
+
+-- ---- the numbers in use, of the rows that are lent
+abbrev pub copied : List Row → List ℕ
+copied ys = held ys area_numbers
+
+-- the part of the area that is handed on
+pub record Copied (rows : List Row) (flat : List ℕ) (used : ℕ) : Type 0 where
+  pub part : take used flat ≡ copied rows
+  pub within : used ≤ length flat
+  pub long : used ≡ length (take used flat)
+
+pub was_copied : (rows : List Row) (base flat : List ℕ) (used : ℕ) → length base ≡ 2052 → used ≡ length (held rows (length base)) → flat ≡ overwrite (held rows (length base)) base
+    → Copied rows flat used
+was_copied rows base flat used room count put =
+    let within : used ≤ length flat = omega (arith, held_room rows (length base), ap length put ∙ overwrite-length (held rows (length base)) base) in
+    record {
+      part = ap (λ (n : ℕ). take n flat) count ∙ held_read rows base flat put ∙ ap (held rows) room;
+      within = within;
+      long = sym (length-take-le used flat within);
+    }
 
 -- ---- a table of the wrong shape
 module _ (t : List ℕ) (h : first_fault t ≡ Shape) where

@@ -1,4 +1,0 @@
-pub mod Buffers
-pub mod Lists
-pub mod Binary
-pub mod Bools
