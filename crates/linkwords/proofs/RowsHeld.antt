@@ -1,11 +1,13 @@
 -- What each call says of the rows that are copied it says of all rows lent: 513 rows are copied, and a call refuses every table of
 -- more than 512 rows in one way, whatever its numbers are. Assumes nothing.
-use mathlib.Core.Path.{◌≡◌, refl}
+use mathlib.Core.Path.{◌≡◌, refl, sym, ◌∙◌, ap}
 use mathlib.Core.Bool.{Bool, true, false, ◌||◌, cond}
 use mathlib.Core.List.{List}
-use Prim.Native.Nat.{ℕ}
+use Prim.Native.Nat.{ℕ, ◌≤◌}
+use native.Mathlib.Omega.{arith}
 use lib.Dec.{eqb, ltb}
-use lib.ListN.{length}
+use lib.ListN.{length, replicate, take}
+use lib.Seq.{length-take-le}
 use Rattle.terms.specs.declared.Row.{Row}
 use Rattle.terms.specs.declared.Fault.TheVariants.{Shape}
 use Rattle.terms.specs.Calls.{refusal, stop_at}
@@ -13,8 +15,10 @@ use Rattle.terms.specs.Faults.{first_fault}
 use Rattle.terms.specs.Value.{value_record, value_after}
 use Rattle.forms.specs.Call.{form_record, form_after}
 use Rattle.terms.specs.Table.{row_numbers}
-use Rattle.rows.proofs.Held.{all-or_over}
-use Rattle.rows.proofs.OverFlat.{copied}
+use Rattle.laws.specs.Buffers.{overwrite}
+use Rattle.laws.proofs.Buffers.{overwrite-length}
+use Rattle.rows.proofs.Held.{all-or_over, held_room, held_read}
+use Rattle.rows.specs.inner.Held.{held, area_numbers}
 use Rattle.answers.specs.Solve.{solve_record, answer_after, work_after}
 
 -- ---- a table of the wrong shape
@@ -55,6 +59,21 @@ module _ (t : List ℕ) (h : first_fault t ≡ Shape) where
       either_way : (new : List ℕ) (b : Bool) → cond (ltb (cond b (refusal 10 0) (refusal 11 512)).outcome 3) new old ≡ old
       either_way new true = refl
       either_way new false = refl
+
+-- ---- the numbers in use, of the rows that are lent
+abbrev pub copied : List Row → List ℕ
+copied ys = held ys area_numbers
+
+-- an area of zeros to which they were copied holds them, and what is lent of it is they
+module _ (rows : List Row) (zs : List ℕ) (used : ℕ) (n : used ≡ length (copied rows)) (e : zs ≡ overwrite (copied rows) (replicate area_numbers 0)) where
+  pub in_area : used ≤ length zs
+  in_area = omega (arith, n, held_room rows area_numbers, ap length e ∙ overwrite-length (copied rows) (replicate area_numbers 0))
+
+  pub lent_length : used ≡ length (take used zs)
+  lent_length = sym (length-take-le used zs in_area)
+
+  pub lent_rows : take used zs ≡ copied rows
+  lent_rows = ap (λ (k : ℕ). take k zs) n ∙ held_read rows (replicate area_numbers 0) zs e
 
 -- ---- the rows lent, of which those that the area holds are copied
 module _ (rows : List Row) where
