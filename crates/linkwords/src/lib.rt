@@ -128,8 +128,7 @@ pub extern "C" fn lw_page(found: Record, answer: &[u16], number: usize) -> Page
 }
 
 // The same calls on a table that is lent as row records. The records are copied as numbers into an area of 513 rows, one more than
-// a table may have, and the call is made on those. Each says of all rows lent what the call on numbers says. These functions take
-// a slice of structs, and are proved by a walk of their code, by hand.
+// a table may have, and the call is made on those. Each says of all rows lent what the call on numbers says.
 
 // A row's value under a pattern.
 #[unsafe(no_mangle)]
@@ -171,7 +170,7 @@ pub extern "C" fn lw_solve_rows(rows: &[Row], answer: &mut [u16], work: &mut [u1
 }
 
 // A job kept open: its two numbers are lent as a struct. These functions take the struct apart, make the call on numbers, and store the
-// two back; they are proved by a walk of their code, by hand.
+// two back.
 
 // Opens a job on a table.
 #[unsafe(no_mangle)]
