@@ -506,24 +506,24 @@ extern "C" {
   is measured, not proved. The return address counts. What a dynamic linker uses
   that binds memcpy or memset only at its first use does not.
 */
-#define LW_STACK_VALUE             43456
-#define LW_STACK_NORMAL_FORM      141440
+#define LW_STACK_VALUE              2496
+#define LW_STACK_NORMAL_FORM       75904
 #define LW_STACK_READ_SHEET         4352
-#define LW_STACK_SOLVE            162368
+#define LW_STACK_SOLVE            104960
 #define LW_STACK_RIGHT_SIDE           64
-#define LW_STACK_MAKE_PATTERN     220736
-#define LW_STACK_MARKER_POSITIONS 173056
-#define LW_STACK_PAGE               2688
+#define LW_STACK_MAKE_PATTERN     162304
+#define LW_STACK_MARKER_POSITIONS 115712
+#define LW_STACK_PAGE               5120
 #define LW_STACK_JOB_OPEN           2496
-#define LW_STACK_JOB_STEP         170432
-#define LW_STACK_JOB_PREVIEW      170432
-#define LW_STACK_JOB_ANSWER       170368
-#define LW_STACK_VALUE_ROWS        47616
-#define LW_STACK_NORMAL_FORM_ROWS 145600
-#define LW_STACK_SOLVE_ROWS       166528
-#define LW_STACK_COMPARE_RECORDINGS 173248
-#define LW_STACK_COMPARE_TABLES   162112
-#define LW_STACK_SOLVE_PIECES     210880
+#define LW_STACK_JOB_STEP         145792
+#define LW_STACK_JOB_PREVIEW      145792
+#define LW_STACK_JOB_ANSWER       112960
+#define LW_STACK_VALUE_ROWS         6656
+#define LW_STACK_NORMAL_FORM_ROWS  80000
+#define LW_STACK_SOLVE_ROWS       109056
+#define LW_STACK_COMPARE_RECORDINGS 115904
+#define LW_STACK_COMPARE_TABLES   104832
+#define LW_STACK_SOLVE_PIECES     162112
 
 /* the record */
 
