@@ -5,7 +5,8 @@ usage: tools/port/compare.py             at the top of the repository
 
 Compared are, by name and in order: each file of specs/ and each file of lemmas in proofs/, without its comments and imports; the clauses of each
 function of src/; the pairs of each must-fail edit. Spelling is capitals, dashes, underscores and dots within names, spaces and parentheses,
-the names of the older library that tools/port/respell.py's predecessor turned, and the forms of clauses and projections.
+the names of the older library, and the forms of clauses and projections. It is coarse: brackets are dropped, `now` and `old` are one, and not
+seen are clauses on several lines, imports, labels, signatures, bodies and the first lines of edits (docs/PORT.md says how those were compared).
 """
 import difflib
 import os
