@@ -1,21 +1,24 @@
 #!/usr/bin/env python3
 """Brings the must-fail edits of specs/ and proofs/ to today's spelling.
 
-usage: tools/port/edits.py FOLDER
+usage: tools/port/edits.py COMMIT
 
-Run at the top of the repository, behind port.py and respell.py. FOLDER holds the repository as it was before both. Which name became which is read
-off the texts of specs/, token beside token. A pair of lines that adds a name to an import adds it to today's. Edits of src/ have no names that
-were respelled but in clauses, and those few are turned by hand: those that no longer apply are printed, and
-stay as they stand.
+Run at the top of the repository, behind port.py and respell.py. COMMIT is the one before both. Which name became which is read off the texts of
+specs/, token beside token. A pair of lines that adds a name to an import adds it to today's. Edits of src/ have no names that were respelled
+but in clauses, and those few are turned by hand: those that no longer apply are printed, and stay as they stand.
 """
 import collections
 import difflib
 import glob
 import os
 import re
+import subprocess
 import sys
+import tempfile
 
-WAS = sys.argv[1]
+ROOM = tempfile.TemporaryDirectory()
+WAS = ROOM.name
+subprocess.run(f"git archive '{sys.argv[1]}' crates | tar x -C {WAS}", shell=True, check=True)
 TOKEN = re.compile(r"""[^\s(){}.;,@"«»`\[\]⌜⌝⟨⟩]+""")
 OPERATORS = set("∷ + - * / % ^ = ≡ ≢ ≤ < → ++ && || : as ↦ |".split())
 LIBRARY = re.compile(r"use (?:mathlib|Prim|lib)\.[^\s{]*\.\{(.*?)(?:\}|$)")
