@@ -5,8 +5,8 @@ usage: tools/port/compare.py             at the top of the repository
 
 Compared are, by name and in order: each file of specs/ and each file of lemmas in proofs/, without its comments and imports; the clauses of each
 function of src/; the pairs of each must-fail edit. Spelling is capitals, dashes, underscores and dots within names, spaces and parentheses,
-the names of the older library, and the forms of clauses and projections. It is coarse: brackets are dropped, `now` and `old` are one, and not
-seen are clauses on several lines, imports, labels, signatures, bodies and the first lines of edits (docs/PORT.md says how those were compared).
+the names of the older library, and the forms of clauses and projections. It is coarse: brackets are dropped, and not seen are imports, labels,
+signatures, bodies and the first lines of edits (docs/PORT.md says how those were compared).
 """
 import difflib
 import os
@@ -33,38 +33,54 @@ def antt(t):
     return re.sub(r"([a-z0-9')]) \. ", r"\1. ", t)
 
 
-def clause(t, old):
-    if old:
-        t = re.sub("⌜|⌝", "", t)
-        m = re.match(r"\s*λ (\w+)\.(.*)$", t, re.S)
-        if m:
-            v, t = m[1], m[2]
-            if v != "_":
-                t = re.sub(r"(?<![\w.])" + v + r"(?![\w])", "RESULT", t)
-        t = re.sub(r"now \((\w+) \.entry\)", r"\1", t)
-        t = re.sub(r"now \((\w+) \.exit\)", r"\1NEW", t)
-        t = re.sub(r"now (\w+)", r"\1", t)
-    else:
-        t = re.sub(r"\bresult\b", "RESULT", t)
-        t = re.sub(r"(\w+)\.(now|old)\b", r"\1", t)
-        t = re.sub(r"(\w+)\.new\b", r"\1NEW", t)
-    return re.sub(r"[-_·()\s◌]", "", t).lower().replace("getd", "getor").replace("\u2032", "'")
+def spelled(t):
+    return re.sub(r"[-_·◌]", "", re.sub(r"\s+", "", t)).lower().replace("getd", "getor").replace("\u2032", "'")
+
+
+def clause(t, lent):
+    """A clause of the older form in today's: lent are the function's parameters that are `&mut`. Brackets go, since projections have others now."""
+    t = re.sub("⌜|⌝", "", t)
+    m = re.match(r"\s*λ (\w+)\.(.*)$", t, re.S)
+    if m:
+        t = m[2] if m[1] == "_" else re.sub(r"(?<![\w.])" + m[1] + r"(?![\w])", "result", m[2])
+    t = re.sub(r"now \((\w+) \.entry\)", lambda k: k[1] + (".old" if k[1] in lent else ".now"), t)
+    t = re.sub(r"now \((\w+) \.exit\)", r"\1.new", t)
+    return re.sub(r"now \(?(\w+)\)?", lambda k: k[1] + (".old" if k[1] in lent else ".now"), t)
 
 
 def functions(t, old):
-    out, cur, typ = {}, None, ""
-    for l in t.split("\n"):
-        if m := re.match(r"impl(?:<[^>]*>)? (\w+)", l):
-            typ = m[1] + "::"
-        elif l.startswith("}"):
+    """For each function its clauses, each read to its closing brace."""
+    out, typ = {}, ""
+    for m in re.finditer(r'(?m)^(?:(impl)(?:<[^>]*>)? (\w+)|(\}) *$|( *)(?:pub )?(?:unsafe )?(?:extern "C" )?fn (\w+))', t):
+        if m[1]:
+            typ = m[2] + "::"
+        elif m[3]:
             typ = ""
-        if m := re.match(r' *(?:pub )?(?:unsafe )?(?:extern "C" )?fn (\w+)', l):
-            cur = typ + m[1]
-            out[cur] = []
-        m = re.match(r" +(requires|ensures)\*?(?: (\w+))? \{(.*)\}\s*$", l)
-        if m and cur:
-            out[cur].append((m[1], clause(m[3], old)))
+        elif m[5]:
+            name = (typ if m[4] else "") + m[5]
+            head = ""
+            for l in t[m.end() :].split("\n"):
+                if l == m[4] + "{" or l.endswith(" {") and not re.match(r"\s*(requires|ensures)\b", l):
+                    break
+                head += l + "\n"
+            first = re.search(r"\n\s+(?:requires|ensures)\b", head)
+            lent = set(re.findall(r"(\w+): &(?:'\w+ )?mut ", head[: first.start()] if first else head))
+            out[name] = []
+            for c in re.finditer(r"\n\s+(requires|ensures)\*?(?: \w+)? \{", head):
+                depth, i = 1, c.end()
+                while depth:
+                    depth += {"{": 1, "}": -1}.get(head[i], 0)
+                    i += 1
+                text = head[c.end() : i - 1]
+                out[name].append((c[1], re.sub(r"[()]", "", spelled(clause(text, lent) if old else text)).rstrip(",")))
     return out
+
+
+def loose(t, old):
+    """The text of an edit's pair, where what a name is lent as cannot be seen."""
+    if old:
+        t = clause(re.sub(r"λ [r_]\. ?⌜", "", t), set())
+    return re.sub(r"\b(result)\b", "r", re.sub(r"\.(now|old)\b", "", t)).replace(".new", "NEW")
 
 
 def edit(t, old):
@@ -74,8 +90,8 @@ def edit(t, old):
         m = re.match(r"(file|old|new):(.*)$", l)
         if m:
             s = m[2]
-            s = clause(s, old) if "entry" in s or "exit" in s or ".now" in s or ".old" in s or ".new" in s or "⌜" in s else s
-            out.append((m[1], re.sub(r"[-_·()\s◌⌜⌝]|λr\.|λ_\.", "", s).lower().replace("getd", "getor").replace("\u2032", "'").replace("result", "r")))
+            s = loose(s, old) if "entry" in s or "exit" in s or ".now" in s or ".old" in s or ".new" in s or "⌜" in s else s
+            out.append((m[1], re.sub(r"[-_·()\s◌⌜⌝]", "", re.sub(r"λ [r_]\. ?⌜", "", s)).lower().replace("getd", "getor").replace("\u2032", "'").replace("result", "r")))
     return out
 
 

@@ -11,6 +11,7 @@ import os
 import re
 import subprocess
 import sys
+import tempfile
 
 OLD = open("docs/PORT.md", encoding="utf-8").read().split("\n")[1].strip()
 NAME = r"[^\s(){}.;,@\"«»\[\]]+"
@@ -136,27 +137,16 @@ class Function:
         return None
 
     def field(self, place, back, name):
-        """The new name of a step's field, behind so many 'before' of a place, and the function that the step calls."""
-        p = place
+        """The new name of a step's field, behind so many 'before' of a place or else anywhere in its chain, and the function that the step calls."""
+        behind = place
         for _ in range(back):
-            p = self.places[p][1] if p in self.places and self.places[p][1] else p
-        q = p
-        while q in self.places:
-            it = self.places[q]
-            if DASH(it[2][0]).lower() == DASH(name).lower():
-                return it[2][1], it[3], q
-            if not it[1]:
-                break
-            q = it[1]
-        # elsewhere in the chain
-        q = place
-        while q in self.places:
-            it = self.places[q]
-            if DASH(it[2][0]).lower() == DASH(name).lower():
-                return it[2][1], it[3], q
-            if not it[1]:
-                break
-            q = it[1]
+            behind = self.places[behind][1] if behind in self.places and self.places[behind][1] else behind
+        for q in (behind, place):
+            while q in self.places:
+                _, above, names, callee = self.places[q][:4]
+                if DASH(names[0]).lower() == DASH(name).lower():
+                    return names[1], callee, q
+                q = above
         return name, None, None
 
     def arm(self, at, name, more):
@@ -476,7 +466,7 @@ def main(crate, only=None):
             for q in (p, p.replace("/Proof.", "/Answers."), p.replace("/Proof.", "/Invariants.")):
                 if os.path.exists(q):
                     os.remove(q)
-    gen = f"/tmp/names/{crate}"
+    gen = os.path.join(tempfile.gettempdir(), "names", crate)
     subprocess.run(["rm", "-rf", gen])
     log = sh("rt", "check", "--generated", gen, "--old-names", cwd=where)
     if not os.path.exists(gen + "/names.json"):
@@ -495,7 +485,7 @@ def main(crate, only=None):
         if inv:
             write(f"{where}/proofs/{f}/Invariants.antt", fn, inv, f"Rattle.{crate}.proofs.{f.replace('/', '.')}.Given")
     log = sh("rt", "check", "--allow-holes", cwd=where)
-    open(f"/tmp/names/{crate}.log1", "w").write(log)
+    open(f"{gen}.log1", "w").write(log)
     asked = {}
     for m in re.finditer(r"(?m)^fn (\S+): no proof: expected answers in \./proofs/(\S+)/Answers\.antt; `search` did not prove (.*)$", log):
         asked[m[2]] = sorted({re.sub("-clause-.*", "", g) for g in re.findall(r"`([^`]+)`", m[3]) if "::" not in g})
@@ -516,7 +506,7 @@ def main(crate, only=None):
                 print(f"look: {f}: {n}")
     sh("rt", "fmt", cwd=where)
     log = sh("rt", "check", cwd=where)
-    open(f"/tmp/names/{crate}.log2", "w").write(log)
+    open(f"{gen}.log2", "w").write(log)
     n = len(re.findall(r"(?m)^fn .*: proved", log))
     print(f"{crate}: {n} proved;", "\n".join(re.findall(r"(?m)^logic=.*$", log)))
     for l in log.split("\n"):
