@@ -3,7 +3,7 @@
 
 ghost use Rattle.std.specs.Prelude.{◌≡◌, ◌-◌};
 ghost use Rattle.terms.specs.Faults.{is_accepted};
-ghost use Rattle.terms.specs.Calls.{refusal, completed, fault_number, fault_row, fault_record};
+ghost use Rattle.terms.specs.Calls.{refusal, completed, rule_number, rule_row, fault_record};
 
 use terms::{Fault, Record};
 
@@ -35,12 +35,11 @@ pub fn complete(pieces: u32, width: u32) -> Record
     }
 }
 
-// A fault's number in documents 01 and 02, and its row.
-fn fault_number(f: Fault) -> u32
-    ensures { result ≡ fault_number f }
+// The number of the rule that a fault tells (documents 01 and 02), and the row that breaks it.
+fn rule_number(fault: Fault) -> u32
+    ensures { result ≡ rule_number fault }
 {
-    match f {
-        Fault::Accepted => 0,
+    match fault {
         Fault::Shape => 11,
         Fault::Kind(_) => 12,
         Fault::Unused(_) => 13,
@@ -52,42 +51,34 @@ fn fault_number(f: Fault) -> u32
     }
 }
 
-fn fault_row(f: Fault) -> u32
-    ensures { result ≡ fault_row f }
+fn rule_row(fault: Fault) -> u32
+    ensures { result ≡ rule_row fault }
 {
-    match f {
-        Fault::Accepted => 0,
+    match fault {
         Fault::Shape => 512,
-        Fault::Kind(r) => r as u32,
-        Fault::Unused(r) => r as u32,
-        Fault::Named(r) => r as u32,
-        Fault::Width(r) => r as u32,
-        Fault::Value(r) => r as u32,
-        Fault::Bounds(r) => r as u32,
-        Fault::Count(r) => r as u32,
+        Fault::Kind(r)
+        | Fault::Unused(r)
+        | Fault::Named(r)
+        | Fault::Width(r)
+        | Fault::Value(r)
+        | Fault::Bounds(r)
+        | Fault::Count(r) => r.into(),
     }
 }
 
-// The record of what the check found.
-pub fn fault_record(f: Fault) -> Record
-    ensures { result ≡ fault_record f }
+// The record of what a check found.
+pub fn fault_record(found: Result<(), Fault>) -> Record
+    ensures { result ≡ fault_record found }
 {
-    refuse(fault_number(f), fault_row(f))
+    match found {
+        Ok(()) => refuse(0, 0),
+        Err(fault) => refuse(rule_number(fault), rule_row(fault)),
+    }
 }
 
-// Whether the check found no fault.
-pub fn accepted(f: Fault) -> bool
-    ensures { result ≡ is_accepted f }
+// Whether a check found no fault.
+pub fn accepted(found: Result<(), Fault>) -> bool
+    ensures { result ≡ is_accepted found }
 {
-    match f {
-        Fault::Accepted => true,
-        Fault::Shape => false,
-        Fault::Kind(_) => false,
-        Fault::Unused(_) => false,
-        Fault::Named(_) => false,
-        Fault::Width(_) => false,
-        Fault::Value(_) => false,
-        Fault::Bounds(_) => false,
-        Fault::Count(_) => false,
-    }
+    found.is_ok()
 }

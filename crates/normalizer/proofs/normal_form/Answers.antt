@@ -6,9 +6,8 @@ use Prim.Native.Nat.{ℕ, ◌<◌}
 use native.Mathlib.Omega.{arith}
 use lib.ListN.{length, get_or}
 use Rattle.laws.specs.Buffers.{overwrite}
-use Rattle.terms.specs.declared.Fault.TheVariants.{Accepted}
 use Rattle.terms.specs.Table.{rows_of, width_of}
-use Rattle.terms.specs.Faults.{absent, is_accepted, first_fault, not_term}
+use Rattle.terms.specs.Faults.{Accepted, absent, is_accepted, first_fault, not_term}
 use Rattle.terms.specs.Calls.{fault_record, completed}
 use Rattle.terms.specs.inner.Placed.{Numbered}
 use Rattle.terms.proofs.AcceptedTable.{fault_none, accepted_table, term_there}
