@@ -13,7 +13,4 @@ use Rattle.words.proofs.word.Reads as word-reads
 use Rattle.words.proofs.equal_meet.Given as goal
 
 abbrev pub invariant-loop-g : goal.invariant-loop-g
-invariant-loop-g l = (l.g ≤ l.n) × (below l.g (equal_test l.plan l.window) ≡ true)
-
-abbrev pub decreases-loop-g : goal.decreases-loop-g
-decreases-loop-g l = l.n - l.g
+invariant-loop-g l = below l.g (equal_test l.plan l.window) ≡ true

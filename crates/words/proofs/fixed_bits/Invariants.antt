@@ -11,7 +11,4 @@ use Rattle.numbers.proofs.one_if.Reads as one-if-reads
 use Rattle.words.proofs.fixed_bits.Given as goal
 
 abbrev pub invariant-loop-q : goal.invariant-loop-q
-invariant-loop-q l = (l.q ≤ 16) × Upto l.links l.v l.q l.mask l.value
-
-abbrev pub decreases-loop-q : goal.decreases-loop-q
-decreases-loop-q l = 16 - l.q
+invariant-loop-q l = Upto l.links l.v l.q l.mask l.value

@@ -13,7 +13,4 @@ use Rattle.words.proofs.word.Reads as word-reads
 use Rattle.words.proofs.fixed_meet.Given as goal
 
 abbrev pub invariant-loop-j : goal.invariant-loop-j
-invariant-loop-j l = (l.j ≤ l.n) × (below l.j (fixed_test l.plan l.window) ≡ true)
-
-abbrev pub decreases-loop-j : goal.decreases-loop-j
-decreases-loop-j l = l.n - l.j
+invariant-loop-j l = below l.j (fixed_test l.plan l.window) ≡ true

@@ -11,7 +11,4 @@ use Rattle.words.proofs.put_fixed.Given as goal
 
 abbrev pub invariant-loop-v : goal.invariant-loop-v
 invariant-loop-v l =
-    (l.v ≤ l.k) × ((l.n ≤ l.v) × ((length l.plan ≡ length l.initial.plan) × (260 ≤ length l.initial.plan → FixedPut l.links l.v l.initial.plan l.plan l.n)))
-
-abbrev pub decreases-loop-v : goal.decreases-loop-v
-decreases-loop-v l = l.k - l.v
+    (l.n ≤ l.v) × (length l.plan ≡ length l.initial.plan) × (260 ≤ length l.initial.plan → FixedPut l.links l.v l.initial.plan l.plan l.n)
