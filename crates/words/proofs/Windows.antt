@@ -12,7 +12,7 @@ use lib.Seq.{drop-cons}
 use lib.Dec.{eqb}
 use borrow.Author.Tests.{eq-eqb, ne_eqb}
 use Rattle.laws.proofs.Numbers.{dec_eq}
-use Rattle.std.specs.Prelude.{Option, Some, None}
+use Rattle.std.specs.Prelude.{Some, None}
 use Rattle.terms.specs.declared.Row.{Row}
 use Rattle.terms.specs.Table.{no_row, row_at, count_kind}
 use Rattle.terms.proofs.RowKinds.{of_variable, of_other}

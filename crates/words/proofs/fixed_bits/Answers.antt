@@ -1,9 +1,10 @@
 -- `fixed_bits` meets its contract: a bit more of the mask and of the value at each turn. Assumes nothing.
 use mathlib.Core.Path.{◌≡◌, ◌∙◌, ap}
-use Prim.Native.Nat.{ℕ, suc, ◌+◌, ◌*◌, ◌-◌, ◌≤◌, ◌<◌}
+use Prim.Native.Nat.{ℕ, suc, ◌+◌, ◌*◌}
 use lib.ListN.{get_or}
+use lib.Dec.{eqb}
 use native.Mathlib.Omega.{arith}
-use Rattle.words.proofs.FixedRows.{none_yet, bit_more, room_left, all-bits}
+use Rattle.words.proofs.FixedRows.{byte_is, none_yet, bit_more, all-bits}
 use Rattle.words.proofs.fixed_bits.Goals as goal
 
 pub loop-q-init : goal.loop-q-init
@@ -14,7 +15,7 @@ loop-q-preserved c =
     let a = c.args in
     let two : 16 * a.v + c.loop-q.q + 2 ≡ suc (suc (16 * a.v + c.loop-q.q)) = omega arith in
     bit_more a.links.now a.v c.loop-q.q c.loop-q.mask c.loop-q.value c.load-link.result c.from-zero.result c.from-one.result
-    c.loop-q-test.true (c.load-link.ensures ∙ ap (λ (i : ℕ). get_or a.links.now i 0) two) c.from-zero.ensures c.from-one.ensures c.loop-q.invariant
+    c.loop-q-test.true (c.load-link.ensures ∙ ap (λ (i : ℕ). get_or a.links.now i 0) two) (c.from-zero.ensures ∙ byte_is (eqb c.load-link.result 0)) (c.from-one.ensures ∙ byte_is (eqb c.load-link.result 1)) c.loop-q.invariant
 
 pub returns : goal.returns
 returns c =

@@ -1,6 +1,5 @@
 -- `put_fixed` meets its contract: the rows of the variables before are there. Assumes nothing.
-use mathlib.Core.Path.{◌≡◌, refl, ◌∙◌}
-use Prim.Native.Nat.{◌-◌, ◌≤◌}
+use mathlib.Core.Path.{refl, ◌∙◌}
 use native.Mathlib.Omega.{arith}
 use Rattle.laws.proofs.Bools.{one_most}
 use Rattle.groups.specs.inner.Counts.{linked}
