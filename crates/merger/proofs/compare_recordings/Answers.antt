@@ -7,7 +7,6 @@ use Rattle.terms.specs.inner.Placed.{Placed}
 use Rattle.terms.proofs.AcceptedTable.{fault_none}
 use Rattle.checker.proofs.Checking.{fault_found}
 use Rattle.merger.proofs.Concluding.{stop_fault}
-use borrow.Author.Rules.{rules}
 use Rattle.merger.proofs.compare_recordings.Goals as goal
 use Rattle.merger.proofs.compare_recordings.Lts as lts
 use Rattle.merger.proofs.compare_recordings.Tie as tie
