@@ -1,5 +1,5 @@
 -- The pass of `read_form`: with i rows passed, all of them fine, the state is that of these rows. And what `form_of` makes of it.
-use mathlib.Core.Path.{◌≡◌, refl, sym, ap, ◌∙◌}
+use mathlib.Core.Path.{◌≡◌, refl, sym, ap, ◌∙◌, subst}
 use mathlib.Core.Bool.{Bool, true, false, ◌&&◌, and-false}
 use mathlib.Core.List.{List, [], ◌∷◌, ◌++◌}
 use Prim.Native.Nat.{ℕ, suc, ◌+◌, ◌/◌, ◌%◌, ◌≤◌, ◌<◌}
@@ -48,12 +48,20 @@ pub record Reading (answer widths₀ starts₀ widths starts : List ℕ) (p : Pr
   pub starts_len : length starts ≡ length starts₀
   pub going : 4096 ≤ length widths₀ → 4096 ≤ length starts₀ → Going (answer_rows_of answer) widths starts p i
 
-pub reading_first : (answer widths starts : List ℕ) → Reading answer widths starts widths starts at_first 0
-reading_first answer widths starts = record {
+first_state : (v n k w b i f : ℕ) → v ≡ 0 → n ≡ 0 → k ≡ 2 → w ≡ 0 → b ≡ 0 → i ≡ 0 → f ≡ 0
+    → record { variable = v; next = n; kind = k; width = w; bits = b; pieces = i; free = f } ≡ at_first
+first_state v n k w b i f ev en ek ew eb ei ef = rw (ev, en, ek, ew, eb, ei, ef)
+
+pub reading_first : (answer widths starts : List ℕ) (p : Progress)
+    → p.variable ≡ 0 → p.next ≡ 0 → p.kind ≡ 2 → p.width ≡ 0 → p.bits ≡ 0 → p.pieces ≡ 0 → p.free ≡ 0 → Reading answer widths starts widths starts p 0
+reading_first answer widths starts p ev en ek ew eb ei ef = record {
   within = omega arith;
   widths_len = refl;
   starts_len = refl;
-  going = λ room space. record { same = refl; passed = passed_none widths starts };
+  going = λ room space. record {
+    same = refl;
+    passed = subst (λ (q : Progress). Passed [] q widths starts) (sym (first_state p.variable p.next p.kind p.width p.bits p.pieces p.free ev en ek ew eb ei ef)) (passed_none widths starts);
+  };
 }
 
 module _ (answer widths₀ starts₀ widths starts : List ℕ) (p : Progress) (i : ℕ) (k : Reading answer widths₀ starts₀ widths starts p i) where
