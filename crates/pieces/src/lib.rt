@@ -29,7 +29,7 @@ fn merge(p: Piece, q: Piece) -> Piece
         p.high
     };
     Piece {
-        high: high,
+        high,
         low: q.low,
         ..p
     }
