@@ -13,36 +13,36 @@ ghost use Rattle.comparer.specs.inner.Comparing.{included, among_links, links_ou
 
 use terms::Record;
 
-// The row of the next variable from a row on, or the number of rows.
-fn next_variable(table: &[u16], from: usize) -> usize
+// The row of the next variable from a row on.
+fn next_variable(table: &[u16], from: usize) -> Option<usize>
     ensures { NextVariable (rows_of table.now) from result }
 {
-    let rows = table.len() / 4;
-    for r in from..rows {
+    for r in from..table.len() / 4 {
         if rows::row_at(table, r).kind == terms::VARIABLE {
-            return r;
+            return Some(r);
         }
     }
-    from.max(rows)
+    None
 }
 
 // Whether the variables of two tables are as many and have the same widths in the same order.
 fn same_variables(first: &[u16], second: &[u16]) -> bool
     ensures { result ≡ same_word (variable_widths (rows_of first.now)) (variable_widths (rows_of second.now)) }
 {
-    let mut r = next_variable(first, 0);
-    let mut q = next_variable(second, 0);
-    while r < first.len() / 4 {
-        if second.len() / 4 <= q {
-            return false;
+    let mut q = 0;
+    for r in 0..first.len() / 4 {
+        let row = rows::row_at(first, r);
+        if row.kind == terms::VARIABLE {
+            let Some(at) = next_variable(second, q) else {
+                return false;
+            };
+            if rows::row_at(second, at).a != row.a {
+                return false;
+            }
+            q = at + 1;
         }
-        if rows::row_at(first, r).a != rows::row_at(second, q).a {
-            return false;
-        }
-        r = next_variable(first, r + 1);
-        q = next_variable(second, q + 1);
     }
-    second.len() / 4 <= q
+    next_variable(second, q).is_none()
 }
 
 // Whether each source of so many bits and its representative in g are of one class of h.
@@ -117,7 +117,7 @@ fn compare_in<const LINKS: usize>(
     let sources = bits + 2;
     let never = link(first, widths, places, work, &mut list[..sources]);
     numbers::copy(&list[..], sources, work);
-    checker::check_and_place(second, widths, places);
+    let _ = checker::check_and_place(second, widths, places);
     let none = link(
         second,
         widths,

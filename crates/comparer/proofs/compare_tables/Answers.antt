@@ -8,7 +8,6 @@ use Rattle.terms.proofs.AcceptedTable.{fault_none}
 use Rattle.checker.proofs.Checking.{fault_found}
 use Rattle.inclusion.proofs.Stops.{stop_room, stop_first}
 use Rattle.comparer.proofs.Stops.{ends_stopped}
-use borrow.Author.Rules.{rules}
 use Rattle.comparer.proofs.compare_tables.Goals as goal
 use Rattle.comparer.proofs.compare_tables.Lts as lts
 use Rattle.comparer.proofs.compare_tables.Tie as tie
