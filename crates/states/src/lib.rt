@@ -8,6 +8,7 @@ ghost use Rattle.jobs.specs.Call.{has_line, breaks43};
 ghost use Rattle.states.specs.inner.Prefixes.{TakesOn};
 ghost use Rattle.states.specs.inner.Jobs.{Claims, ReadsState};
 
+use jobs::Job;
 use taking::Taken;
 use terms::Row;
 
@@ -108,22 +109,21 @@ pub fn read_state(
     short: &[u16],
     widths: &[u16],
     places: &[u16],
-    next: u32,
-    ties: u32,
+    job: Job,
     work: &[u16],
     left: &mut [u16],
     right: &mut [u16],
     links: &mut [u16],
 ) -> Option<usize>
-    ensures { ReadsState table.now short.now widths.now places.now next ties work.now (length left.old) (length right.old) links.old links.new result }
+    ensures { ReadsState table.now short.now widths.now places.now job.next job.ties work.now (length left.old) (length right.old) links.old links.new result }
 {
-    let r = claimed_row(table, short, widths, places, next, left, right, links)?;
+    let r = claimed_row(table, short, widths, places, job.next, left, right, links)?;
     linking::unlink(links);
     let taken = take_on(table, short, widths, places, 0, r, left, right, links);
     if taken.row != r {
         return None;
     }
-    if taken.ties != ties as usize {
+    if taken.ties != job.ties as usize {
         return None;
     }
     if areas::is_area(links, work) {

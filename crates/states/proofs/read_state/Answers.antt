@@ -43,14 +43,14 @@ returns-then-taken-r c =
     let taken = before-taken c.before.before.before.before.before.before.before.before.before ready in
     none_read (rows_of table) _ _ _ _ _ refl (met_before table accepted ready.no_lines _ _ _ _ claims _ _ _ taken c.if-taken-r.true)
 
-pub returns-then-taken-ties : goal.returns-then-taken-ties
-returns-then-taken-ties c =
+pub returns-then-taken-job : goal.returns-then-taken-job
+returns-then-taken-job c =
     λ ready long.
     let table = c.args.table.now in
     let accepted = ready.placed.numbered.accepted in
     let claims = sym c.in_ok-r.was ∙ c.claimed_row.ensures ready in
-    let taken = before-taken c.before.before.before.before.before.before.before.before.before.before.before ready in
-    none_read (rows_of table) _ _ _ _ _ refl (other_ties table accepted ready.no_lines _ _ _ _ claims _ _ _ taken c.if-taken-r.false (λ e. c.if-taken-ties.true (omega (arith, e))))
+    let taken = before-taken c.before.before.before.before.before.before.before.before.before.before.before.before ready in
+    none_read (rows_of table) _ _ _ _ _ refl (other_ties table accepted ready.no_lines _ _ _ _ claims _ _ _ taken c.if-taken-r.false (λ e. c.if-taken-job.true (omega (arith, e))))
 
 pub returns-then-is_area : goal.returns-then-is_area
 returns-then-is_area c =
@@ -58,9 +58,9 @@ returns-then-is_area c =
     let table = c.args.table.now in
     let accepted = ready.placed.numbered.accepted in
     let claims = sym c.in_ok-r.was ∙ c.claimed_row.ensures ready in
-    let taken = before-taken c.before.before.before.before.before.before.before.before.before.before.before.before.before ready in
+    let taken = before-taken c.before.before.before.before.before.before.before.before.before.before.before.before.before.before ready in
     let whole = c.if-taken-r.false in
-    let same : 0 + c.take_on-taken.result.ties ≡ c.args.ties = omega (arith, c.if-taken-ties.false) in
+    let same : 0 + c.take_on-taken.result.ties ≡ c.args.job.ties = omega (arith, c.if-taken-job.false) in
     state_read (rows_of table) _ _ _ _ _ claims (is-state table accepted ready.no_lines _ _ _ _ claims _ _ _ taken whole same (sym c.is_area.ensures ∙ c.if-is_area.true)) (prefix_as _ _ _ _ _ taken whole same)
 
 pub returns-else-is_area : goal.returns-else-is_area
@@ -69,5 +69,5 @@ returns-else-is_area c =
     let table = c.args.table.now in
     let accepted = ready.placed.numbered.accepted in
     let claims = sym c.in_ok-r.was ∙ c.claimed_row.ensures ready in
-    let taken = before-taken c.before.before.before.before.before.before.before.before.before.before.before.before.before ready in
+    let taken = before-taken c.before.before.before.before.before.before.before.before.before.before.before.before.before.before ready in
     none_read (rows_of table) _ _ _ _ _ refl (other_area table accepted ready.no_lines _ _ _ _ claims _ _ _ taken c.if-taken-r.false (sym c.is_area.ensures ∙ c.if-is_area.false))
