@@ -1,12 +1,12 @@
 -- Work areas and the holders that links give: numbers taken together bit by bit, and an area that is the links' exactly if its first numbers
 -- are the holders and all others are 0. Assumes nothing.
 use mathlib.Core.Path.{◌≡◌, refl, sym, ◌∙◌, ap, ap₂}
-use mathlib.Core.Bool.{Bool, true, false, ◌&&◌, cond}
-use mathlib.Core.List.{List, [], ◌∷◌, ◌++◌, map}
+use mathlib.Core.Bool.{Bool, true, false, ◌&&◌}
+use mathlib.Core.List.{List, [], ◌∷◌, map}
 use Prim.Native.Nat.{ℕ, zero, suc, ◌+◌, ◌-◌, ◌≤◌, ◌<◌, min}
 use native.Mathlib.Omega.{arith}
-use lib.Bits.{bit_and, bit_or, bit_xor, or_add_and, xor_add_and, and_le_l, and_le_r, xor_self}
-use lib.Dec.{eqb, ltb}
+use lib.Bits.{bit_or, bit_xor, or_add_and, xor_add_and, and_le_l, and_le_r, xor_self}
+use lib.Dec.{eqb}
 use lib.ListN.{length, get_or, take, drop, replicate, length-append, length-replicate, length-drop, length-map, get_or-append}
 use lib.Seq.{take-nil, get_or-drop, get_or-append-add, ext_get_or}
 use mathlib.Core.Logic.{⊎_elim}
@@ -14,7 +14,6 @@ use borrow.Author.Tests.{eqb-true, eq-eqb}
 use Rattle.laws.specs.Lists.{below}
 use Rattle.laws.specs.Buffers.{overwrite}
 use Rattle.laws.proofs.Bools.{same_test, and_both, and_parts}
-use Rattle.laws.proofs.Lists.{tail_at}
 use Rattle.laws.proofs.Numbers.{lt_or_le}
 use Rattle.laws.proofs.Tallies.{below_of, below_at}
 use Rattle.terms.specs.Table.{same_word}
@@ -52,16 +51,14 @@ map_at f [] i h = absurd (omega arith)
 map_at f (x ∷ c) zero h = refl
 map_at f (x ∷ c) (suc i) h = map_at f c i (omega arith)
 
-pub held-count : (links : List ℕ) → length (held_by links) ≡ length links - 2
+pub held-count : (links : List ℕ) → length (held_by links) ≡ length (drop 2 links)
 unfolding held_by
-held-count links = length-map (drop 2 links) host_number ∙ length-drop 2 links
+held-count links = length-map (drop 2 links) host_number
 
 -- the holder of place i
-pub held_at : (links : List ℕ) (i : ℕ) → i < length links - 2 → get_or (held_by links) i 0 ≡ host_number (get_or links (i + 2) 0)
+pub held_at : (links : List ℕ) (i : ℕ) → i < length (drop 2 links) → get_or (held_by links) i 0 ≡ host_number (get_or (drop 2 links) i 0)
 unfolding held_by
-held_at links i h =
-    map_at host_number (drop 2 links) i (omega (arith, length-drop 2 links))
-    ∙ ap host_number (get_or-drop 2 links i 0 ∙ ap (λ (j : ℕ). get_or links j 0) (omega arith))
+held_at links i h = map_at host_number (drop 2 links) i h
 
 -- ---- the loops
 
@@ -77,7 +74,7 @@ together_more xs i d x e h =
     let one : i + 1 ≡ suc i = omega arith in
     or_none d x ∙ ap₂ (λ (a b : Bool). a && b) (ap (λ (z : ℕ). eqb z 0) e) h ∙ ap (λ (j : ℕ). below j (λ k. eqb (get_or xs k 0) 0)) (sym one)
 
-pub differ_more : (links work : List ℕ) (i d x y : ℕ) → i < length links - 2 → x ≡ get_or work i 0 → y ≡ host_number (get_or links (i + 2) 0)
+pub differ_more : (links work : List ℕ) (i d x y : ℕ) → i < length (drop 2 links) → x ≡ get_or work i 0 → y ≡ host_number (get_or (drop 2 links) i 0)
     → eqb d 0 ≡ below i (λ k. eqb (get_or (held_by links) k 0) (get_or work k 0))
     → eqb (bit_or d (bit_xor x y)) 0 ≡ below (i + 1) (λ k. eqb (get_or (held_by links) k 0) (get_or work k 0))
 unfolding below

@@ -2,7 +2,7 @@
 // links of a table's sources, and written from them. Links have for each source its representative.
 #![tactic(auto)]
 
-ghost use Rattle.std.specs.Prelude.{◌≡◌, eqb, length};
+ghost use Rattle.std.specs.Prelude.{◌≡◌, eqb, length, drop};
 ghost use Rattle.terms.specs.Table.{same_word};
 ghost use Rattle.laws.specs.Buffers.{overwrite};
 ghost use Rattle.jobs.specs.Prefix.{host_number};
@@ -13,22 +13,23 @@ ghost use Rattle.areas.specs.inner.Areas.{held_by, agree, all_zero};
 fn host_number(s: u16) -> u16
     ensures { result ≡ host_number s }
 {
-    if s < 2 {
-        return 4096 + s;
-    }
-    s - 2
+    if s < 2 { 4096 + s } else { s - 2 }
+}
+
+// The links of the places: those behind the two fixed bits.
+fn of_places(links: &[u16]) -> &[u16]
+    ensures { result.now ≡ drop 2 links.now }
+{
+    &links[links.len().min(2)..]
 }
 
 // The bits in which numbers differ from the holders that the links give, taken together: 0 if they agree.
 fn holders_differ(links: &[u16], work: &[u16]) -> u16
     ensures { eqb result 0 ≡ agree (held_by links.now) work.now }
 {
-    let n = numbers::lesser(numbers::minus(links.len(), 2), work.len());
-    let mut bits: u16 = 0;
-    let mut i: usize = 0;
-    while i < n {
-        bits = bits | (work[i] ^ host_number(links[i + 2]));
-        i += 1;
+    let mut bits = 0;
+    for (x, s) in work.iter().zip(of_places(links)) {
+        bits |= *x ^ host_number(*s);
     }
     bits
 }
@@ -37,11 +38,9 @@ fn holders_differ(links: &[u16], work: &[u16]) -> u16
 fn bits_together(numbers: &[u16]) -> u16
     ensures { eqb result 0 ≡ all_zero numbers.now }
 {
-    let mut bits: u16 = 0;
-    let mut i: usize = 0;
-    while i < numbers.len() {
-        bits = bits | numbers[i];
-        i += 1;
+    let mut bits = 0;
+    for x in numbers {
+        bits |= *x;
     }
     bits
 }
@@ -50,24 +49,16 @@ fn bits_together(numbers: &[u16]) -> u16
 pub fn is_area(links: &[u16], work: &[u16]) -> bool
     ensures { result ≡ same_word (area_of (length work.now) (held_by links.now)) work.now }
 {
-    let n = numbers::minus(links.len(), 2);
-    if work.len() < n {
-        return false;
-    }
-    if holders_differ(links, work) != 0 {
-        return false;
-    }
-    bits_together(&work[n..]) == 0
+    let n = of_places(links).len();
+    n <= work.len() && holders_differ(links, work) == 0 && bits_together(&work[n..]) == 0
 }
 
 // Writes the holder of each place, as far as there is room; what follows stays.
 pub fn put_holders(links: &[u16], work: &mut [u16])
     ensures { work.new ≡ overwrite (held_by links.now) work.old }
 {
-    let n = numbers::lesser(numbers::minus(links.len(), 2), work.len());
-    let mut i: usize = 0;
-    while i < n {
-        work[i] = host_number(links[i + 2]);
-        i += 1;
+    let links = of_places(links);
+    for i in 0..links.len().min(work.len()) {
+        work[i] = host_number(links[i]);
     }
 }

@@ -1,15 +1,14 @@
 -- A table's first equations, taken on from a row: classes, ties and the row of a conflict are those of all equations so far. Assumes nothing.
 use mathlib.Core.Path.{◌≡◌, refl, sym, ◌∙◌, ap, ap₂, subst}
 use mathlib.Core.Logic.{◌≢◌}
-use mathlib.Core.List.{List, [], ◌∷◌, ◌++◌, reverse}
-use Prim.Native.Nat.{ℕ, suc, ◌+◌, ◌≤◌, ◌<◌}
+use mathlib.Core.List.{List, ◌++◌, reverse}
+use Prim.Native.Nat.{ℕ, suc, ◌+◌, ◌≤◌}
 use native.Mathlib.Omega.{arith}
 use lib.ListN.{length, take, drop, length-take, take-append-drop}
 use lib.Seq.{take-take}
 use Rattle.terms.specs.declared.Row.{Row}
 use Rattle.terms.specs.Table.{rows_of, bits_of}
 use Rattle.terms.specs.Faults.{Accepted, first_fault}
-use Rattle.laws.specs.Lists.{count_up}
 use Rattle.laws.proofs.CountUp.{count_at}
 use Rattle.answers.specs.Pairs.{Pair, pairs_in, equation_pairs}
 use Rattle.answers.specs.Solve.{pairs_together}
@@ -19,13 +18,12 @@ use Rattle.answers.proofs.Tables.{pairs_length}
 use Rattle.answers.proofs.Together.{run_together}
 use Rattle.answers.specs.inner.Classes.{classes_of}
 use Rattle.classes.specs.inner.Links.{Low, roots_of}
-use Rattle.classes.proofs.Links.{Canon}
 use Rattle.classes.proofs.Roots.{roots_settled}
 use Rattle.copies.specs.inner.Copies.{Copied}
-use Rattle.copies.proofs.Copying.{copy-count, copy_bits, copy_pairs}
+use Rattle.copies.proofs.Copying.{copy_bits, copy_pairs}
 use Rattle.taking.specs.inner.Equations.{Holding, EquationsTaken}
 use Rattle.linking.specs.inner.Classes.{unlinked}
-use Rattle.jobs.proofs.Silent.{run_parts, conflict_parts, links_parts, conflict_within, apart_still}
+use Rattle.jobs.proofs.Silent.{run_parts, conflict_parts, links_parts, apart_still}
 use Rattle.states.specs.inner.Prefixes.{PrefixTaken}
 
 -- the classes after some equations

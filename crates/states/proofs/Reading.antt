@@ -1,15 +1,16 @@
 -- Jobs and work areas read: the row that a next row claims, and that they are a state exactly if the equations before that row leave a
 -- pattern, those ties and that area. Assumes nothing.
 use mathlib.Core.Path.{◌≡◌, refl, sym, ◌∙◌, ap, subst}
-use mathlib.Core.Bool.{Bool, true, false, ◌&&◌, cond}
+use mathlib.Core.Bool.{Bool, true, false}
 use mathlib.Core.Logic.{◌≢◌, ⊎_elim}
 use mathlib.Core.List.{List, map}
-use Prim.Native.Nat.{ℕ, suc, ◌+◌, ◌/◌, ◌≤◌, ◌<◌}
+use Prim.Native.Nat.{ℕ, ◌≤◌, ◌<◌}
 use native.Mathlib.Omega.{arith}
-use lib.Dec.{eqb, leb}
-use lib.ListN.{length, take, drop}
+use Rattle.std.proofs.Common.{Option, Some, None}
+use Rattle.std.proofs.lemmas.Option.{none-some, same_Some}
+use lib.ListN.{length, drop}
 use lib.Seq.{take_all}
-use borrow.Author.Tests.{eq-eqb, ne_eqb, le-leb, lt-leb, not-true, not-false}
+use borrow.Author.Tests.{eq-eqb, ne_eqb, le-leb, lt-leb}
 use Rattle.laws.proofs.Bools.{not_both}
 use Rattle.laws.proofs.Numbers.{dec_eq, lt_or_le}
 use Rattle.terms.specs.declared.Row.{Row}
@@ -20,7 +21,7 @@ use Rattle.terms.proofs.AcceptedTable.{accepted_table}
 use Rattle.terms.proofs.Satisfies.{same-word, word_same}
 use Rattle.answers.specs.Pairs.{equation_pairs}
 use Rattle.answers.specs.Solve.{unsatisfiable, unsat_row, ties_to}
-use Rattle.answers.specs.inner.Classes.{run_all, conflict_at, links_before}
+use Rattle.answers.specs.inner.Classes.{conflict_at}
 use Rattle.answers.proofs.Tables.{pairs_length, conflict-row, is_never, is_left}
 use Rattle.answers.proofs.Tables as tables
 use Rattle.linking.specs.inner.Classes.{unlinked}
@@ -29,12 +30,12 @@ use Rattle.jobs.specs.State.{area_of, never_row, reachable}
 use Rattle.jobs.specs.Call.{breaks43}
 use Rattle.jobs.proofs.LineNumbers.{no_lines}
 use Rattle.jobs.proofs.Meeting.{never_at, some_left}
-use Rattle.jobs.proofs.Reaching.{AtRow, AtNever, reach_row, reach_never, reach_else}
+use Rattle.jobs.proofs.Reaching.{reach_row, reach_never, reach_else}
 use Rattle.jobs.proofs.PrefixPairs.{up_left, up_never, links-ties, conflict_most}
 use Rattle.jobs.proofs.Holders.{up_holders}
 use Rattle.areas.specs.inner.Areas.{held_by}
 use Rattle.states.specs.inner.Prefixes.{PrefixTaken}
-use Rattle.states.specs.inner.Jobs.{claimed, no_row, StateRead}
+use Rattle.states.specs.inner.Jobs.{claimed, StateRead}
 
 -- ---- the row that is claimed
 module _ (table : List ℕ) (accepted : first_fault table ≡ Accepted) where
@@ -49,25 +50,25 @@ module _ (table : List ℕ) (accepted : first_fault table ≡ Accepted) where
     whole : row ≡ conflict_at (unlinked t) (equation_pairs t)
     whole = P.row_is ∙ ap (conflict_at (unlinked t)) (take_all (length t) (equation_pairs t) (omega (arith, pairs_length t)))
 
-    pub claims_never : row < length (rows_of table) → row ≡ claimed (rows_of table) next
+    pub claims_never : row < length (rows_of table) → Some row ≡ claimed (rows_of table) next
     unfolding claimed
-    claims_never l = rw (eq-eqb next 1000 at, is_never table accepted (omega (arith, whole, l))) (whole ∙ conflict-row table accepted)
+    claims_never l = rw (eq-eqb next 1000 at, is_never table accepted (omega (arith, whole, l))) (ap Some (whole ∙ conflict-row table accepted))
 
-    pub claims_no_never : length (rows_of table) ≤ row → 1000 ≡ claimed (rows_of table) next
+    pub claims_no_never : length (rows_of table) ≤ row → None ≡ claimed (rows_of table) next
     unfolding claimed
     claims_no_never l = rw (eq-eqb next 1000 at, is_left table accepted (omega (arith, whole, l, tables.conflict_most table accepted))) refl
 
   -- at a row
   module _ (next : ℕ) (at : next ≢ 1000) where
-    pub claims_past : length (rows_of table) < next → 1000 ≡ claimed (rows_of table) next
+    pub claims_past : length (rows_of table) < next → None ≡ claimed (rows_of table) next
     unfolding claimed
     claims_past l = rw (ne_eqb next 1000 at, lt-leb next (length t) l) refl
 
-    pub claims_row : next ≤ length (rows_of table) → equation_from (rows_of table) next ≡ next → next ≡ claimed (rows_of table) next
+    pub claims_row : next ≤ length (rows_of table) → equation_from (rows_of table) next ≡ next → Some next ≡ claimed (rows_of table) next
     unfolding claimed
     claims_row l e = rw (ne_eqb next 1000 at, le-leb next (length t) l, eq-eqb (equation_from t next) next e) refl
 
-    pub claims_none : next ≤ length (rows_of table) → equation_from (rows_of table) next ≢ next → 1000 ≡ claimed (rows_of table) next
+    pub claims_none : next ≤ length (rows_of table) → equation_from (rows_of table) next ≢ next → None ≡ claimed (rows_of table) next
     unfolding claimed
     claims_none l e = rw (ne_eqb next 1000 at, le-leb next (length t) l, ne_eqb (equation_from t next) next e) refl
 
@@ -104,23 +105,23 @@ module _ (table : List ℕ) (accepted : first_fault table ≡ Accepted) (plain :
     pub no_never : unsatisfiable (rows_of table) ≡ false → reachable (rows_of table) next ties work ≡ false
     no_never h = unreached (λ e. not_both ((reach_never table accepted none ties work).to (sym same_never ∙ e)).never h)
 
-    pub claimed_never : unsatisfiable (rows_of table) ≡ true → claimed (rows_of table) next ≡ unsat_row (rows_of table)
+    pub claimed_never : unsatisfiable (rows_of table) ≡ true → claimed (rows_of table) next ≡ Some (unsat_row (rows_of table))
     unfolding claimed
     claimed_never h = rw (eq-eqb next 1000 at, h) refl
 
-    pub claimed_left : unsatisfiable (rows_of table) ≡ false → claimed (rows_of table) next ≡ 1000
+    pub claimed_left : unsatisfiable (rows_of table) ≡ false → claimed (rows_of table) next ≡ None
     unfolding claimed
     claimed_left h = rw (eq-eqb next 1000 at, h) refl
 
   -- no row is claimed
-  pub lost_row : (r : ℕ) → r ≡ claimed (rows_of table) next → length (rows_of table) < r → reachable (rows_of table) next ties work ≡ false
-  lost_row r e l = ⊎_elim never other (dec_eq next 1000)
+  pub lost_row : None ≡ claimed (rows_of table) next → reachable (rows_of table) next ties work ≡ false
+  lost_row e = ⊎_elim never other (dec_eq next 1000)
     where
       never : next ≡ 1000 → reachable u next ties work ≡ false
       never at = go (unsatisfiable u) refl
         where
           go : (b : Bool) → unsatisfiable u ≡ b → reachable u next ties work ≡ false
-          go true h = absurd (omega (arith, l, e, claimed_never at h, (never_at u none h).counts.in_table))
+          go true h = absurd (none-some (unsat_row u) (e ∙ claimed_never at h))
           go false h = no_never at h
 
       other : next ≢ 1000 → reachable u next ties work ≡ false
@@ -128,17 +129,38 @@ module _ (table : List ℕ) (accepted : first_fault table ≡ Accepted) (plain :
         where
           inside : next ≤ length u → reachable u next ties work ≡ false
           inside k =
-              unreached (λ h. absurd (omega (arith, l, e, k, claims_row table accepted next n k ((reach_row table accepted none next ties work k).to h).equation)))
+              unreached (λ h. absurd (none-some next (e ∙ sym (claims_row table accepted next n k ((reach_row table accepted none next ties work k).to h).equation))))
 
   -- a row is claimed
-  module _ (r : ℕ) (e : r ≡ claimed (rows_of table) next) (l : r ≤ length (rows_of table)) where
+  module _ (r : ℕ) (e : Some r ≡ claimed (rows_of table) next) where
+    pub claimed_most : r ≤ length (rows_of table)
+    claimed_most = ⊎_elim never other (dec_eq next 1000)
+      where
+        never : next ≡ 1000 → r ≤ length u
+        never at = go (unsatisfiable u) refl
+          where
+            go : (b : Bool) → unsatisfiable u ≡ b → r ≤ length u
+            go true h = omega (arith, same_Some r (unsat_row u) (e ∙ claimed_never at h), (never_at u none h).counts.in_table)
+            go false h = absurd (none-some r (sym (e ∙ claimed_left at h)))
+
+        other : next ≢ 1000 → r ≤ length u
+        other n = ⊎_elim (λ k. absurd (none-some r (claims_past table accepted next n k ∙ sym e))) inside (lt_or_le (length u) next)
+          where
+            inside : next ≤ length u → r ≤ length u
+            inside k =
+                ⊎_elim (λ f. omega (arith, k, same_Some r next (e ∙ sym (claims_row table accepted next n k f)))) (λ f. absurd (none-some r (claims_none table accepted next n k f ∙ sym e)))
+                (dec_eq (equation_from u next) next)
+
+    abbrev l : r ≤ length (rows_of table)
+    l = claimed_most
+
     pub place_to : reachable (rows_of table) next ties work ≡ true → AtPlace (rows_of table) r ties work
     place_to h = ⊎_elim never other (dec_eq next 1000)
       where
         never : next ≡ 1000 → AtPlace u r ties work
         never at =
             let it = (reach_never table accepted none ties work).to (sym (same_never at) ∙ h) in
-            let s : r ≡ unsat_row u = e ∙ claimed_never at it.never in
+            let s : r ≡ unsat_row u = same_Some r (unsat_row u) (e ∙ claimed_never at it.never) in
             record {
               left = ap (λ (k : ℕ). unsatisfiable (up_to k u)) s ∙ some_left u none (unsat_row u) (never_at u none it.never).some_before;
               ties_are = it.ties_are ∙ ap (ties_to u) (sym s);
@@ -151,7 +173,7 @@ module _ (table : List ℕ) (accepted : first_fault table ≡ Accepted) (plain :
             inside : next ≤ length u → AtPlace u r ties work
             inside k =
                 let it = (reach_row table accepted none next ties work k).to h in
-                let s : r ≡ next = e ∙ sym (claims_row table accepted next n k it.equation) in
+                let s : r ≡ next = same_Some r next (e ∙ sym (claims_row table accepted next n k it.equation)) in
                 record {
                   left = ap (λ (k : ℕ). unsatisfiable (up_to k u)) s ∙ it.left;
                   ties_are = it.ties_are ∙ ap (ties_to u) (sym s);
@@ -166,7 +188,7 @@ module _ (table : List ℕ) (accepted : first_fault table ≡ Accepted) (plain :
           where
             go : (b : Bool) → unsatisfiable u ≡ b → reachable u next ties work ≡ true
             go true h =
-                let s : r ≡ unsat_row u = e ∙ claimed_never at h in
+                let s : r ≡ unsat_row u = same_Some r (unsat_row u) (e ∙ claimed_never at h) in
                 same_never at
                 ∙ (reach_never table accepted none ties work).of
                 (record {
@@ -174,17 +196,17 @@ module _ (table : List ℕ) (accepted : first_fault table ≡ Accepted) (plain :
                   ties_are = a.ties_are ∙ ap (ties_to u) s;
                   area_is = a.area_is ∙ ap (λ (k : ℕ). area_of (length work) (holders (up_to k u))) s;
                 })
-            go false h = absurd (omega (arith, l, e, claimed_left at h, small))
+            go false h = absurd (none-some r (sym (e ∙ claimed_left at h)))
 
         other : next ≢ 1000 → reachable u next ties work ≡ true
-        other n = ⊎_elim (λ k. absurd (omega (arith, l, e, claims_past table accepted next n k, small))) inside (lt_or_le (length u) next)
+        other n = ⊎_elim (λ k. absurd (none-some r (claims_past table accepted next n k ∙ sym e))) inside (lt_or_le (length u) next)
           where
             inside : next ≤ length u → reachable u next ties work ≡ true
-            inside k = ⊎_elim equation (λ f. absurd (omega (arith, l, e, claims_none table accepted next n k f, small))) (dec_eq (equation_from u next) next)
+            inside k = ⊎_elim equation (λ f. absurd (none-some r (claims_none table accepted next n k f ∙ sym e))) (dec_eq (equation_from u next) next)
               where
                 equation : equation_from u next ≡ next → reachable u next ties work ≡ true
                 equation f =
-                    let s : r ≡ next = e ∙ sym (claims_row table accepted next n k f) in
+                    let s : r ≡ next = same_Some r next (e ∙ sym (claims_row table accepted next n k f)) in
                     (reach_row table accepted none next ties work k).of
                     (record {
                       equation = f;
@@ -227,12 +249,13 @@ module _ (table : List ℕ) (accepted : first_fault table ≡ Accepted) (plain :
             })
 
 -- ---- what is read
-pub none_read : (t : List Row) (next ties : ℕ) (work links : List ℕ) → reachable t next ties work ≡ false → StateRead t next ties work links 1000
-none_read t next ties work links h = record { row_is = rw h refl; taken = λ e. absurd (not_both e h) }
+pub none_read : (t : List Row) (next ties : ℕ) (work links : List ℕ) (row : Option ℕ) → row ≡ None → reachable t next ties work ≡ false → StateRead t next ties work links row
+none_read t next ties work links row n h = record { row_is = n ∙ sym (rw h refl); taken = λ r e. absurd (none-some r (sym n ∙ e)) }
 
-pub state_read : (t : List Row) (next ties : ℕ) (work links : List ℕ) (r : ℕ) → r ≡ claimed t next → reachable t next ties work ≡ true → PrefixTaken t r links r ties
-    → StateRead t next ties work links r
-state_read t next ties work links r e h P = record { row_is = e ∙ sym (rw h refl); taken = λ _. P }
+pub state_read : (t : List Row) (next ties : ℕ) (work links : List ℕ) (r : ℕ) → Some r ≡ claimed t next → reachable t next ties work ≡ true → PrefixTaken t r links r ties
+    → StateRead t next ties work links (Some r)
+state_read t next ties work links r e h P =
+    record { row_is = e ∙ sym (rw h refl); taken = λ q s. subst (λ (n : ℕ). PrefixTaken t n links n ties) (same_Some r q s) P }
 
 pub prefix_as : (t : List Row) (r : ℕ) (links : List ℕ) (row found : ℕ) → PrefixTaken t r links row found → row ≡ r → {ties : ℕ} → found ≡ ties → PrefixTaken t r links r ties
 prefix_as t r links row found P e k = record { row_is = sym e ∙ P.row_is; ties_are = sym k ∙ P.ties_are; settled = λ _. P.settled e }

@@ -8,38 +8,28 @@ ghost use Rattle.jobs.specs.Call.{has_line, breaks43};
 ghost use Rattle.states.specs.inner.Prefixes.{TakesOn};
 ghost use Rattle.states.specs.inner.Jobs.{Claims, ReadsState};
 
+use jobs::Job;
 use taking::Taken;
 use terms::Row;
 
 // The next row of a job in which no pattern is left.
 pub const NEVER: u32 = 1000;
 
-// No row of any table.
-const NO_ROW: usize = 1000;
-
 // Whether a row is an equation with a line number.
 fn has_line(row: Row) -> bool
     ensures { result ≡ has_line row }
 {
-    let kind = row.kind;
-    let line = row.c;
-    if kind != terms::EQUATION {
-        return false;
-    }
-    0 < line
+    row.kind == terms::EQUATION && 0 < row.c
 }
 
 // Whether some row of a table is.
 pub fn lined(table: &[u16]) -> bool
     ensures { result ≡ breaks43 (rows_of table.now) }
 {
-    let rows = table.len() / 4;
-    let mut r: usize = 0;
-    while r < rows {
+    for r in 0..table.len() / 4 {
         if has_line(rows::row_at(table, r)) {
             return true;
         }
-        r += 1;
     }
     false
 }
@@ -59,7 +49,7 @@ pub fn take_on(
 ) -> Taken
     ensures { TakesOn table.now short.now widths.now places.now from to (length left.old) (length right.old) links.old links.new result.row result.ties }
 {
-    let lows = numbers::lesser(terms::MAX_ROWS + 1, places.len());
+    let lows = (terms::MAX_ROWS + 1).min(places.len());
     let taken = taking::take_equations(
         short,
         widths,
@@ -77,7 +67,7 @@ pub fn take_on(
     taken
 }
 
-// The row before which the equations of a job with this next row were taken: after a never the row at which no pattern is left. NO_ROW if
+// The row before which the equations of a job with this next row were taken: after a never the row at which no pattern is left. None if
 // there is none such.
 fn claimed_row(
     table: &[u16],
@@ -88,58 +78,57 @@ fn claimed_row(
     left: &mut [u16],
     right: &mut [u16],
     links: &mut [u16],
-) -> usize
+) -> Option<usize>
     ensures { Claims table.now short.now widths.now places.now next (length left.old) (length right.old) links.old result }
 {
     let rows = table.len() / 4;
     if next == NEVER {
         linking::unlink(links);
         let taken = take_on(table, short, widths, places, 0, rows, left, right, links);
-        if taken.row < rows {
-            return taken.row;
-        }
-        return NO_ROW;
+        return if taken.row < rows {
+            Some(taken.row)
+        } else {
+            None
+        };
     }
     let r = next as usize;
     if rows < r {
-        return NO_ROW;
+        return None;
     }
     if sides::next_equation(table, r, rows) == r {
-        return r;
+        Some(r)
+    } else {
+        None
     }
-    NO_ROW
 }
 
-// Reads a job and its work area: the row before which its equations were taken, with the classes of these in the links. NO_ROW if they are
-// no state.
+// Reads a job and its work area: the row before which its equations were taken, with the classes of these in the links. None if they are no
+// state.
 pub fn read_state(
     table: &[u16],
     short: &[u16],
     widths: &[u16],
     places: &[u16],
-    next: u32,
-    ties: u32,
+    job: Job,
     work: &[u16],
     left: &mut [u16],
     right: &mut [u16],
     links: &mut [u16],
-) -> usize
-    ensures { ReadsState table.now short.now widths.now places.now next ties work.now (length left.old) (length right.old) links.old links.new result }
+) -> Option<usize>
+    ensures { ReadsState table.now short.now widths.now places.now job.next job.ties work.now (length left.old) (length right.old) links.old links.new result }
 {
-    let r = claimed_row(table, short, widths, places, next, left, right, links);
-    if table.len() / 4 < r {
-        return NO_ROW;
-    }
+    let r = claimed_row(table, short, widths, places, job.next, left, right, links)?;
     linking::unlink(links);
     let taken = take_on(table, short, widths, places, 0, r, left, right, links);
     if taken.row != r {
-        return NO_ROW;
+        return None;
     }
-    if taken.ties != ties as usize {
-        return NO_ROW;
+    if taken.ties != job.ties as usize {
+        return None;
     }
     if areas::is_area(links, work) {
-        return r;
+        Some(r)
+    } else {
+        None
     }
-    NO_ROW
 }

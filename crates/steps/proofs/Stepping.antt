@@ -1,29 +1,27 @@
 -- One equation more: the classes of a table up to a row, from those of its first equations; and what a step on a state makes. Assumes nothing.
 use mathlib.Core.Path.{◌≡◌, refl, sym, ◌∙◌, ap, ap₂, subst}
 use mathlib.Core.Bool.{Bool, true, false, ◌||◌, cond}
-use mathlib.Core.Logic.{◌≢◌, ⊎_elim}
+use mathlib.Core.Logic.{◌≢◌}
 use mathlib.Core.List.{List, [], ◌∷◌, ◌++◌, map}
-use Prim.Native.Nat.{ℕ, zero, suc, ◌+◌, ◌-◌, ◌/◌, ◌%◌, ◌≤◌, ◌<◌, min}
+use Prim.Native.Nat.{ℕ, suc, ◌+◌, ◌/◌, ◌%◌, ◌≤◌, ◌<◌}
 use native.Mathlib.Omega.{arith}
 use lib.Dec.{eqb}
-use lib.ListN.{length, take, drop, length-take, take-append-drop, replicate}
-use lib.Seq.{take-take, take_all}
-use borrow.Author.Tests.{eq-eqb, ne_eqb, eqb-true}
-use Rattle.laws.specs.Lists.{count_up}
+use lib.ListN.{length, take, drop, length-take, take-append-drop}
+use lib.Seq.{take-take}
+use borrow.Author.Tests.{eq-eqb, ne_eqb}
 use Rattle.laws.proofs.Bools.{not_both}
 use Rattle.laws.proofs.CountUp.{count-up}
 use Rattle.terms.specs.declared.Record.{Record}
 use Rattle.terms.specs.declared.Row.{Row}
-use Rattle.terms.specs.Table.{rows_of, row_numbers, bits_of, next_equation}
+use Rattle.terms.specs.Table.{rows_of, row_numbers, bits_of}
 use Rattle.terms.specs.Faults.{Accepted, first_fault}
 use Rattle.terms.specs.Counting.{NoLines}
 use Rattle.terms.proofs.AcceptedTable.{accepted_table, table_bits}
-use Rattle.terms.proofs.NextEquation.{Passed}
 use Rattle.terms.proofs.RowNumbers.{rows_written}
 use Rattle.terms.proofs.Rows.{rows_length}
 use Rattle.answers.specs.Pairs.{Pair, equation_pairs}
 use Rattle.answers.specs.Answer.{variable_widths}
-use Rattle.answers.specs.Solve.{valid, unsatisfiable, unsat_row, ties_to, answer_record}
+use Rattle.answers.specs.Solve.{valid, unsatisfiable, ties_to, answer_record}
 use Rattle.answers.specs.inner.Classes.{rep, run, roots, links, run_all, conflict_at, links_before, Represents}
 use Rattle.answers.proofs.Agreement.{base, run_represents}
 use Rattle.answers.proofs.Exact.{run-roots}
@@ -31,13 +29,12 @@ use Rattle.answers.proofs.Tables.{pairs_length, not_valid}
 use Rattle.linking.specs.inner.Classes.{unlinked, ClassesTaken}
 use Rattle.solver.specs.inner.Call.{TakenOf}
 use Rattle.jobs.specs.Prefix.{up_to, equation_from, host_number, holders}
-use Rattle.jobs.specs.State.{never_row}
 use Rattle.jobs.specs.Call.{breaks43}
 use Rattle.jobs.proofs.EquationRows.{next_within}
 use Rattle.jobs.proofs.Holders.{up_holders}
 use Rattle.jobs.proofs.LineNumbers.{no_lines}
 use Rattle.jobs.proofs.Prefix.{up_accepted, up_count}
-use Rattle.jobs.proofs.PrefixPairs.{up_bits, up_variables, up_run, up_conflict, up_links, up_conflict_met, up_links_met, up_left, up_never, links-ties, conflict_most}
+use Rattle.jobs.proofs.PrefixPairs.{up_variables, up_run, up_conflict, up_links, up_conflict_met, up_links_met, up_left, up_never, links-ties, conflict_most}
 use Rattle.jobs.proofs.Silent.{conflict_parts, links_parts}
 use Rattle.areas.specs.inner.Areas.{held_by}
 use Rattle.states.specs.inner.Prefixes.{PrefixTaken}

@@ -3,11 +3,13 @@ use mathlib.Core.Path.{◌≡◌, refl, sym, ◌∙◌, ap, ap₂, subst}
 use mathlib.Core.Bool.{Bool, true, false, not, cond}
 use mathlib.Core.Logic.{◌≢◌, ⊎_elim}
 use mathlib.Core.List.{List, ◌++◌}
-use Prim.Native.Nat.{ℕ, suc, ◌+◌, ◌-◌, ◌≤◌, ◌<◌}
+use Prim.Native.Nat.{ℕ, suc, ◌-◌, ◌≤◌, ◌<◌}
 use native.Mathlib.Omega.{arith}
+use Rattle.std.proofs.Common.{Option, Some, None}
+use Rattle.std.proofs.lemmas.Option.{none-some, same_Some}
 use lib.Dec.{eqb}
-use lib.ListN.{length, take, drop, replicate, length-append}
-use lib.Seq.{drop_at, take_all}
+use lib.ListN.{length, take, replicate, length-append}
+use lib.Seq.{drop_at}
 use borrow.Author.Tests.{eq-eqb, ne_eqb}
 use Rattle.laws.specs.Buffers.{overwrite}
 use Rattle.laws.proofs.Bools.{not_both}
@@ -25,23 +27,22 @@ use Rattle.answers.specs.Pairs.{equation_pairs}
 use Rattle.answers.specs.Answer.{answer_numbers}
 use Rattle.answers.specs.Solve.{unsatisfiable, solved_rows, unsat_row, ties_to, answer_record}
 use Rattle.answers.proofs.Tables.{conflict-row, links-row}
-use Rattle.linking.specs.inner.Classes.{ClassesTaken}
 use Rattle.solver.specs.inner.Call.{answer_over, Answered, TakenOf}
 use Rattle.jobs.specs.Prefix.{up_to, equation_from, holders}
-use Rattle.jobs.specs.State.{State, state_at, stepped, area_of, never_row, reachable}
-use Rattle.jobs.specs.Call.{breaks43, breaks44, breaks45, job_of, state_of}
+use Rattle.jobs.specs.State.{State, state_at, stepped, area_of, reachable}
+use Rattle.jobs.specs.Call.{breaks43, breaks44, breaks45, state_of}
 use Rattle.jobs.proofs.Course.{area_holders}
 use Rattle.jobs.proofs.Held.{holders-length}
 use Rattle.jobs.proofs.LineNumbers.{no_lines}
 use Rattle.jobs.proofs.Meeting.{never_at}
 use Rattle.jobs.proofs.Prefix.{up_past, up_next, up_accepted}
-use Rattle.jobs.proofs.PrefixPairs.{up_bits, ties_next, links-ties}
+use Rattle.jobs.proofs.PrefixPairs.{up_bits, ties_next}
 use Rattle.jobs.proofs.States.{step_never, step_on, step_lost}
 use Rattle.areas.specs.inner.Areas.{held_by}
 use Rattle.states.specs.inner.Prefixes.{PrefixTaken}
-use Rattle.states.specs.inner.Jobs.{claimed, no_row, StateRead}
+use Rattle.states.specs.inner.Jobs.{claimed, StateRead}
 use Rattle.steps.specs.inner.Steps.{StepFrom, placed_stops, placed_record, placed_job, placed_work, goes_on, StepTried, AnswerDone}
-use Rattle.states.proofs.Reading.{AtPlace, place_to, lost_row, claimed_never, claimed_left, claims_row, claims_past, claims_none}
+use Rattle.states.proofs.Reading.{AtPlace, place_to, lost_row, claimed_most, claimed_never, claimed_left, claims_row, claims_past, claims_none}
 use Rattle.steps.proofs.Stepping.{few_links, never_outcome, left_outcome}
 
 -- ---- areas
@@ -74,34 +75,40 @@ module _ (table : List ℕ) (accepted : first_fault table ≡ Accepted) (plain :
   unfolding breaks44
   answer_44 h answer found e = record { found_is = e ∙ rw h refl; answer_is = rw e refl }
 
-  -- a row past the end is no state's
-  pub past_end : (links : List ℕ) (r : ℕ) → StateRead (rows_of table) next ties work links r → length (rows_of table) < r → reachable (rows_of table) next ties work ≡ false
-  past_end links r S l = go (reachable t next ties work) refl
+  -- no row is read of what is no state
+  pub past_end : (links : List ℕ) (row : Option ℕ) → StateRead (rows_of table) next ties work links row → row ≡ None → reachable (rows_of table) next ties work ≡ false
+  past_end links row S n = go (reachable t next ties work) refl
     where
       go : (b : Bool) → reachable t next ties work ≡ b → b ≡ false
-      go true h = absurd (not_both h (lost_row table accepted plain next ties work r (S.row_is ∙ rw h refl) l))
+      go true h = absurd (not_both h (lost_row table accepted plain next ties work (sym n ∙ S.row_is ∙ rw h refl)))
       go false h = refl
 
-  -- a row of the table is
-  pub is_reached : (links : List ℕ) (r : ℕ) → StateRead (rows_of table) next ties work links r → r ≤ length (rows_of table) → reachable (rows_of table) next ties work ≡ true
-  is_reached links r S l = go (reachable t next ties work) refl
+  pub row_read : (links : List ℕ) (row : Option ℕ) (r : ℕ) → row ≡ Some r → StateRead (rows_of table) next ties work links row → StateRead (rows_of table) next ties work links (Some r)
+  row_read links row r e S = subst (λ (o : Option ℕ). StateRead (rows_of table) next ties work links o) e S
+
+  -- a row that is read is a state's
+  pub is_reached : (links : List ℕ) (r : ℕ) → StateRead (rows_of table) next ties work links (Some r) → reachable (rows_of table) next ties work ≡ true
+  is_reached links r S = go (reachable t next ties work) refl
     where
       go : (b : Bool) → reachable t next ties work ≡ b → b ≡ true
       go true h = refl
-      go false h = let z : r ≡ 1000 = S.row_is ∙ ap (λ (b : Bool). cond b (claimed t next) no_row) h in absurd (omega (arith, l, few_rows, z))
+      go false h = absurd (none-some r (sym (S.row_is ∙ ap (λ (b : Bool). cond b (claimed t next) None) h)))
 
-  module _ (links : List ℕ) (r : ℕ) (S : StateRead (rows_of table) next ties work links r) (l : r ≤ length (rows_of table)) where
+  module _ (links : List ℕ) (r : ℕ) (S : StateRead (rows_of table) next ties work links (Some r)) where
     R : reachable t next ties work ≡ true
-    R = is_reached links r S l
+    R = is_reached links r S
 
-    at : r ≡ claimed t next
+    at : Some r ≡ claimed t next
     at = S.row_is ∙ rw R refl
 
+    pub inside_table : r ≤ length (rows_of table)
+    inside_table = claimed_most table accepted plain next ties work r at
+
     place : AtPlace t r ties work
-    place = place_to table accepted plain next ties work r at l R
+    place = place_to table accepted plain next ties work r at R
 
     pub prefix : PrefixTaken (rows_of table) r links r ties
-    prefix = S.taken R
+    prefix = S.taken r refl
 
     held_many : (k : ℕ) → length (holders (up_to k t)) ≡ bits_of t
     held_many k = holders-length (up_to k t) ∙ up_bits k t
@@ -135,10 +142,10 @@ module _ (table : List ℕ) (accepted : first_fault table ≡ Accepted) (plain :
         where
           go : (b : Bool) → unsatisfiable t ≡ b → b ≡ true
           go true h = refl
-          go false h = absurd (omega (arith, l, few_rows, at, claimed_left table accepted plain next ties work e h))
+          go false h = absurd (none-some r (sym (at ∙ claimed_left table accepted plain next ties work e h)))
 
       row_never : r ≡ unsat_row t
-      row_never = at ∙ claimed_never table accepted plain next ties work e never
+      row_never = same_Some r (unsat_row t) (at ∙ claimed_never table accepted plain next ties work e never)
 
       pub never_taken : TakenOf table table links r ties
       never_taken =
@@ -178,11 +185,11 @@ module _ (table : List ℕ) (accepted : first_fault table ≡ Accepted) (plain :
     -- ---- at a row
     module _ (e : next ≢ 1000) where
       pub row_next : r ≡ next
-      row_next = ⊎_elim (λ k. absurd (omega (arith, l, few_rows, at, claims_past table accepted next e k))) inside (lt_or_le (length t) next)
+      row_next = ⊎_elim (λ k. absurd (none-some r (claims_past table accepted next e k ∙ sym at))) inside (lt_or_le (length t) next)
         where
           inside : next ≤ length t → r ≡ next
           inside k =
-              ⊎_elim (λ q. at ∙ sym (claims_row table accepted next e k q)) (λ q. absurd (omega (arith, l, few_rows, at, claims_none table accepted next e k q)))
+              ⊎_elim (λ q. same_Some r next (at ∙ sym (claims_row table accepted next e k q))) (λ q. absurd (none-some r (claims_none table accepted next e k q ∙ sym at)))
               (dec_eq (equation_from t next) next)
 
       pub answered_row : (answer answer' : List ℕ) (found : Record) → Answered (rows_of (row_numbers (up_to r (rows_of table)))) answer answer' found

@@ -5,24 +5,21 @@
 ghost use Rattle.std.specs.Prelude.{◌≡◌, cond, ◌/◌, ◌<◌, eqb, length};
 ghost use Rattle.steps.specs.inner.Steps.{next_row, StepsFrom, TriesStep};
 
+use jobs::Job;
 use terms::Record;
 
-// What a call on a job yields: the record, and the job's two numbers as they are then.
+// What a call on a job yields: the record, and the job as it is then.
 #[derive(Clone, Copy)]
 pub struct Step {
     pub found: Record,
-    pub next: u32,
-    pub ties: u32,
+    pub job: Job,
 }
 
 // The row at which taking ended, where it was to end at row `to`: all rows, if it got there.
 fn end_row(row: usize, to: usize, rows: usize) -> usize
     ensures { result ≡ cond (eqb row to) rows row }
 {
-    if row == to {
-        return rows;
-    }
-    row
+    if row == to { rows } else { row }
 }
 
 // The next row after the equation of row r, where taking it ended at a row: NEVER, if it ended at r.
@@ -50,17 +47,17 @@ fn step_from(
     links: &mut [u16],
 ) -> Step
     requires { r < length table.now / 4 }
-    ensures { StepsFrom table.now short.now widths.now places.now bits r ties (length left.old) (length right.old) links.old links.new result.found result.next result.ties }
+    ensures { StepsFrom table.now short.now widths.now places.now bits r ties (length left.old) (length right.old) links.old links.new result.found result.job.next result.job.ties }
 {
     let taken = states::take_on(table, short, widths, places, r, r + 1, left, right, links);
-    let all = ties as usize + numbers::lesser(taken.ties, 65536);
+    let all = ties as usize + taken.ties.min(65536);
     let row = end_row(taken.row, r + 1, table.len() / 4);
-    let mut none = [0u16; 1];
-    let found = solver::conclude(table, bits, row, all, links, &mut none[..0]);
     Step {
-        found: found,
-        next: next_row(table, r, taken.row),
-        ties: numbers::short(all),
+        found: solver::conclude(table, bits, row, all, links, &mut []),
+        job: Job {
+            next: next_row(table, r, taken.row),
+            ties: numbers::short(all),
+        },
     }
 }
 
@@ -70,51 +67,41 @@ pub fn try_step(
     widths: &[u16],
     places: &[u16],
     bits: usize,
-    next: u32,
-    ties: u32,
+    job: Job,
     work: &[u16],
     links: &mut [u16],
 ) -> Step
-    ensures { TriesStep table.now widths.now places.now bits next ties work.now links.old links.new result.found result.next result.ties }
+    ensures { TriesStep table.now widths.now places.now bits job.next job.ties work.now links.old links.new result.found result.job.next result.job.ties }
 {
     let mut short = [0u16; 2048];
     let mut left = [0u16; 4096];
     let mut right = [0u16; 4096];
     let rows = table.len() / 4;
     let len = copies::copy(table, &mut short[..]);
-    let r = states::read_state(
+    let Some(r) = states::read_state(
         table,
         &short[..len],
         widths,
         places,
-        next,
-        ties,
+        job,
         work,
         &mut left[..],
         &mut right[..],
         links,
-    );
-    if rows < r {
+    ) else {
         return Step {
             found: records::refuse(44, 0),
-            next: next,
-            ties: ties,
+            job,
         };
+    };
+    if job.next == states::NEVER {
+        let found = solver::conclude(table, bits, r, job.ties as usize, links, &mut []);
+        return Step { found, job };
     }
-    if next == states::NEVER {
-        let mut none = [0u16; 1];
-        let found = solver::conclude(table, bits, r, ties as usize, links, &mut none[..0]);
-        return Step {
-            found: found,
-            next: next,
-            ties: ties,
-        };
-    }
-    if r == rows {
+    if rows <= r {
         return Step {
             found: records::refuse(45, 0),
-            next: next,
-            ties: ties,
+            job,
         };
     }
     step_from(
@@ -124,7 +111,7 @@ pub fn try_step(
         places,
         bits,
         r,
-        ties,
+        job.ties,
         &mut left[..],
         &mut right[..],
         links,

@@ -1,7 +1,6 @@
 -- `claimed_row` meets its contract: each way has its law in proofs/Reading.antt. Assumes nothing.
-use borrow.Author.Rules.{rules}
 use mathlib.Core.Path.{◌≡◌, sym, ◌∙◌, ap, subst}
-use Prim.Native.Nat.{ℕ, ◌+◌, ◌≤◌, ◌<◌}
+use Prim.Native.Nat.{ℕ, ◌+◌}
 use native.Mathlib.Omega.{arith}
 use lib.ListN.{length}
 use Rattle.terms.specs.Table.{rows_of, next_equation}
@@ -34,8 +33,8 @@ returns-then-taken-rows c =
     let table = c.args.table.now in
     claims_never table ready.placed.numbered.accepted _ c.if-next-eq-NEVER.true _ _ _ (all-taken c.before.before.before.before.before.before.before.before.before ready) (omega (arith, c.if-taken-rows.true, rows_length table))
 
-pub returns-then-next-eq-NEVER : goal.returns-then-next-eq-NEVER
-returns-then-next-eq-NEVER c =
+pub returns-else-taken-rows : goal.returns-else-taken-rows
+returns-else-taken-rows c =
     λ ready.
     let table = c.args.table.now in
     claims_no_never table ready.placed.numbered.accepted _ c.if-next-eq-NEVER.true _ _ _ (all-taken c.before.before.before.before.before.before.before.before.before ready) (omega (arith, c.if-taken-rows.false, rows_length table))
@@ -54,8 +53,8 @@ returns-then-next_equation-r c =
     claims_row table ready.placed.numbered.accepted _ c.if-next-eq-NEVER.false (omega (arith, c.if-rows-r.false, all))
     (ap (next_equation (rows_of table) _) all ∙ sym c.next_equation.ensures ∙ c.if-next_equation-r.true)
 
-pub returns : goal.returns
-returns c =
+pub returns-else-next_equation-r : goal.returns-else-next_equation-r
+returns-else-next_equation-r c =
     λ ready.
     let table = c.args.table.now in
     let all = rows_length table in

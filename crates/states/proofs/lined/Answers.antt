@@ -1,7 +1,5 @@
 -- `lined` meets its contract: what is left to look through says what all rows say. Assumes nothing.
-use mathlib.Core.Path.{◌≡◌, refl, sym, ◌∙◌, ap}
-use Prim.Native.Nat.{◌-◌}
-use native.Mathlib.Omega.{arith}
+use mathlib.Core.Path.{refl, sym, ◌∙◌, ap}
 use Rattle.jobs.specs.Call.{has_line, breaks43}
 use Rattle.copies.proofs.Revised.{some_here, some_passed, some_end}
 use Rattle.states.proofs.lined.Goals as goal

@@ -1,7 +1,5 @@
 -- `lined` meets its contract: what is left to look through says what all rows say. Assumes nothing.
-use mathlib.Core.Path.{◌≡◌, ◌∙◌}
-use Prim.Native.Nat.{◌-◌}
-use native.Mathlib.Omega.{arith}
+use mathlib.Core.Path.{◌≡◌}
 use lib.ListN.{drop}
 use Rattle.terms.specs.Table.{rows_of, some_row}
 use Rattle.jobs.specs.Call.{has_line, breaks43}
@@ -9,6 +7,3 @@ use Rattle.states.proofs.lined.Given as goal
 
 abbrev pub invariant-loop-r : goal.invariant-loop-r
 invariant-loop-r l = some_row has_line (drop l.r (rows_of l.table)) ≡ breaks43 (rows_of l.table)
-
-abbrev pub decreases-loop-r : goal.decreases-loop-r
-decreases-loop-r l = l.rows - l.r

@@ -1,6 +1,4 @@
 -- `take_on` meets its contract: each way has its law in proofs/Prefixes.antt. Assumes nothing.
-use borrow.Author.Rules.{rules}
-use mathlib.Core.Path.{◌≡◌, ◌∙◌}
 use Prim.Native.Nat.{ℕ, ◌≤◌}
 use native.Mathlib.Omega.{arith}
 use lib.ListN.{length, take, drop}
@@ -33,7 +31,7 @@ taken d placed copied left right forth inside before P =
     let short = d.args.short.now in
     let accepted = placed.numbered.accepted in
     table_taken table short accepted copied _ _ _ _ _ _
-    (d.take_equations-taken.ensures.classes (prepared_of short _ _ _ (copy-placed table short accepted copied _ _ placed) d.lesser-lows.ensures.0) left right forth
+    (d.take_equations-taken.ensures.classes (prepared_of short _ _ _ (copy-placed table short accepted copied _ _ placed) d.min-lows.ensures) left right forth
     (omega (arith, inside, copy-count table short accepted copied)) (held-copy table short accepted copied _ (omega (arith, forth, inside)) _ before P))
 
 pub returns-then-taken-to : goal.returns-then-taken-to

@@ -1,8 +1,7 @@
 -- `step_from` meets its contract: each way has its law in proofs/Stepping.antt. Assumes nothing.
-use borrow.Author.Rules.{rules}
 use mathlib.Core.Path.{◌≡◌, sym, ◌∙◌, ap, subst}
-use mathlib.Core.Logic.{◌≢◌, ⊎_elim}
-use Prim.Native.Nat.{ℕ, suc, ◌+◌, ◌≤◌, ◌<◌, ◌%◌}
+use mathlib.Core.Logic.{⊎_elim}
+use Prim.Native.Nat.{ℕ, suc, ◌+◌, ◌<◌}
 use native.Mathlib.Omega.{arith}
 use lib.ListN.{length}
 use Rattle.laws.proofs.Numbers.{dec_eq}
@@ -29,13 +28,13 @@ returns c =
     let Q : PrefixTaken t (suc r) T.new.links T.result.row (c.args.ties + T.result.ties) =
     subst (λ (n : ℕ). PrefixTaken t n T.new.links T.result.row (c.args.ties + T.result.ties)) one
     (T.ensures ready.placed ready.copied ready.left_room ready.right_room (omega arith) (omega (arith, h)) _ P) in
-    let all : c.args.ties + T.result.ties ≡ c.args.ties + c.lesser.result = omega (arith, c.lesser.ensures.0, few_more table accepted plain r h _ _ P _ _ _ Q) in
+    let all : c.args.ties + T.result.ties ≡ c.args.ties + c.min.result = omega (arith, c.min.ensures, few_more table accepted plain r h _ _ P _ _ _ Q) in
     let total : c.short.result ≡ c.args.ties + T.result.ties = c.short.ensures ∙ omega (arith, all, few_all table accepted plain r h _ _ P _ _ _ Q) in
     ⊎_elim
     (λ e.
     let row = sym (c.end_row-row.ensures ∙ end_whole T.result.row r _ _ e (sym (rows_length table))) in
-    step_left table accepted plain r h _ _ P _ _ _ Q e _ ((c.conclude-found.ensures accepted wide _ (taken_as row all (whole_taken table accepted plain (suc r) h _ _ (prefix_whole Q e)))).record_is ∙ ap answer_record (rows_written (up_to (suc r) t))) _ _ c.next_row.ensures total)
+    step_left table accepted plain r h _ _ P _ _ _ Q e _ ((c.conclude.ensures accepted wide _ (taken_as row all (whole_taken table accepted plain (suc r) h _ _ (prefix_whole Q e)))).record_is ∙ ap answer_record (rows_written (up_to (suc r) t))) _ _ c.next_row.ensures total)
     (λ n.
     let row = sym (c.end_row-row.ensures ∙ end_met T.result.row r _ n) in
-    step_lost table accepted plain r h _ _ P _ _ _ Q n _ ((c.conclude-found.ensures accepted wide _ (taken_as row all (met_taken table accepted plain (suc r) h _ _ _ (omega (arith, at_row table accepted plain r h _ _ P _ _ _ Q n)) Q))).record_is ∙ ap answer_record (rows_written (up_to (suc r) t))) _ _ c.next_row.ensures total)
+    step_lost table accepted plain r h _ _ P _ _ _ Q n _ ((c.conclude.ensures accepted wide _ (taken_as row all (met_taken table accepted plain (suc r) h _ _ _ (omega (arith, at_row table accepted plain r h _ _ P _ _ _ Q n)) Q))).record_is ∙ ap answer_record (rows_written (up_to (suc r) t))) _ _ c.next_row.ensures total)
     (dec_eq T.result.row (suc r))

@@ -11,7 +11,7 @@ use Rattle.answers.specs.Answer.{answer_numbers}
 use Rattle.answers.specs.Solve.{unsatisfiable, solved_rows, answer_record, ties_to}
 use Rattle.jobs.specs.declared.Job.{Job}
 use Rattle.jobs.specs.Prefix.{up_to, equation_from, holders}
-use Rattle.jobs.specs.State.{State, stepped, area_of, never_row}
+use Rattle.jobs.specs.State.{stepped, area_of, never_row}
 use Rattle.jobs.specs.Call.{breaks43, breaks44, breaks45, job_of, state_of, open_stops}
 use Rattle.areas.specs.inner.Areas.{held_by}
 use Rattle.states.specs.inner.Prefixes.{PrefixTaken}
