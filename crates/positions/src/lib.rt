@@ -27,7 +27,6 @@ fn take_start(plan: &[u16], window: &[u16], i: usize, found: usize, list: &mut [
     }
     if found < list.len() {
         list[found] = i as u32;
-        return found + 1;
     }
     found + 1
 }
@@ -39,12 +38,9 @@ fn find_starts(plan: &[u16], words: &[u16], k: usize, list: &mut [u32]) -> usize
     ensures count { (result ≡ length (starts_from (meets_ahead plan.now k) 0 words.now)) × (result ≤ 1048576) }
     ensures list { list.new ≡ overwrite (starts_from (meets_ahead plan.now k) 0 words.now) list.old }
 {
-    let starts = numbers::minus(words.len() + 1, k);
     let mut found = 0;
-    let mut i = 0;
-    while i < starts {
+    for i in 0..(words.len() + 1).saturating_sub(k) {
         found = take_start(plan, &words[i..i + k], i, found, list);
-        i += 1;
     }
     found
 }
@@ -63,10 +59,9 @@ fn positions_in(
     ensures record { result ≡ positions_record table.now words.now }
     ensures list { list.new ≡ positions_after table.now words.now list.old }
 {
-    let k = words::window_of(table);
-    if k == 0 {
+    let Some(k) = words::window_of(table) else {
         return records::refuse(41, 0);
-    }
+    };
     if MAX_WORDS < words.len() {
         return records::refuse(42, 0);
     }
@@ -87,6 +82,6 @@ pub fn marker_positions(table: &[u16], words: &[u16], list: &mut [u32]) -> Recor
     if !records::accepted(fault) {
         return records::fault_record(fault);
     }
-    let bits = numbers::wide(places[checker::BITS]);
+    let bits = usize::from(places[checker::BITS]);
     positions_in(table, &widths[..], &places[..], bits, words, list)
 }

@@ -1,6 +1,5 @@
 -- `marker_positions` meets its contract: a table that is refused, and one that is placed. Assumes nothing.
 use mathlib.Core.Path.{◌≡◌, sym, ◌∙◌, ap}
-use mathlib.Core.Bool.{true}
 use native.Mathlib.Omega.{arith}
 use Rattle.terms.specs.declared.Fault.TheVariants.{Accepted}
 use Rattle.terms.specs.Faults.{is_accepted, first_fault}
@@ -9,7 +8,6 @@ use Rattle.terms.specs.inner.Placed.{Placed}
 use Rattle.terms.proofs.AcceptedTable.{fault_none}
 use Rattle.checker.proofs.Checking.{fault_found}
 use Rattle.positions.proofs.Stops.{stop_fault}
-use borrow.Author.Rules.{rules}
 use Rattle.positions.proofs.marker_positions.Goals as goal
 use Rattle.positions.proofs.marker_positions.Lts as lts
 use Rattle.positions.proofs.marker_positions.Tie as tie
