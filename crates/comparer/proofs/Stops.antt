@@ -8,8 +8,7 @@ use lib.ListN.{length, take, drop, replicate, drop_of_length-le}
 use lib.Seq.{length-take-le}
 use Rattle.terms.specs.declared.Record.{Record}
 use Rattle.terms.specs.Table.{rows_of, bits_of, same_word}
-use Rattle.terms.specs.declared.Fault.TheVariants.{Accepted}
-use Rattle.terms.specs.Faults.{is_accepted, first_fault}
+use Rattle.terms.specs.Faults.{Accepted, is_accepted, first_fault}
 use Rattle.terms.specs.Calls.{refusal, fault_record}
 use Rattle.terms.proofs.AcceptedTable.{fault_high}
 use Rattle.terms.proofs.Satisfies.{same-word}
