@@ -1,29 +1,15 @@
--- `compare_recordings` meets its contract: a table that is refused, and one that is placed. Assumes nothing.
-use mathlib.Core.Path.{◌≡◌, sym, ◌∙◌, ap}
+-- `try_compare` meets its contract: a table that is refused. Assumes nothing.
+use mathlib.Core.Path.{sym, ◌∙◌, ap}
 use native.Mathlib.Omega.{arith}
-use Rattle.terms.specs.Faults.{Accepted, is_accepted, first_fault}
+use Rattle.terms.specs.Faults.{is_accepted}
 use Rattle.terms.specs.Calls.{fault_record}
-use Rattle.terms.specs.inner.Placed.{Placed}
-use Rattle.terms.proofs.AcceptedTable.{fault_none}
 use Rattle.checker.proofs.Checking.{fault_found}
+use Rattle.std.proofs.lemmas.Result.{err_from_is_err_and}
 use Rattle.merger.proofs.Concluding.{stop_fault}
-use Rattle.merger.proofs.compare_recordings.Goals as goal
-use Rattle.merger.proofs.compare_recordings.Lts as lts
-use Rattle.merger.proofs.compare_recordings.Tie as tie
-use Rattle.merger.proofs.compare_recordings.Reads as reads
+use Rattle.merger.proofs.try_compare.Goals as goal
 
--- the fault that the check found is the table's
-found : (d : lts.After-check_and_place tie.the-claims reads.Pre reads.Post tie.handed_clauses) → d.check_and_place-fault.result ≡ first_fault d.args.table.now
-found d = d.check_and_place-fault.ensures.fault ∙ fault_found _ _ (omega arith)
-
-no-fault : (d : lts.Else1 tie.the-claims reads.Pre reads.Post tie.handed_clauses) → first_fault d.args.table.now ≡ Accepted
-no-fault d = fault_none _ (ap is_accepted (sym (found d.before.before.before.before)) ∙ sym d.accepted.ensures ∙ d.if-not-accepted.false)
-
--- the table was placed
-is-placed : (d : lts.Else1 tie.the-claims reads.Pre reads.Post tie.handed_clauses) → Placed d.args.table.now d.check_and_place-fault.new.widths d.check_and_place-fault.new.places
-is-placed d = d.check_and_place-fault.ensures.placed (found d.before.before.before.before ∙ no-fault d) (omega arith)
-
-pub returns-then-not-accepted : goal.returns-then-not-accepted
-returns-then-not-accepted c =
-    let bad = ap is_accepted (sym (found c.before.before.before.before.before.before)) ∙ sym c.accepted.ensures ∙ c.if-not-accepted.true in
-    record { «record» = stop_fault _ _ _ bad _ (c.fault_record.ensures ∙ ap fault_record (found c.before.before.before.before.before.before)) }
+pub returns-in_err-check_and_place : goal.returns-in_err-check_and_place
+returns-in_err-check_and_place c =
+    let p = err_from_is_err_and c.from_residual.result c.from_residual.ensures.1 in
+    let f = sym (c.check_and_place.ensures.fault ∙ fault_found _ _ (omega arith)) ∙ c.in_err-check_and_place.was in
+    record { «record» = stop_fault _ _ _ (ap is_accepted f) _ (rw (p.1, p.2) (ap fault_record (sym f))) }

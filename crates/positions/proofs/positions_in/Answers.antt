@@ -16,13 +16,13 @@ is-good table p = ap is_accepted p.numbered.accepted
 pub returns-in_default : goal.returns-in_default
 returns-in_default c =
     let none = no_words _ (sym c.in_default.is ∙ c.window_of.ensures) in
-    let e = stop_41 c.args.table.now c.args.words.now c.args.list.now (is-good _ c.requires.placed) _ (sym none) refl _ c.refuse.ensures in
+    let e = stop_41 c.args.table.now c.args.words.now c.args.list.now (is-good _ c.requires.placed) _ (sym none) refl _ refl in
     record { «record» = e.0; list = e.1 }
 
 pub returns-then-words-gt-MAX_WORDS : goal.returns-then-words-gt-MAX_WORDS
 returns-then-words-gt-MAX_WORDS c =
     let w = some_words _ _ (sym c.in-Some.is ∙ c.window_of.ensures) in
-    let e = stop_42 c.args.table.now c.args.words.now c.args.list.now (is-good _ c.requires.placed) _ w.0 w.1 c.if-words-gt-MAX_WORDS.true _ c.refuse-then-words-gt-MAX_WORDS.ensures in
+    let e = stop_42 c.args.table.now c.args.words.now c.args.list.now (is-good _ c.requires.placed) _ w.0 w.1 c.if-words-gt-MAX_WORDS.true _ refl in
     record { «record» = e.0; list = e.1 }
 
 pub find_starts-found-requires-clause-le_k : goal.find_starts-found-requires-clause-le_k

@@ -1,29 +1,16 @@
--- `marker_positions` meets its contract: a table that is refused, and one that is placed. Assumes nothing.
-use mathlib.Core.Path.{◌≡◌, sym, ◌∙◌, ap}
+-- `try_positions` meets its contract: a table that is refused. Assumes nothing.
+use mathlib.Core.Path.{sym, ◌∙◌, ap}
 use native.Mathlib.Omega.{arith}
-use Rattle.terms.specs.Faults.{Accepted, is_accepted, first_fault}
+use Rattle.terms.specs.Faults.{is_accepted}
 use Rattle.terms.specs.Calls.{fault_record}
-use Rattle.terms.specs.inner.Placed.{Placed}
-use Rattle.terms.proofs.AcceptedTable.{fault_none}
 use Rattle.checker.proofs.Checking.{fault_found}
+use Rattle.std.proofs.lemmas.Result.{err_from_is_err_and}
 use Rattle.positions.proofs.Stops.{stop_fault}
-use Rattle.positions.proofs.marker_positions.Goals as goal
-use Rattle.positions.proofs.marker_positions.Lts as lts
-use Rattle.positions.proofs.marker_positions.Tie as tie
-use Rattle.positions.proofs.marker_positions.Reads as reads
+use Rattle.positions.proofs.try_positions.Goals as goal
 
--- the fault that the check found is the table's
-found : (d : lts.After-check_and_place tie.the-claims reads.Pre reads.Post tie.handed_clauses) → d.check_and_place-fault.result ≡ first_fault d.args.table.now
-found d = d.check_and_place-fault.ensures.fault ∙ fault_found _ _ (omega arith)
-
-no-fault : (d : lts.Else1 tie.the-claims reads.Pre reads.Post tie.handed_clauses) → first_fault d.args.table.now ≡ Accepted
-no-fault d = fault_none _ (ap is_accepted (sym (found d.before.before.before.before)) ∙ sym d.accepted.ensures ∙ d.if-not-accepted.false)
-
--- the table was placed
-is-placed : (d : lts.Else1 tie.the-claims reads.Pre reads.Post tie.handed_clauses) → Placed d.args.table.now d.check_and_place-fault.new.widths d.check_and_place-fault.new.places
-is-placed d = d.check_and_place-fault.ensures.placed (found d.before.before.before.before ∙ no-fault d) (omega arith)
-
-pub returns-then-not-accepted : goal.returns-then-not-accepted
-returns-then-not-accepted c =
-    let bad = ap is_accepted (sym (found c.before.before.before.before.before.before)) ∙ sym c.accepted.ensures ∙ c.if-not-accepted.true in
-    record { «record» = (stop_fault c.args.table.now c.args.words.now c.args.list.now bad _ (c.fault_record.ensures ∙ ap fault_record (found c.before.before.before.before.before.before))).0; list = (stop_fault c.args.table.now c.args.words.now c.args.list.now bad _ (c.fault_record.ensures ∙ ap fault_record (found c.before.before.before.before.before.before))).1 }
+pub returns-in_err-check_and_place : goal.returns-in_err-check_and_place
+returns-in_err-check_and_place c =
+    let p = err_from_is_err_and c.from_residual.result c.from_residual.ensures.1 in
+    let f = sym (c.check_and_place.ensures.fault ∙ fault_found _ _ (omega arith)) ∙ c.in_err-check_and_place.was in
+    let both = stop_fault _ _ _ (ap is_accepted f) _ (rw (p.1, p.2) (ap fault_record (sym f))) in
+    record { «record» = both.0; list = both.1 }
