@@ -7,12 +7,14 @@
 ghost use Rattle.std.specs.Prelude.{◌≡◌, not, ◌&&◌, cond, ◌++◌, ◌+◌, ◌≤◌, eqb, length};
 ghost use Rattle.std.specs.Int.Bits.{bit_xor};
 ghost use Rattle.std.specs.Int.Count.{ones};
+ghost use Rattle.records.specs.Refusals.{record_of};
 ghost use Rattle.terms.specs.Table.{rows_of, bits_of};
 ghost use Rattle.terms.specs.inner.Placed.{Placed};
 ghost use Rattle.recordings.specs.Recordings.{frames_of, matched, rising, differing_words};
 ghost use Rattle.recordings.specs.Call.{wrong_recording, recordings_record};
 ghost use Rattle.merger.specs.inner.Passing.{Countable, pair_taken, climbs_at, Tested, Seeks, Stepping, pair_at, Comparable, MergesAll, stops, concluded};
 
+use records::Refusal;
 use terms::Record;
 
 // How many numbers a recording has at most.
@@ -281,7 +283,7 @@ fn conclude(sent: usize, received: usize, s: Pass) -> Record
     }
 }
 
-// The record of two recordings and a table that was checked and placed.
+// The record of two recordings and a table that was checked and placed, or why the call stops.
 fn compare_in(
     table: &[u16],
     widths: &[u16],
@@ -289,40 +291,44 @@ fn compare_in(
     bits: usize,
     sent: &[u16],
     received: &[u16],
-) -> Record
+) -> Result<Record, Refusal>
     requires placed { Placed table.now widths.now places.now }
     requires bits_value { bits ≡ bits_of (rows_of table.now) }
-    ensures record { result ≡ recordings_record table.now sent.now received.now }
+    ensures record { record_of result ≡ recordings_record table.now sent.now received.now }
 {
     let Some(n) = words::window_of(table) else {
-        return records::refuse(47, 0);
+        return Err(Refusal::Recordings);
     };
     if !fit(n, sent, received) {
-        return records::refuse(47, 0);
+        return Err(Refusal::Recordings);
     }
     let k = n / 2;
     let mut plan = [0u16; words::PLAN];
-    words::prepare(table, widths, places, bits, &mut plan[..]);
+    words::prepare(table, widths, places, bits, &mut plan);
     let mut window = [0u16; 64];
-    let Some(found) = merge(&plan[..], sent, received, k, &mut window[..n]) else {
-        return records::refuse(48, 0);
+    let Some(found) = merge(&plan, sent, received, k, &mut window[..n]) else {
+        return Err(Refusal::Counters);
     };
     if !both_rise(found, sent, received, k) {
-        return records::refuse(48, 0);
+        return Err(Refusal::Counters);
     }
-    conclude(sent.len() / (k + 1), received.len() / (k + 1), found)
+    Ok(conclude(sent.len() / (k + 1), received.len() / (k + 1), found))
 }
 
 // The same for any table.
-pub fn compare_recordings(table: &[u16], sent: &[u16], received: &[u16]) -> Record
-    ensures record { result ≡ recordings_record table.now sent.now received.now }
+fn try_compare(table: &[u16], sent: &[u16], received: &[u16]) -> Result<Record, Refusal>
+    ensures record { record_of result ≡ recordings_record table.now sent.now received.now }
 {
     let mut widths = [0u16; 512];
     let mut places = [0u16; 578];
-    let fault = checker::check_and_place(table, &mut widths[..], &mut places[..]);
-    if !records::accepted(fault) {
-        return records::fault_record(fault);
-    }
+    checker::check_and_place(table, &mut widths, &mut places)?;
     let bits = usize::from(places[checker::BITS]);
-    compare_in(table, &widths[..], &places[..], bits, sent, received)
+    compare_in(table, &widths, &places, bits, sent, received)
+}
+
+// The record of two recordings, compared under a table.
+pub fn compare_recordings(table: &[u16], sent: &[u16], received: &[u16]) -> Record
+    ensures record { result ≡ recordings_record table.now sent.now received.now }
+{
+    try_compare(table, sent, received).unwrap_or_else(Refusal::record)
 }

@@ -29,7 +29,7 @@ few table p n is = window_few (rows_of table) n is (table_totals table p.numbere
 pub returns-in_default : goal.returns-in_default
 returns-in_default c =
     let none = no_words _ (sym c.in_default.is ∙ c.window_of.ensures) in
-    record { «record» = stopped_at _ _ _ (is-good _ c.requires.placed) 0 (sym none) (none_stops 0 _ _ refl) _ c.refuse.ensures }
+    record { «record» = stopped_at _ _ _ (is-good _ c.requires.placed) 0 (sym none) (none_stops 0 _ _ refl) _ refl }
 
 pub fit-requires : goal.fit-requires
 fit-requires c =
@@ -39,7 +39,7 @@ fit-requires c =
 pub returns-then-not-fit : goal.returns-then-not-fit
 returns-then-not-fit c =
     let w = some_words _ _ (sym c.in-Some.is ∙ c.window_of.ensures) in
-    record { «record» = stopped_at _ _ _ (is-good _ c.requires.placed) _ w.0 (not-false _ (sym c.fit.ensures ∙ c.if-not-fit.true)) _ c.refuse-then-not-fit.ensures }
+    record { «record» = stopped_at _ _ _ (is-good _ c.requires.placed) _ w.0 (not-false _ (sym c.fit.ensures ∙ c.if-not-fit.true)) _ refl }
 
 pub slice_bounds-window-end : goal.slice_bounds-window-end
 slice_bounds-window-end c = few _ c.requires.placed _ (some_words _ _ (sym c.in-Some.is ∙ c.window_of.ensures)).0
@@ -59,7 +59,7 @@ merge-requires c =
 pub returns-in_default-merge : goal.returns-in_default-merge
 returns-in_default-merge c =
     let w = some_words _ _ (sym c.in-Some.is ∙ c.window_of.ensures) in
-    record { «record» = stopped_falls _ _ _ (is-good _ c.requires.placed) _ w.0 (not-true _ (sym c.fit.ensures ∙ c.if-not-fit.false)) (sym (falls_both _ _ _ c.in_default-merge.ensures)) _ c.refuse-in_default-merge.ensures }
+    record { «record» = stopped_falls _ _ _ (is-good _ c.requires.placed) _ w.0 (not-true _ (sym c.fit.ensures ∙ c.if-not-fit.false)) (sym (falls_both _ _ _ c.in_default-merge.ensures)) _ refl }
 
 pub both_rise-requires : goal.both_rise-requires
 both_rise-requires c =
@@ -71,7 +71,7 @@ both_rise-requires c =
 pub returns-then-not-both_rise : goal.returns-then-not-both_rise
 returns-then-not-both_rise c =
     let w = some_words _ _ (sym c.in-Some.is ∙ c.window_of.ensures) in
-    record { «record» = stopped_falls _ _ _ (is-good _ c.requires.placed) _ w.0 (not-true _ (sym c.fit.ensures ∙ c.if-not-fit.false)) (sym c.both_rise.ensures ∙ c.if-not-both_rise.true) _ c.refuse-then-not-both_rise.ensures }
+    record { «record» = stopped_falls _ _ _ (is-good _ c.requires.placed) _ w.0 (not-true _ (sym c.fit.ensures ∙ c.if-not-fit.false)) (sym c.both_rise.ensures ∙ c.if-not-both_rise.true) _ refl }
 
 pub conclude-requires : goal.conclude-requires
 conclude-requires c =
