@@ -12,6 +12,7 @@ ghost use Rattle.words.specs.inner.Sizes.{has_fixed};
 ghost use Rattle.words.specs.inner.Plan.{fixed_test, meets_plan, FixedBits, FixedRowPut, PutsFixed, PutsRows, PutsNever, Plans, Prepares};
 
 // How many numbers a plan has: row 0, and room for 64 fixed rows and 1,023 equal rows.
+// Kept: numbers of a lent buffer (no heap), of which meets_plan, Sized and Tells (specs/inner) speak by their place.
 pub const PLAN: usize = 4352;
 
 const FIXED: usize = 64;
