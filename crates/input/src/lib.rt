@@ -3,7 +3,7 @@
 #![tactic(auto)]
 
 ghost use Rattle.std.specs.Prelude.{◌≡◌, false, ℕ, ◌-◌, ◌≤◌, IfOk};
-ghost use Rattle.input.specs.Reading.{moved, Moved, has_failed, is_open, after_read, InBounds, GoesOn, Whole};
+ghost use Rattle.input.specs.Reading.{text_of, moved, Moved, has_failed, is_open, after_read, InBounds, GoesOn, Whole};
 
 use std::io;
 use std::io::{Read, Stdin};
@@ -58,7 +58,7 @@ impl Input {
     fn open(self) -> bool
         ensures { result ≡ is_open self }
     {
-        self.len < MOST_READ && matches!(self.state, State::Open)
+        matches!(self.state, State::Open) && self.len < MOST_READ
     }
 
     // One read more: what was read stays where it is, and what comes stands behind it. No contract says what a read gives, so nothing proves
@@ -96,17 +96,10 @@ impl Input {
         matches!(self.state, State::Failed)
     }
 
-    // The bytes, of which the first so many were read.
-    pub fn bytes(self) -> [u8; MOST_READ]
-        ensures { result ≡ self.bytes }
+    // What was read.
+    pub fn text(&self) -> &[u8]
+        ensures { result.now ≡ text_of self.now }
     {
-        self.bytes
-    }
-
-    // How many bytes were read.
-    pub fn len(self) -> usize
-        ensures { result ≡ self.len }
-    {
-        self.len
+        &self.bytes[..self.len.min(MOST_READ)]
     }
 }
