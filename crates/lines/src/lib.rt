@@ -10,7 +10,7 @@ use sheets::Text;
 use terms::Record;
 
 // One byte more, if there is room.
-// Kept: a function and no method, and no fmt::Write for `write!`: Text is a type of crate sheets, so an impl would have to stand there.
+// Kept: functions: Text is a type of crate sheets, so fmt::Write may not be given to it here, and a trait of our own is no plainer.
 fn push(mut t: Text, byte: u8) -> Text
     ensures { result ≡ pushed t byte }
 {
