@@ -7,8 +7,9 @@ use lib.ListN.{length, replicate}
 use Rattle.std.specs.Prelude.{Ok, Err}
 use Rattle.terms.specs.declared.Record.{Record}
 use Rattle.terms.specs.Table.{rows_of, bits_of, same_word}
+use Rattle.terms.specs.declared.Fault.{Fault}
 use Rattle.terms.specs.Faults.{Accepted, is_accepted, first_fault}
-use Rattle.terms.specs.Calls.{refusal, fault_record}
+use Rattle.records.specs.declared.Refusal.TheVariants.{Table, Variables}
 use Rattle.terms.proofs.Satisfies.{same-word}
 use Rattle.answers.specs.Answer.{variable_widths}
 use Rattle.inclusion.specs.Call.{comparison, compared_record, compare_record, compare_work}
@@ -39,12 +40,12 @@ module _ (first second work : List ℕ) (af : first_fault first ≡ Accepted) (a
 
 -- where the second table is looked at: its fault, other variables, or none of both
 module _ (first second : List ℕ) where
-  pub stops_fault : (r : Record) → is_accepted (first_fault second) ≡ false → r ≡ fault_record (first_fault second) → SecondStop first second (Err r)
-  stops_fault r bad e = λ a work room. rw e (stop_second first second work room a bad)
+  pub stops_fault : (f : Fault) → first_fault second ≡ Err f → SecondStop first second (Err (Table f))
+  stops_fault f is = λ a work room. rw is at (stop_second first second work room a (ap is_accepted is))
 
-  pub stops_49 : (r : Record) → first_fault second ≡ Accepted → same_word (variable_widths (rows_of first)) (variable_widths (rows_of second)) ≡ false
-      → r ≡ refusal 49 0 → SecondStop first second (Err r)
-  stops_49 r ag other e = λ a work room. rw e (stop_49 first second work room a ag other)
+  pub stops_49 : first_fault second ≡ Accepted → same_word (variable_widths (rows_of first)) (variable_widths (rows_of second)) ≡ false
+      → SecondStop first second (Err Variables)
+  stops_49 ag other = λ a work room. stop_49 first second work room a ag other
 
   pub stops_nowhere : first_fault second ≡ Accepted → same_word (variable_widths (rows_of first)) (variable_widths (rows_of second)) ≡ true
       → SecondStop first second (Ok tt)

@@ -7,10 +7,12 @@ ghost use Rattle.std.specs.Prelude.{◌≡◌, ◌+◌, ◌≤◌, length};
 ghost use Rattle.terms.specs.Table.{rows_of, same_word};
 ghost use Rattle.terms.specs.inner.Placed.{Placed};
 ghost use Rattle.answers.specs.Answer.{variable_widths};
+ghost use Rattle.records.specs.Refusals.{record_of};
 ghost use Rattle.inclusion.specs.Call.{outcome_of, compare_record, compare_work};
 ghost use Rattle.comparer.specs.inner.Variables.{NextVariable};
 ghost use Rattle.comparer.specs.inner.Comparing.{included, among_links, links_outcome, Links, Compares, SecondStop};
 
+use records::Refusal;
 use terms::Record;
 
 // The row of the next variable from a row on.
@@ -150,17 +152,14 @@ fn compare_placed(
 
 // Whether a comparison with a first table that is accepted goes on, or stops: at the second's fault, or at 49. The second
 // is checked here and placed later, so that its widths and places need no room of their own while its equations are taken.
-fn stop_at(first: &[u16], second: &[u16]) -> Result<(), Record>
+fn stop_at(first: &[u16], second: &[u16]) -> Result<(), Refusal>
     ensures { SecondStop first.now second.now result }
 {
     let mut widths = [0u16; 512];
     let mut places = [0u16; 1];
-    let fault = checker::check_and_place(second, &mut widths[..], &mut places[..]);
-    if !records::accepted(fault) {
-        return Err(records::fault_record(fault));
-    }
+    checker::check_and_place(second, &mut widths, &mut places)?;
     if !same_variables(first, second) {
-        return Err(records::refuse(49, 0));
+        return Err(Refusal::Variables);
     }
     Ok(())
 }
@@ -168,45 +167,48 @@ fn stop_at(first: &[u16], second: &[u16]) -> Result<(), Record>
 // How many numbers the work area has at least.
 pub const MEMORY: usize = 16384;
 
-// Compares a table that was checked and placed with another: its record, and a work area of which each number is 0.
+// Compares a table that was checked and placed with another: its record or why the call stops, and a work area of which each number is 0.
 fn compare_with(
     first: &[u16],
     second: &[u16],
     widths: &mut [u16],
     places: &mut [u16],
     work: &mut [u16],
-) -> Record
+) -> Result<Record, Refusal>
     requires placed { Placed first.now widths.old places.old }
     requires in_bounds { 512 ≤ length widths.old }
     requires in_bounds_2 { 16384 ≤ length work.old }
-    ensures record { result ≡ compare_record first.now second.now (length work.old) }
+    ensures record { record_of result ≡ compare_record first.now second.now (length work.old) }
     ensures work { work.new ≡ compare_work first.now second.now work.old }
 {
-    if let Err(stop) = stop_at(first, second) {
-        return stop;
-    }
+    stop_at(first, second)?;
     let bits = usize::from(numbers::load(places, checker::BITS));
     let found = compare_placed(first, second, widths, places, bits, work);
     work.fill(0);
-    Record {
+    Ok(Record {
         outcome: found,
         ..records::complete(0, 0)
-    }
+    })
 }
 
-// Compares two tables: the record, and a work area of which each number is 0 if the call does not stop.
+// Compares two tables: the record or why the call stops, and a work area of which each number is 0 if it does not stop.
+fn try_compare(first: &[u16], second: &[u16], work: &mut [u16]) -> Result<Record, Refusal>
+    ensures record { record_of result ≡ compare_record first.now second.now (length work.old) }
+    ensures work { work.new ≡ compare_work first.now second.now work.old }
+{
+    if work.len() < MEMORY {
+        return Err(Refusal::Room);
+    }
+    let mut widths = [0u16; 512];
+    let mut places = [0u16; 578];
+    checker::check_and_place(first, &mut widths, &mut places)?;
+    compare_with(first, second, &mut widths, &mut places, work)
+}
+
+// The same, with the record of where it stops.
 pub fn compare_tables(first: &[u16], second: &[u16], work: &mut [u16]) -> Record
     ensures record { result ≡ compare_record first.now second.now (length work.old) }
     ensures work { work.new ≡ compare_work first.now second.now work.old }
 {
-    if work.len() < MEMORY {
-        return records::refuse(10, 0);
-    }
-    let mut widths = [0u16; 512];
-    let mut places = [0u16; 578];
-    let fault = checker::check_and_place(first, &mut widths[..], &mut places[..]);
-    if !records::accepted(fault) {
-        return records::fault_record(fault);
-    }
-    compare_with(first, second, &mut widths[..], &mut places[..], work)
+    try_compare(first, second, work).unwrap_or_else(Refusal::record)
 }

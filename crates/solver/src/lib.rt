@@ -3,9 +3,11 @@
 #![tactic(auto)]
 
 ghost use Rattle.std.specs.Prelude.{◌≡◌, ◌+◌, ◌≤◌, suc, length};
+ghost use Rattle.records.specs.Refusals.{record_of};
 ghost use Rattle.answers.specs.Solve.{solve_record, answer_after, work_after};
 ghost use Rattle.solver.specs.inner.Call.{Concludes, AnswersTaken, AnswersTable};
 
+use records::Refusal;
 use terms::Record;
 
 // The record of the equations that were taken, and for outcome 2 the answer's rows, four numbers each, as far as the answer table lent reaches:
@@ -154,28 +156,38 @@ pub const ANSWER: usize = 24576;
 
 pub const MEMORY: usize = 16384;
 
-// Solves a table in one of the ways: the record, for outcome 2 the answer table, and a work area that is 0 again.
+// Solves a table in one of the ways: the record, or why the call stops, for outcome 2 the answer table, and a work area that is 0 again.
+fn try_solve<S: Solving>(
+    table: &[u16],
+    answer: &mut [u16],
+    work: &mut [u16],
+) -> Result<Record, Refusal>
+    ensures record { record_of result ≡ solve_record table.now (length answer.old) (length work.old) }
+    ensures answer { answer.new ≡ answer_after table.now answer.old (length work.old) }
+    ensures work { work.new ≡ work_after table.now (length answer.old) work.old }
+{
+    if answer.len() < ANSWER {
+        return Err(Refusal::Room);
+    }
+    if work.len() < MEMORY {
+        return Err(Refusal::Room);
+    }
+    let mut widths = [0u16; 512];
+    let mut places = [0u16; 578];
+    checker::check_and_place(table, &mut widths, &mut places)?;
+    let bits = usize::from(places[checker::BITS]);
+    let found = S::answer(table, &widths, &places, bits, work, answer);
+    work.fill(0);
+    Ok(found)
+}
+
+// The same, with the record of where it stops.
 pub fn solve_by<S: Solving>(table: &[u16], answer: &mut [u16], work: &mut [u16]) -> Record
     ensures record { result ≡ solve_record table.now (length answer.old) (length work.old) }
     ensures answer { answer.new ≡ answer_after table.now answer.old (length work.old) }
     ensures work { work.new ≡ work_after table.now (length answer.old) work.old }
 {
-    if answer.len() < ANSWER {
-        return records::refuse(10, 0);
-    }
-    if work.len() < MEMORY {
-        return records::refuse(10, 0);
-    }
-    let mut widths = [0u16; 512];
-    let mut places = [0u16; 578];
-    let fault = checker::check_and_place(table, &mut widths[..], &mut places[..]);
-    if !records::accepted(fault) {
-        return records::fault_record(fault);
-    }
-    let bits = usize::from(places[checker::BITS]);
-    let found = S::answer(table, &widths[..], &places[..], bits, work, answer);
-    work.fill(0);
-    found
+    try_solve::<S>(table, answer, work).unwrap_or_else(Refusal::record)
 }
 
 // Solves a table bit by bit.

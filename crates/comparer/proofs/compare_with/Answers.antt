@@ -14,7 +14,7 @@ compare_placed-found-requires c =
 pub returns : goal.returns
 returns c =
     let P = c.requires.placed in
-    let S = c.in_default.ensures in
+    let S = c.in_ok-stop_at.ensures in
     let b = c.from-bits.ensures ∙ c.load.ensures ∙ P.bits_are in
     let e = bits_alike _ _ c.args.work.now P.numbered.accepted S.0 S.1 c.requires.in_bounds_2 _ b in
     let found = c.compare_placed-found in

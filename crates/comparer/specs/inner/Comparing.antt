@@ -1,6 +1,7 @@
 -- What the inner functions promise of two tables compared by the classes of their bits, h those of the first and g those of the second.
 use Rattle.std.specs.Prelude.{◌≡◌, Bool, false, not, ◌&&◌, ◌||◌, List, ℕ, suc, ◌+◌, ◌≤◌, eqb, length, get_or, Result, Ok, Err, ⊤}
-use Rattle.terms.specs.declared.Record.{Record}
+use Rattle.records.specs.declared.Refusal.{Refusal}
+use Rattle.records.specs.Refusals.{refusal_record}
 use Rattle.terms.specs.declared.Row.{Row}
 use Rattle.terms.specs.Faults.{Accepted, first_fault}
 use Rattle.terms.specs.Table.{rows_of, bits_of}
@@ -43,7 +44,7 @@ Compares first second widths places bits found =
     → found ≡ comparison (rows_of first) (rows_of second)
 
 -- Whether a comparison with a first table that is accepted goes on: then the second is accepted and has the same variables. Or where it stops,
--- with room for the work: at the second's fault or at other variables, with this record.
-abbrev pub SecondStop : List ℕ → List ℕ → Result ⊤ Record → Type 0
-SecondStop first second (Err r) = first_fault first ≡ Accepted → (work : List ℕ) → 16384 ≤ length work → StoppedWith first second work r
+-- with room for the work: at the second's fault or at other variables, with its record.
+abbrev pub SecondStop : List ℕ → List ℕ → Result ⊤ Refusal → Type 0
+SecondStop first second (Err r) = first_fault first ≡ Accepted → (work : List ℕ) → 16384 ≤ length work → StoppedWith first second work (refusal_record r)
 SecondStop first second (Ok _) = (first_fault second ≡ Accepted) × (variable_widths (rows_of first) ≡ variable_widths (rows_of second))
