@@ -19,17 +19,16 @@ fn place_row(places: &mut [u16], r: usize, row: Row, variables: usize, bits: usi
     requires bits_bound { bits ≤ 1000000 }
     ensures { places.new ≡ row_placed places.old r row variables bits }
 {
-    let kind = row.kind;
-    if kind == terms::VARIABLE {
-        numbers::store(places, r, numbers::narrow(numbers::minus(variables, 1)));
+    if row.kind == terms::VARIABLE {
+        numbers::store(places, r, numbers::narrow(variables.saturating_sub(1)));
         numbers::store(
             places,
             terms::MAX_ROWS + variables,
             numbers::narrow(bits + 1),
         );
-        return;
+    } else {
+        numbers::store(places, r, numbers::narrow(variables));
     }
-    numbers::store(places, r, numbers::narrow(variables));
 }
 
 // Checks a table, and places its variables: how each call on a table begins. `widths` has room for 512 numbers, and afterwards the width of
@@ -56,9 +55,9 @@ pub fn check_and_place(table: &[u16], widths: &mut [u16], places: &mut [u16]) ->
     let mut equations = 0;
     for r in 0..table.len() / 4 {
         let row = rows::row_at(table, r);
-        variables = variables + numbers::one_if(row.kind, terms::VARIABLE);
-        bits = bits + (rules::row_bits(row) as usize);
-        equations = equations + numbers::one_if(row.kind, terms::EQUATION);
+        variables += usize::from(row.kind == terms::VARIABLE);
+        bits += rules::row_bits(row) as usize;
+        equations += usize::from(row.kind == terms::EQUATION);
         rules::row_fault(table, widths, r, row, variables, bits, equations)?;
         widths[r] = numbers::narrow(rules::row_width(widths, row));
         place_row(places, r, row, variables, bits);

@@ -2,188 +2,137 @@
 // four to a row. A row's rules ask only for the kinds and widths of earlier rows and for three totals.
 #![tactic(auto)]
 
-ghost use Rattle.std.specs.Prelude.{◌≡◌, ◌+◌, ◌-◌, ◌%◌, ◌≤◌, get_or};
+ghost use Rattle.std.specs.Prelude.{◌≡◌, Some, ◌+◌, ◌-◌, ◌%◌, ◌≤◌, get_or};
 ghost use Rattle.terms.specs.Table.{rows_of, width_in, bits_in};
-ghost use Rattle.terms.specs.Faults.{unused_column, not_term, misnamed, wrong_width, wrong_value, wrong_bounds, too_many, first_rule};
+ghost use Rattle.terms.specs.Faults.{unused_column, not_term, misnamed, outside, wrong_width, wrong_value, wrong_bounds, too_many, first_rule};
 ghost use Rattle.rules.specs.inner.Rules.{rules_in};
+ghost use Rattle.rules.specs.inner.Kinds.{HasNumber};
 
 use terms::{Fault, Row};
 
-// Rule 13: an unused column is not 0.
-fn unused(row: Row) -> bool
-    ensures { result ≡ unused_column row }
-{
-    let kind = row.kind;
-    let b = row.b;
-    let c = row.c;
-    if kind == terms::EXTRACT {
-        return false;
-    }
-    if kind == terms::EQUATION {
-        return false;
-    }
-    if c != 0 {
-        return true;
-    }
-    if kind == terms::VARIABLE {
-        if b != 0 {
-            return true;
+// The kinds of a row.
+#[derive(Clone, Copy, PartialEq, Eq)]
+pub enum Kind {
+    Variable,
+    Constant,
+    Concat,
+    Extract,
+    Equation,
+    Value,
+}
+
+impl Kind {
+    // The kind that has a number, if there is one.
+    pub fn of(number: u16) -> Option<Kind>
+        ensures { HasNumber result number }
+    {
+        match number {
+            terms::VARIABLE => Some(Kind::Variable),
+            terms::CONSTANT => Some(Kind::Constant),
+            terms::CONCAT => Some(Kind::Concat),
+            terms::EXTRACT => Some(Kind::Extract),
+            terms::EQUATION => Some(Kind::Equation),
+            terms::VALUE => Some(Kind::Value),
+            _ => None,
         }
     }
-    false
+}
+
+// Rule 13: an unused column is not 0.
+fn unused(kind: Kind, row: Row) -> bool
+    requires { HasNumber (Some kind) row.kind }
+    ensures { result ≡ unused_column row }
+{
+    match kind {
+        Kind::Variable => row.b != 0 || row.c != 0,
+        Kind::Constant | Kind::Concat | Kind::Value => row.c != 0,
+        Kind::Extract | Kind::Equation => false,
+    }
 }
 
 // Whether x names no term before row r.
 pub fn not_term(table: &[u16], r: usize, x: usize) -> bool
     ensures { result ≡ not_term (rows_of table.now) r x }
 {
-    if r <= x {
-        return true;
-    }
-    let named = rows::row_at(table, x);
-    let kind = named.kind;
-    if kind == terms::EQUATION {
-        return true;
-    }
-    false
+    r <= x || rows::row_at(table, x).kind == terms::EQUATION
 }
 
 // Rule 14: a named row is not earlier, or is an equation.
-fn bad_names(table: &[u16], r: usize, row: Row) -> bool
+fn bad_names(table: &[u16], r: usize, kind: Kind, row: Row) -> bool
+    requires { HasNumber (Some kind) row.kind }
     ensures { result ≡ misnamed (rows_of table.now) r row }
 {
-    let kind = row.kind;
-    if kind < terms::CONCAT {
-        return false;
+    match kind {
+        Kind::Variable | Kind::Constant | Kind::Value => false,
+        Kind::Extract => not_term(table, r, row.a.into()),
+        Kind::Concat | Kind::Equation => {
+            not_term(table, r, row.a.into()) || not_term(table, r, row.b.into())
+        }
     }
-    if terms::EQUATION < kind {
-        return false;
-    }
-    if not_term(table, r, numbers::wide(row.a)) {
-        return true;
-    }
-    if kind == terms::EXTRACT {
-        return false;
-    }
-    not_term(table, r, numbers::wide(row.b))
 }
 
 // The width of row x, 0 past the end.
 fn width_at(widths: &[u16], x: u16) -> usize
     ensures { (result ≡ get_or widths.now x 0) × (result ≤ 65535) }
 {
-    let i = numbers::wide(x);
-    if i < widths.len() {
-        numbers::wide(widths[i])
-    } else {
-        0
-    }
+    widths.get(usize::from(x)).copied().unwrap_or(0).into()
 }
 
 // A row's width, from the widths of the rows that it names.
 pub fn row_width(widths: &[u16], row: Row) -> usize
     ensures { (result ≡ width_in widths.now row) × (result ≤ 131070) }
 {
-    let kind = row.kind;
-    if kind == terms::VARIABLE {
-        return numbers::wide(row.a);
+    let Some(kind) = Kind::of(row.kind) else {
+        return row.b.into();
+    };
+    match kind {
+        Kind::Variable => row.a.into(),
+        Kind::Constant | Kind::Value => row.b.into(),
+        Kind::Concat => width_at(widths, row.a) + width_at(widths, row.b),
+        Kind::Extract => (usize::from(row.b) + 1).saturating_sub(row.c.into()),
+        Kind::Equation => 0,
     }
-    if kind == terms::CONSTANT {
-        return numbers::wide(row.b);
-    }
-    if kind == terms::CONCAT {
-        return width_at(widths, row.a) + width_at(widths, row.b);
-    }
-    if kind == terms::EXTRACT {
-        let high = numbers::wide(row.b);
-        let low = numbers::wide(row.c);
-        if low <= high {
-            return high - low + 1;
-        }
-        return 0;
-    }
-    if kind == terms::EQUATION {
-        return 0;
-    }
-    numbers::wide(row.b)
 }
 
 // Rule 15: a width outside 1 to 1,024, or a constant's bit above 1.
-fn bad_width(row: Row, width: usize) -> bool
+fn bad_width(kind: Kind, row: Row, width: usize) -> bool
+    requires { HasNumber (Some kind) row.kind }
     ensures { result ≡ wrong_width row width }
 {
-    let kind = row.kind;
-    let a = row.a;
-    if kind == terms::EXTRACT {
-        return false;
+    match kind {
+        Kind::Variable | Kind::Concat | Kind::Value => outside(width),
+        Kind::Constant => outside(width) || 1 < row.a,
+        Kind::Extract | Kind::Equation => false,
     }
-    if kind == terms::EQUATION {
-        return false;
-    }
-    if width == 0 {
-        return true;
-    }
-    if terms::MAX_WIDTH < width {
-        return true;
-    }
-    if kind == terms::CONSTANT {
-        if 1 < a {
-            return true;
-        }
-    }
-    false
+}
+
+fn outside(width: usize) -> bool
+    ensures { result ≡ outside width }
+{
+    width == 0 || terms::MAX_WIDTH < width
 }
 
 // Rule 40: a value's width is above 16, or its number does not fit the width.
 fn bad_value(row: Row) -> bool
     ensures { result ≡ wrong_value row }
 {
-    let kind = row.kind;
-    if kind != terms::VALUE {
-        return false;
-    }
-    let width = numbers::wide(row.b);
-    if terms::MAX_VALUE_WIDTH < width {
-        return true;
-    }
-    if 1usize << width <= numbers::wide(row.a) {
-        return true;
-    }
-    false
+    let width = usize::from(row.b);
+    row.kind == terms::VALUE
+        && (terms::MAX_VALUE_WIDTH < width || 1usize << width <= usize::from(row.a))
 }
 
 // Rule 16: an extraction's high is not below the width of the row it is cut from, or low is above high.
 fn bad_bounds(row: Row, width: usize) -> bool
     ensures { result ≡ wrong_bounds row width }
 {
-    let kind = row.kind;
-    let low = row.c;
-    let high = row.b;
-    if kind == terms::EXTRACT {
-        if width <= numbers::wide(high) {
-            return true;
-        }
-        if high < low {
-            return true;
-        }
-    }
-    false
+    row.kind == terms::EXTRACT && (width <= usize::from(row.b) || row.b < row.c)
 }
 
 // Rule 17: too many variables, variable bits or equations.
 fn too_many(variables: usize, bits: usize, equations: usize) -> bool
     ensures { result ≡ too_many variables bits equations }
 {
-    if terms::MAX_VARIABLES < variables {
-        return true;
-    }
-    if terms::MAX_BITS < bits {
-        return true;
-    }
-    if terms::MAX_EQUATIONS < equations {
-        return true;
-    }
-    false
+    terms::MAX_VARIABLES < variables || terms::MAX_BITS < bits || terms::MAX_EQUATIONS < equations
 }
 
 // The first rule that row r breaks; the totals count it too.
@@ -199,16 +148,16 @@ pub fn row_fault(
     ensures { result ≡ first_rule (rules_in (rows_of table.now) widths.now r row variables bits equations) }
 {
     let at = numbers::narrow(r);
-    if terms::VALUE < row.kind {
+    let Some(kind) = Kind::of(row.kind) else {
         return Err(Fault::Kind(at));
-    }
-    if unused(row) {
+    };
+    if unused(kind, row) {
         return Err(Fault::Unused(at));
     }
-    if bad_names(table, r, row) {
+    if bad_names(table, r, kind, row) {
         return Err(Fault::Named(at));
     }
-    if bad_width(row, row_width(widths, row)) {
+    if bad_width(kind, row, row_width(widths, row)) {
         return Err(Fault::Width(at));
     }
     if bad_value(row) {
@@ -227,10 +176,9 @@ pub fn row_fault(
 pub fn row_bits(row: Row) -> u32
     ensures { (result ≡ bits_in row) × (result ≤ 65535) }
 {
-    let kind = row.kind;
-    if kind == terms::VARIABLE {
-        let width = numbers::wide(row.a);
-        return width as u32;
+    if row.kind == terms::VARIABLE {
+        row.a.into()
+    } else {
+        0
     }
-    0
 }

@@ -1,7 +1,8 @@
 -- `check_and_place` meets its contract: the invariants are `Checking` and `Placing`, of proofs/Checking.antt and proofs/Placing.antt; what is
 -- left where the table is accepted is in proofs/Placed.antt. Assumes nothing.
 use mathlib.Core.Path.{◌≡◌, refl, sym, ◌∙◌, ap}
-use mathlib.Core.Bool.{true, false}
+use mir.Val.{bool_byte}
+use mathlib.Core.Bool.{Bool, true, false, cond}
 use Prim.Native.Nat.{ℕ, ◌+◌, ◌%◌, ◌<◌, ◌≤◌}
 use native.Mathlib.Omega.{arith}
 use lib.ListN.{length}
@@ -19,13 +20,18 @@ use Rattle.checker.proofs.check_and_place.Lts as lts
 use Rattle.checker.proofs.check_and_place.Tie as tie
 use Rattle.checker.proofs.check_and_place.Reads as reads
 
+-- a test as a number
+flag : (b : Bool) (n : ℕ) → n ≡ bool_byte b → (n ≡ cond b 1 0) × (n ≤ 1)
+flag true n e = (e, omega (arith, e))
+flag false n e = (e, omega (arith, e))
+
 -- the fault that was found is the row's
 found : (d : lts.After-row_fault tie.the-claims reads.Pre reads.Post goal.the-invariant-loop-r goal.the-decreases-loop-r tie.handed_clauses) → d.row_fault.result ≡ fault_at (rows_of d.args.table.now) d.loop-r.r
 found d =
     checking_answer _ _ _ _ _ _ _ d.loop-r.invariant.0 d.if-widths-lt-MAX_ROWS.false d.if-table.false (omega (arith, rows_length d.args.table.now, d.loop-r-test.true)) _ _ _ _ _ d.row_at-row.ensures
-    (ap (λ (n : ℕ). d.loop-r.variables + n) d.one_if-variables.ensures.0)
+    (ap (λ (n : ℕ). d.loop-r.variables + n) (flag _ _ d.from-variables.ensures).0)
     (ap (λ (n : ℕ). d.loop-r.bits + n) d.row_bits.ensures.0)
-    (ap (λ (n : ℕ). d.loop-r.equations + n) d.one_if-equations.ensures.0) d.row_fault.ensures
+    (ap (λ (n : ℕ). d.loop-r.equations + n) (flag _ _ d.from-equations.ensures).0) d.row_fault.ensures
 
 -- where it is a fault, it is the table's, and no more widths are written
 stopped : (c : goal.After-from_residual)
@@ -66,13 +72,13 @@ pub loop-r-init : goal.loop-r-init
 loop-r-init c = (checking_first _ _, placing_first _ c.args.places.now _ c.store.ensures)
 
 pub overflow_add-variables : goal.overflow_add-variables
-overflow_add-variables c = let t = checking_totals _ _ _ _ _ _ _ c.loop-r.invariant.0 c.if-widths-lt-MAX_ROWS.false c.if-table.false in omega (arith, t.0, c.one_if-variables.ensures.1)
+overflow_add-variables c = let t = checking_totals _ _ _ _ _ _ _ c.loop-r.invariant.0 c.if-widths-lt-MAX_ROWS.false c.if-table.false in omega (arith, t.0, (flag _ _ c.from-variables.ensures).1)
 
 pub overflow_add-bits : goal.overflow_add-bits
 overflow_add-bits c = let t = checking_totals _ _ _ _ _ _ _ c.loop-r.invariant.0 c.if-widths-lt-MAX_ROWS.false c.if-table.false in omega (arith, t.1, c.row_bits.ensures.1)
 
 pub overflow_add-equations : goal.overflow_add-equations
-overflow_add-equations c = let t = checking_totals _ _ _ _ _ _ _ c.loop-r.invariant.0 c.if-widths-lt-MAX_ROWS.false c.if-table.false in omega (arith, t.2, c.one_if-equations.ensures.1)
+overflow_add-equations c = let t = checking_totals _ _ _ _ _ _ _ c.loop-r.invariant.0 c.if-widths-lt-MAX_ROWS.false c.if-table.false in omega (arith, t.2, (flag _ _ c.from-equations.ensures).1)
 
 pub returns-in_err-row_fault-clause-fault : goal.returns-in_err-row_fault-clause-fault
 returns-in_err-row_fault-clause-fault c =
@@ -85,7 +91,7 @@ returns-in_err-row_fault-clause-widths c = (stopped c).1
 pub place_row-requires : goal.place_row-requires
 place_row-requires c =
     let t = checking_totals _ _ _ _ _ _ _ c.loop-r.invariant.0 c.if-widths-lt-MAX_ROWS.false c.if-table.false in
-    record { variables_bound = omega (arith, t.0, c.one_if-variables.ensures.1); bits_bound = omega (arith, t.1, c.row_bits.ensures.1) }
+    record { variables_bound = omega (arith, t.0, (flag _ _ c.from-variables.ensures).1); bits_bound = omega (arith, t.1, c.row_bits.ensures.1) }
 
 pub loop-r-preserved : goal.loop-r-preserved
 loop-r-preserved c =
@@ -95,11 +101,11 @@ loop-r-preserved c =
     let l : c.loop-r.r < length (rows_of c.args.table.now) = omega (arith, rows_length c.args.table.now, c.loop-r-test.true) in
     let good : is_accepted (fault_at (rows_of c.args.table.now) o.r) ≡ true =
     ap is_accepted (sym (found c.before.before.before.before.before.before.before.before.before) ∙ c.in_ok-row_fault.was) in
-    let more = ap (λ (n : ℕ). o.variables + n) c.one_if-variables.ensures.0 in (
+    let more = ap (λ (n : ℕ). o.variables + n) (flag _ _ c.from-variables.ensures).0 in (
       checking_more _ _ _ _ _ _ _ o.invariant.0 room size l good _ _ _ _ _ c.row_at-row.ensures
           more
           (ap (λ (n : ℕ). o.bits + n) c.row_bits.ensures.0)
-          (ap (λ (n : ℕ). o.equations + n) c.one_if-equations.ensures.0)
+          (ap (λ (n : ℕ). o.equations + n) (flag _ _ c.from-equations.ensures).0)
           (c.narrow.ensures ∙ ap (λ (n : ℕ). n % 65536) c.row_width.ensures.0),
       placing_row _ _ _ _ _ _ o.invariant.1 l _ c.row_at-row.ensures _ _ _ more refl c.row_bits.ensures _ c.place_row.ensures,
     )

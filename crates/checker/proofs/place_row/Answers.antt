@@ -6,17 +6,17 @@ use lib.ListN.{set}
 use Rattle.checker.proofs.Placing.{placed_variable, placed_other}
 use Rattle.checker.proofs.place_row.Goals as goal
 
-pub returns-then-kind-eq-VARIABLE : goal.returns-then-kind-eq-VARIABLE
-returns-then-kind-eq-VARIABLE c =
+pub returns-then-row-eq-VARIABLE : goal.returns-then-row-eq-VARIABLE
+returns-then-row-eq-VARIABLE c =
     let a = c.args in
-    let number = c.narrow.ensures ∙ ap (λ (n : ℕ). n % 65536) c.minus.ensures in
+    let number = c.narrow.ensures ∙ ap (λ (n : ℕ). n % 65536) c.saturating_sub.ensures in
     let first = c.store.ensures ∙ ap (set a.places.now a.r) number in
-    c.store-then-kind-eq-VARIABLE.ensures
-    ∙ ap₂ (λ (l : List ℕ) (x : ℕ). set l (512 + a.variables) x) first c.narrow-then-kind-eq-VARIABLE.ensures
-    ∙ placed_variable a.places.now a.r a.row a.variables a.bits c.if-kind-eq-VARIABLE.true
+    c.store-then-row-eq-VARIABLE.ensures
+    ∙ ap₂ (λ (l : List ℕ) (x : ℕ). set l (512 + a.variables) x) first c.narrow-then-row-eq-VARIABLE.ensures
+    ∙ placed_variable a.places.now a.r a.row a.variables a.bits c.if-row-eq-VARIABLE.true
 
-pub returns : goal.returns
-returns c =
+pub returns-else-row-eq-VARIABLE : goal.returns-else-row-eq-VARIABLE
+returns-else-row-eq-VARIABLE c =
     let a = c.args in
-    c.store-2.ensures ∙ ap (set a.places.now a.r) c.narrow-2.ensures
-    ∙ placed_other a.places.now a.r a.row a.variables a.bits c.if-kind-eq-VARIABLE.false
+    c.store-else-row-eq-VARIABLE.ensures ∙ ap (set a.places.now a.r) c.narrow-else-row-eq-VARIABLE.ensures
+    ∙ placed_other a.places.now a.r a.row a.variables a.bits c.if-row-eq-VARIABLE.false

@@ -1,50 +1,35 @@
 -- `bad_width` meets its contract: rule 15, kind by kind. Assumes nothing.
-use mathlib.Core.Bool.{or-true}
-use Rattle.terms.specs.Faults.{wrong_width, outside}
-use Rattle.terms.proofs.RowKinds.{each_kind}
-use mathlib.Core.Path.{refl}
-use native.Mathlib.Omega.{arith}
-use borrow.Author.Tests.{lt-ltb, le-ltb, eq-eqb, ne_eqb}
+use mathlib.Core.Path.{◌≡◌, sym, ◌∙◌}
+use mathlib.Core.Bool.{or-false}
+use mathlib.Core.Logic.{⊎_elim}
+use Rattle.terms.specs.Table.{by_kind}
+use Rattle.terms.specs.Faults.{wrong_width}
 use Rattle.rules.proofs.bad_width.Goals as goal
 
-pub returns-then-kind-eq-EXTRACT : goal.returns-then-kind-eq-EXTRACT
-unfolding wrong_width
-returns-then-kind-eq-EXTRACT c = each_kind _ _ (λ h. absurd (omega arith)) (λ h. absurd (omega arith)) (λ h. absurd (omega arith)) (λ h. refl) (λ h. absurd (omega arith)) (λ h. absurd (omega arith))
+pub returns-in-Variable : goal.returns-in-Variable
+unfolding wrong_width by_kind
+returns-in-Variable c =
+    let row = c.args.row in
+    ⊎_elim (λ e. let n : row.kind ≡ 0 = rw e at c.requires in rw n c.outside.ensures) (λ more.
+    ⊎_elim (λ e. let n : row.kind ≡ 2 = rw e at c.requires in rw n c.outside.ensures) (λ e. let n : row.kind ≡ 5 = rw e at c.requires in rw (n, or-false) c.outside.ensures) more)
+    c.in-Variable.is
 
-pub returns-then-kind-eq-EQUATION : goal.returns-then-kind-eq-EQUATION
-unfolding wrong_width
-returns-then-kind-eq-EQUATION c = each_kind _ _ (λ h. absurd (omega arith)) (λ h. absurd (omega arith)) (λ h. absurd (omega arith)) (λ h. refl) (λ h. refl) (λ h. absurd (omega arith))
+pub returns-then-outside : goal.returns-then-outside
+unfolding wrong_width by_kind
+returns-then-outside c =
+    let n : c.args.row.kind ≡ 1 = rw c.in-Constant.is at c.requires in
+    let o = sym c.outside-in-Constant.ensures ∙ c.if-outside.true in
+    rw (n, o) c.if-outside.true
 
-pub returns-then-width-eq0 : goal.returns-then-width-eq0
-unfolding wrong_width outside
-returns-then-width-eq0 c =
-    let z = c.if-width-eq0.true in
-    each_kind _ _ (λ h. rw z) (λ h. rw z) (λ h. rw z) (λ h. absurd (omega arith)) (λ h. absurd (omega arith)) (λ h. rw z)
+pub returns-else-outside : goal.returns-else-outside
+unfolding wrong_width by_kind
+returns-else-outside c =
+    let n : c.args.row.kind ≡ 1 = rw c.in-Constant.is at c.requires in
+    let o = sym c.outside-in-Constant.ensures ∙ c.if-outside.false in
+    rw (n, o)
 
-pub returns-then-width-gt-MAX_WIDTH : goal.returns-then-width-gt-MAX_WIDTH
-unfolding wrong_width outside
-returns-then-width-gt-MAX_WIDTH c =
-    let z = lt-ltb _ _ c.if-width-gt-MAX_WIDTH.true in
-    each_kind _ _ (λ h. rw (z, or-true)) (λ h. rw (z, or-true)) (λ h. rw (z, or-true)) (λ h. absurd (omega arith)) (λ h. absurd (omega arith)) (λ h. rw (z, or-true))
-
-pub returns-then-a-gt1 : goal.returns-then-a-gt1
-unfolding wrong_width
-returns-then-a-gt1 c =
-    let e = eq-eqb _ _ c.if-kind-eq-CONSTANT.true in
-    each_kind _ _ (λ h. absurd (omega arith)) (λ h. rw (e, lt-ltb _ _ c.if-a-gt1.true, or-true)) (λ h. absurd (omega arith)) (λ h. absurd (omega arith)) (λ h. absurd (omega arith)) (λ h. absurd (omega arith))
-
-pub returns-else-a-gt1 : goal.returns-else-a-gt1
-unfolding wrong_width outside
-returns-else-a-gt1 c =
-    let z = ne_eqb _ _ c.if-width-eq0.false in
-    let m = le-ltb _ _ c.if-width-gt-MAX_WIDTH.false in
-    let e = eq-eqb _ _ c.if-kind-eq-CONSTANT.true in
-    each_kind _ _ (λ h. rw (z, m)) (λ h. rw (z, m, e, le-ltb _ _ c.if-a-gt1.false)) (λ h. rw (z, m)) (λ h. refl) (λ h. refl) (λ h. absurd (omega arith))
-
-pub returns-else-kind-eq-CONSTANT : goal.returns-else-kind-eq-CONSTANT
-unfolding wrong_width outside
-returns-else-kind-eq-CONSTANT c =
-    let z = ne_eqb _ _ c.if-width-eq0.false in
-    let m = le-ltb _ _ c.if-width-gt-MAX_WIDTH.false in
-    let e = ne_eqb _ _ c.if-kind-eq-CONSTANT.false in
-    each_kind _ _ (λ h. rw (z, m)) (λ h. absurd (omega arith)) (λ h. rw (z, m)) (λ h. refl) (λ h. refl) (λ h. rw (z, m, e))
+pub returns-in-Extract : goal.returns-in-Extract
+unfolding wrong_width by_kind
+returns-in-Extract c =
+    let row = c.args.row in
+    ⊎_elim (λ e. let n : row.kind ≡ 3 = rw e at c.requires in rw n) (λ e. let n : row.kind ≡ 4 = rw e at c.requires in rw n) c.in-Extract.is

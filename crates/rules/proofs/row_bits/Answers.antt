@@ -5,14 +5,14 @@ use native.Mathlib.Omega.{arith}
 use mathlib.Core.Path.{refl}
 use Rattle.rules.proofs.row_bits.Goals as goal
 
-pub returns-then-kind-eq-VARIABLE : goal.returns-then-kind-eq-VARIABLE
+pub returns-then-row-eq-VARIABLE : goal.returns-then-row-eq-VARIABLE
 unfolding bits_in
-returns-then-kind-eq-VARIABLE c = (
-  each_kind _ _ (λ h. c.wide-width.ensures.0) (λ h. absurd (omega arith)) (λ h. absurd (omega arith)) (λ h. absurd (omega arith))
+returns-then-row-eq-VARIABLE c = (
+  each_kind _ _ (λ h. c.into.ensures) (λ h. absurd (omega arith)) (λ h. absurd (omega arith)) (λ h. absurd (omega arith))
       (λ h. absurd (omega arith)) (λ h. absurd (omega arith)),
   omega arith,
 )
 
-pub returns : goal.returns
+pub returns-else-row-eq-VARIABLE : goal.returns-else-row-eq-VARIABLE
 unfolding bits_in
-returns c = (each_kind _ _ (λ h. absurd (omega arith)) (λ h. refl) (λ h. refl) (λ h. refl) (λ h. refl) (λ h. refl), omega arith)
+returns-else-row-eq-VARIABLE c = (each_kind _ _ (λ h. absurd (omega arith)) (λ h. refl) (λ h. refl) (λ h. refl) (λ h. refl) (λ h. refl), omega arith)

@@ -1,20 +1,21 @@
 -- `too_many` meets its contract: rule 17. Assumes nothing.
 use Rattle.terms.specs.Faults.{too_many}
 use borrow.Author.Tests.{lt-ltb, le-ltb}
+use mathlib.Core.Logic.{⊎_elim}
+use native.Mathlib.Omega.{arith}
 use Rattle.rules.proofs.too_many.Goals as goal
-
-pub returns-then-variables-gt-MAX_VARIABLES : goal.returns-then-variables-gt-MAX_VARIABLES
-unfolding too_many
-returns-then-variables-gt-MAX_VARIABLES c = rw (lt-ltb _ _ c.if-variables-gt-MAX_VARIABLES.true)
+use Rattle.rules.proofs.too_many.Goals.{then-variables-gt-MAX_VARIABLES, else-variables-gt-MAX_VARIABLES}
 
 pub returns-then-bits-gt-MAX_BITS : goal.returns-then-bits-gt-MAX_BITS
 unfolding too_many
-returns-then-bits-gt-MAX_BITS c = rw (le-ltb _ _ c.if-variables-gt-MAX_VARIABLES.false, lt-ltb _ _ c.if-bits-gt-MAX_BITS.true)
+returns-then-bits-gt-MAX_BITS c =
+    elim c.if-variables-gt-MAX_VARIABLES.branch [
+      | then-variables-gt-MAX_VARIABLES w ↦ rw (w.t-5-is, lt-ltb _ _ w.if-variables-gt-MAX_VARIABLES.true)
+      | else-variables-gt-MAX_VARIABLES w ↦
+          let few = w.if-variables-gt-MAX_VARIABLES.false in
+          ⊎_elim (λ many. absurd (omega (arith, few, many))) (λ both. rw (w.t-5-is, le-ltb _ _ few, lt-ltb _ _ both.1)) c.if-bits-gt-MAX_BITS.either
+    ]
 
-pub returns-then-equations-gt-MAX_EQUATIONS : goal.returns-then-equations-gt-MAX_EQUATIONS
+pub returns-else-bits-gt-MAX_BITS : goal.returns-else-bits-gt-MAX_BITS
 unfolding too_many
-returns-then-equations-gt-MAX_EQUATIONS c = rw (le-ltb _ _ c.if-variables-gt-MAX_VARIABLES.false, le-ltb _ _ c.if-bits-gt-MAX_BITS.false, lt-ltb _ _ c.if-equations-gt-MAX_EQUATIONS.true)
-
-pub returns : goal.returns
-unfolding too_many
-returns c = rw (le-ltb _ _ c.if-variables-gt-MAX_VARIABLES.false, le-ltb _ _ c.if-bits-gt-MAX_BITS.false, le-ltb _ _ c.if-equations-gt-MAX_EQUATIONS.false)
+returns-else-bits-gt-MAX_BITS c = rw (le-ltb _ _ c.if-bits-gt-MAX_BITS.false.0, le-ltb _ _ c.if-bits-gt-MAX_BITS.false.1)

@@ -1,44 +1,29 @@
 -- `unused` meets its contract: rule 13, kind by kind. Assumes nothing.
-use mathlib.Core.Bool.{or-true}
-use mathlib.Core.Path.{refl}
-use native.Mathlib.Omega.{arith}
+use mathlib.Core.Path.{◌≡◌}
+use mathlib.Core.Logic.{⊎_elim}
 use borrow.Author.Tests.{ne_eqb}
+use Rattle.terms.specs.Table.{by_kind}
 use Rattle.terms.specs.Faults.{unused_column}
-use Rattle.terms.proofs.RowKinds.{each_kind}
 use Rattle.rules.proofs.unused.Goals as goal
 
-pub returns-then-kind-eq-EXTRACT : goal.returns-then-kind-eq-EXTRACT
-unfolding unused_column
-returns-then-kind-eq-EXTRACT c =
-    each_kind _ _ (λ h. absurd (omega arith)) (λ h. absurd (omega arith)) (λ h. absurd (omega arith)) (λ h. refl)
-    (λ h. absurd (omega arith)) (λ h. absurd (omega arith))
+pub returns-then-row-ne0 : goal.returns-then-row-ne0
+unfolding unused_column by_kind
+returns-then-row-ne0 c = let n : c.args.row.kind ≡ 0 = rw c.in-Variable.is at c.requires in rw (n, ne_eqb _ _ c.if-row-ne0.true)
 
-pub returns-then-kind-eq-EQUATION : goal.returns-then-kind-eq-EQUATION
-unfolding unused_column
-returns-then-kind-eq-EQUATION c =
-    each_kind _ _ (λ h. absurd (omega arith)) (λ h. absurd (omega arith)) (λ h. absurd (omega arith)) (λ h. absurd (omega arith))
-    (λ h. refl) (λ h. absurd (omega arith))
+pub returns-else-row-ne0 : goal.returns-else-row-ne0
+unfolding unused_column by_kind
+returns-else-row-ne0 c = let n : c.args.row.kind ≡ 0 = rw c.in-Variable.is at c.requires in rw (n, c.if-row-ne0.false)
 
-pub returns-then-c-ne0 : goal.returns-then-c-ne0
-unfolding unused_column
-returns-then-c-ne0 c =
-    let z = ne_eqb _ 0 c.if-c-ne0.true in
-    each_kind _ _ (λ h. rw (z, or-true)) (λ h. rw z) (λ h. rw z) (λ h. absurd (omega arith)) (λ h. absurd (omega arith)) (λ h. rw z)
+pub returns-in-Constant : goal.returns-in-Constant
+unfolding unused_column by_kind
+returns-in-Constant c =
+    let row = c.args.row in
+    ⊎_elim (λ e. let n : row.kind ≡ 1 = rw e at c.requires in rw n) (λ more.
+    ⊎_elim (λ e. let n : row.kind ≡ 2 = rw e at c.requires in rw n) (λ e. let n : row.kind ≡ 5 = rw e at c.requires in rw n) more)
+    c.in-Constant.is
 
-pub returns-then-b-ne0 : goal.returns-then-b-ne0
-unfolding unused_column
-returns-then-b-ne0 c =
-    each_kind _ _ (λ h. rw (ne_eqb _ 0 c.if-b-ne0.true)) (λ h. absurd (omega arith)) (λ h. absurd (omega arith))
-    (λ h. absurd (omega arith)) (λ h. absurd (omega arith)) (λ h. absurd (omega arith))
-
-pub returns-else-b-ne0 : goal.returns-else-b-ne0
-unfolding unused_column
-returns-else-b-ne0 c =
-    let z = c.if-c-ne0.false in
-    each_kind _ _ (λ h. rw (c.if-b-ne0.false, z)) (λ h. rw z) (λ h. rw z) (λ h. refl) (λ h. refl) (λ h. rw z)
-
-pub returns-else-kind-eq-VARIABLE : goal.returns-else-kind-eq-VARIABLE
-unfolding unused_column
-returns-else-kind-eq-VARIABLE c =
-    let z = c.if-c-ne0.false in
-    each_kind _ _ (λ h. absurd (omega arith)) (λ h. rw z) (λ h. rw z) (λ h. refl) (λ h. refl) (λ h. rw z)
+pub returns-in-Extract : goal.returns-in-Extract
+unfolding unused_column by_kind
+returns-in-Extract c =
+    let row = c.args.row in
+    ⊎_elim (λ e. let n : row.kind ≡ 3 = rw e at c.requires in rw n) (λ e. let n : row.kind ≡ 4 = rw e at c.requires in rw n) c.in-Extract.is
