@@ -169,8 +169,7 @@ pub extern "C" fn lw_solve_rows(rows: &[Row], answer: &mut [u16], work: &mut [u1
     solver::solve(&flat[..used], answer, work)
 }
 
-// A job kept open: its two numbers are lent as a struct. These functions take the struct apart, make the call on numbers, and store the
-// two back.
+// A job kept open: it is lent, and stored back as the call leaves it.
 
 // Opens a job on a table.
 #[unsafe(no_mangle)]
@@ -180,10 +179,9 @@ pub extern "C" fn lw_job_open(table: &[u16], job: &mut Job, work: &mut [u16]) ->
     ensures ties { job.new.ties ≡ (open_job table.now job.old.next job.old.ties (length work.old)).ties }
     ensures work { work.new ≡ open_work table.now work.old }
 {
-    let s = stepper::open_at(table, job.next, job.ties, work);
-    job.next = s.next;
-    job.ties = s.ties;
-    s.found
+    let step = stepper::open_at(table, *job, work);
+    *job = step.job;
+    step.found
 }
 
 // Takes the next equation of a job.
@@ -194,10 +192,9 @@ pub extern "C" fn lw_job_step(table: &[u16], job: &mut Job, work: &mut [u16]) ->
     ensures ties { job.new.ties ≡ (step_job table.now job.old.next job.old.ties work.old).ties }
     ensures work { work.new ≡ step_work table.now job.old.next job.old.ties work.old }
 {
-    let s = stepper::step_at(table, job.next, job.ties, work);
-    job.next = s.next;
-    job.ties = s.ties;
-    s.found
+    let step = stepper::step_at(table, *job, work);
+    *job = step.job;
+    step.found
 }
 
 // What the next step of a job would return.
@@ -205,7 +202,7 @@ pub extern "C" fn lw_job_step(table: &[u16], job: &mut Job, work: &mut [u16]) ->
 pub extern "C" fn lw_job_preview(table: &[u16], job: &Job, work: &[u16]) -> Record
     ensures record { result ≡ step_record table.now job.now.next job.now.ties work.now }
 {
-    stepper::preview_at(table, job.next, job.ties, work)
+    stepper::preview_at(table, *job, work)
 }
 
 // The answer so far of a job.
@@ -219,5 +216,5 @@ pub extern "C" fn lw_job_answer(
     ensures record { result ≡ job_answer_record table.now job.now.next job.now.ties work.now (length answer.old) }
     ensures answer { answer.new ≡ job_answer_after table.now job.now.next job.now.ties work.now answer.old }
 {
-    stepper::answer_at(table, job.next, job.ties, work, answer)
+    stepper::answer_at(table, *job, work, answer)
 }

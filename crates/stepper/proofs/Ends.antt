@@ -1,12 +1,17 @@
 -- Each way in which a call on a job ends gives the record, the job and the buffers of the definitions. Assumes nothing.
-use mathlib.Core.Path.{◌≡◌, refl, sym, ◌∙◌, ap, ap₂}
+use mathlib.Core.Path.{◌≡◌, refl, sym, ◌∙◌, ap, ap₂, subst}
+use Rattle.std.specs.Prelude.{⊤}
+use Rattle.std.proofs.Common.{Result, Ok, Err}
+use Rattle.terms.specs.declared.Fault.{Fault}
+use Rattle.records.specs.declared.Refusal.{Refusal}
+use Rattle.records.specs.declared.Refusal.TheVariants.{Room, Table, Lined}
+use Rattle.records.specs.Refusals.{refusal_record}
 use mathlib.Core.Bool.{Bool, true, false, not, ◌||◌, cond, or-true, or-false}
-use mathlib.Core.Logic.{◌≢◌}
 use mathlib.Core.List.{List, [], ◌∷◌, ◌++◌, map}
-use Prim.Native.Nat.{ℕ, zero, suc, ◌+◌, ◌-◌, ◌%◌, ◌≤◌, ◌<◌}
+use Prim.Native.Nat.{ℕ, zero, suc, ◌-◌, ◌%◌, ◌≤◌, ◌<◌}
 use native.Mathlib.Omega.{arith}
 use lib.Dec.{eqb, ltb}
-use lib.ListN.{length, take, drop, replicate, length-replicate}
+use lib.ListN.{length, drop, replicate, length-replicate}
 use borrow.Author.Tests.{lt-ltb, le-ltb, ltb-false}
 use Rattle.laws.proofs.Bools.{not_both}
 use Rattle.laws.specs.Lists.{count_up}
@@ -16,18 +21,17 @@ use Rattle.laws.proofs.CountUp.{count-up}
 use Rattle.terms.specs.declared.Record.{Record}
 use Rattle.terms.specs.declared.Row.{Row}
 use Rattle.terms.specs.Table.{rows_of, bits_of}
-use Rattle.terms.specs.Calls.{refusal, completed, fault_number, fault_record, stop_at, stopped}
+use Rattle.terms.specs.Calls.{refusal, completed, fault_record, stop_at, stopped}
 use Rattle.terms.specs.Faults.{Accepted, is_accepted, first_fault}
 use Rattle.terms.specs.inner.Placed.{Placed}
 use Rattle.terms.proofs.AcceptedTable.{accepted_table, table_bits, fault_none}
-use Rattle.terms.proofs.Rows.{rows_length}
 use Rattle.answers.specs.Pairs.{ties}
-use Rattle.answers.specs.Solve.{answer_record, always_record, pairs_together, ties_to}
+use Rattle.answers.specs.Solve.{answer_record, pairs_together, ties_to}
 use Rattle.answers.specs.inner.Classes.{run_all}
 use Rattle.solver.proofs.Stops.{fault_high}
 use Rattle.jobs.specs.Prefix.{up_to, equation_from, host_number, holders}
 use Rattle.jobs.specs.State.{opened, state_at, area_of}
-use Rattle.jobs.specs.Call.{breaks43, breaks44, breaks45, open_stops, open_record, open_job, open_work, step_stops, step_record, step_job, step_work, job_answer_stops, job_answer_record, job_answer_after}
+use Rattle.jobs.specs.Call.{breaks43, breaks44, open_stops, open_record, open_job, open_work, step_stops, step_record, step_job, step_work, job_answer_stops, job_answer_record, job_answer_after}
 use Rattle.jobs.proofs.Course.{open_always}
 use Rattle.jobs.proofs.EquationRows.{next_within}
 use Rattle.jobs.proofs.Holders.{up_holders, host_place}
@@ -63,73 +67,78 @@ stopped_before ((true, r) ∷ stops) more h = refl
 stopped_before ((false, r) ∷ stops) more h = stopped_before stops more h
 
 -- ---- how a call begins
+abbrev went : Result ⊤ Refusal → Bool
+went (Ok x) = true
+went (Err e) = false
+
+abbrev refusal_or : Refusal → Result ⊤ Refusal → Refusal
+refusal_or d (Ok x) = d
+refusal_or d (Err e) = e
+
+ok-err : (x : ⊤) (e : Refusal) → ◌≡◌ {A = Result ⊤ Refusal} (Ok x) (Err e) → ⊥
+ok-err x e z = not_both refl (ap went z)
+
+same_Err : (e f : Refusal) → ◌≡◌ {A = Result ⊤ Refusal} (Err e) (Err f) → e ≡ f
+same_Err e f z = ap (refusal_or e) z
+
 module _ (table : List ℕ) (room : ℕ) where
-  module _ (widths places : List ℕ) (found : Record) where
-    pub begin_10 : room < 16384 → found ≡ refusal 10 0 → Begun table room widths places found
-    unfolding open_stops stop_at
-    begin_10 l e =
+  module _ (widths places : List ℕ) where
+    stops_with : (e : Refusal) → (stopped (open_stops table room) ≡ true) × (refusal_record e ≡ stop_at (open_stops table room) (completed 0 0)) → Begun table room widths places (Err e)
+    stops_with e it =
         record {
-          found_is = rw (lt-ltb room 16384 l) e;
-          placed = λ z. let n : ◌≡◌ {A = ℕ} 10 0 = ap (λ (r : Record). r.outcome) (sym e) ∙ z in absurd (omega arith);
+          refused = λ f z. subst (λ (g : Refusal). (stopped (open_stops table room) ≡ true) × (refusal_record g ≡ stop_at (open_stops table room) (completed 0 0))) (same_Err e f z) it;
+          goes = λ z. absurd (ok-err tt e (sym z));
+          placed = λ z. absurd (ok-err tt e (sym z));
         }
 
+    pub begin_10 : room < 16384 → Begun table room widths places (Err Room)
+    unfolding open_stops stop_at stopped
+    begin_10 l = stops_with Room (rw (lt-ltb room 16384 l) (refl, refl))
+
     module _ (l : 16384 ≤ room) where
-      pub begin_fault : is_accepted (first_fault table) ≡ false → found ≡ fault_record (first_fault table) → Begun table room widths places found
-      unfolding open_stops stop_at
-      begin_fault h e =
-          record {
-            found_is = rw (le-ltb room 16384 l, h) e;
-            placed = λ z.
-                let n : fault_number (first_fault table) ≡ 0 = ap (λ (r : Record). r.outcome) (sym e) ∙ z in
-                absurd (not_both refl (rw n at (fault_high (first_fault table) h).1));
-          }
+      pub begin_fault : (f : Fault) → first_fault table ≡ Err f → (begun : Result ⊤ Refusal) → begun ≡ Err (Table f) → Begun table room widths places begun
+      unfolding open_stops stop_at stopped
+      begin_fault f h begun e =
+          subst (λ (b : Result ⊤ Refusal). Begun table room widths places b) (sym e)
+          (stops_with (Table f) (rw (le-ltb room 16384 l, h) (refl, refl)))
 
       module _ (accepted : first_fault table ≡ Accepted) where
-        pub begin_43 : breaks43 (rows_of table) ≡ true → found ≡ refusal 43 0 → Begun table room widths places found
-        unfolding open_stops stop_at
-        begin_43 h e =
-            record {
-              found_is = rw (le-ltb room 16384 l, accepted, h) e;
-              placed = λ z. let n : ◌≡◌ {A = ℕ} 43 0 = ap (λ (r : Record). r.outcome) (sym e) ∙ z in absurd (omega arith);
-            }
+        pub begin_43 : breaks43 (rows_of table) ≡ true → Begun table room widths places (Err Lined)
+        unfolding open_stops stop_at stopped
+        begin_43 h = stops_with Lined (rw (le-ltb room 16384 l, accepted, h) (refl, refl))
 
-        pub begin_goes : breaks43 (rows_of table) ≡ false → Placed table widths places → found ≡ completed 0 0 → Begun table room widths places found
-        unfolding open_stops stop_at
-        begin_goes h P e = record { found_is = rw (le-ltb room 16384 l, accepted, h) e; placed = λ z. P }
+        pub begin_goes : breaks43 (rows_of table) ≡ false → Placed table widths places → Begun table room widths places (Ok tt)
+        unfolding open_stops stopped
+        begin_goes h P = record { refused = λ f z. absurd (ok-err tt f z); goes = λ _. rw (le-ltb room 16384 l, accepted, h) refl; placed = λ z. P }
 
-  -- outcome 0: no refusal
+  -- no refusal
   pub record Goes : Type 0 where
     pub enough : 16384 ≤ room
     pub accepted : first_fault table ≡ Accepted
     pub plain : breaks43 (rows_of table) ≡ false
 
-  pub goes : (found : Record) → found ≡ stop_at (open_stops table room) (completed 0 0) → found.outcome ≡ 0 → Goes
-  unfolding open_stops stop_at
-  goes found e o = go (ltb room 16384) refl (is_accepted (first_fault table)) refl (breaks43 (rows_of table)) refl (ap (λ (r : Record). r.outcome) (sym e) ∙ o)
+  pub goes : stopped (open_stops table room) ≡ false → Goes
+  unfolding open_stops stopped
+  goes e = go (ltb room 16384) refl (is_accepted (first_fault table)) refl (breaks43 (rows_of table)) refl e
     where
       go : (a : Bool) → ltb room 16384 ≡ a → (b : Bool) → is_accepted (first_fault table) ≡ b → (c : Bool) → breaks43 (rows_of table) ≡ c
-          → (cond a (refusal 10 0) (cond (not b) (fault_record (first_fault table)) (cond c (refusal 43 0) (completed 0 0)))).outcome ≡ 0 → Goes
-      go true x b y c z h = let n : ◌≡◌ {A = ℕ} 10 0 = h in absurd (omega arith)
-      go false x false y c z h = let n : fault_number (first_fault table) ≡ 0 = h in absurd (not_both refl (rw n at (fault_high (first_fault table) y).1))
-      go false x true y true z h = let n : ◌≡◌ {A = ℕ} 43 0 = h in absurd (omega arith)
+          → a || (not b || (c || false)) ≡ false → Goes
+      go true x b y c z h = absurd (not_both refl h)
+      go false x false y c z h = absurd (not_both refl h)
+      go false x true y true z h = absurd (not_both refl h)
       go false x true y false z h = record { enough = ltb-false room 16384 x; accepted = fault_none (first_fault table) y; plain = z }
 
-  -- any other outcome: a refusal, whatever would follow, and no outcome of an answer
-  pub refused : (found : Record) → found ≡ stop_at (open_stops table room) (completed 0 0) → found.outcome ≢ 0
-      → (stopped (open_stops table room) ≡ true) × (eqb found.outcome 2 ≡ false)
+  -- the record of a refusal is that of no answer
+  pub no_answer : stopped (open_stops table room) ≡ true → eqb (stop_at (open_stops table room) (completed 0 0)).outcome 2 ≡ false
   unfolding open_stops stop_at stopped
-  refused found e o =
-      let it = go (ltb room 16384) (is_accepted (first_fault table)) refl (breaks43 (rows_of table)) (λ z. o (ap (λ (r : Record). r.outcome) e ∙ z)) in
-      (it.0, ap (λ (r : Record). eqb r.outcome 2) e ∙ it.1)
+  no_answer h = go (ltb room 16384) (is_accepted (first_fault table)) refl (breaks43 (rows_of table)) h
     where
-      go : (a b : Bool) → is_accepted (first_fault table) ≡ b → (c : Bool)
-          → (cond a (refusal 10 0) (cond (not b) (fault_record (first_fault table)) (cond c (refusal 43 0) (completed 0 0)))).outcome ≢ 0
-          → (a || (not b || (c || false)) ≡ true)
-          × (eqb (cond a (refusal 10 0) (cond (not b) (fault_record (first_fault table)) (cond c (refusal 43 0) (completed 0 0)))).outcome 2 ≡ false)
-      go true b y c h = (refl, refl)
-      go false false y c h = (refl, (fault_high (first_fault table) y).0)
-      go false true y true h = (refl, refl)
-      go false true y false h = absurd (h refl)
+      go : (a b : Bool) → is_accepted (first_fault table) ≡ b → (c : Bool) → a || (not b || (c || false)) ≡ true
+          → eqb (cond a (refusal 10 0) (cond (not b) (fault_record (first_fault table)) (cond c (refusal 43 0) (completed 0 0)))).outcome 2 ≡ false
+      go true b y c h = refl
+      go false false y c h = (fault_high (first_fault table) y).0
+      go false true y true h = refl
+      go false true y false h = absurd (not_both h refl)
 
 -- ---- a step
 abbrev pub StepEnds : List ℕ → ℕ → ℕ → List ℕ → Record → ℕ → ℕ → List ℕ → Type 0

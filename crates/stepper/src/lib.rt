@@ -6,35 +6,31 @@ ghost use Rattle.std.specs.Prelude.{◌≡◌, cond, suc, eqb, length};
 ghost use Rattle.jobs.specs.Call.{open_record, open_job, open_work, step_record, step_job, step_work, job_answer_record, job_answer_after};
 ghost use Rattle.steps.specs.inner.Steps.{goes_on, StepsPlaced, PreviewsPlaced, Begins, OpensArea, AnswersPlaced};
 
+use jobs::Job;
+use records::Refusal;
 use steps::Step;
 use terms::Record;
 
-// How each call of a job begins, with a work area of so many numbers: 10, the table's refusals, 43; outcome 0 where none of these is met, and
-// then the table is placed.
-fn begin(table: &[u16], room: usize, widths: &mut [u16], places: &mut [u16]) -> Record
+// How each call of a job begins, with a work area of so many numbers: 10, the table's refusals, 43; where none of these is met, the table is
+// placed.
+fn begin(table: &[u16], room: usize, widths: &mut [u16], places: &mut [u16]) -> Result<(), Refusal>
     ensures { Begins table.now room (length widths.old) (length places.old) widths.new places.new result }
 {
     if room < solver::MEMORY {
-        return records::refuse(10, 0);
+        return Err(Refusal::Room);
     }
-    let fault = checker::check_and_place(table, widths, places);
-    if !records::accepted(fault) {
-        return records::fault_record(fault);
-    }
+    checker::check_and_place(table, widths, places)?;
     if states::lined(table) {
-        return records::refuse(43, 0);
+        return Err(Refusal::Lined);
     }
-    records::complete(0, 0)
+    Ok(())
 }
 
 // Whether a record is that of a step that leaves a pattern.
 fn goes_on(outcome: u32) -> bool
     ensures { result ≡ goes_on outcome }
 {
-    if outcome == 0 {
-        return true;
-    }
-    outcome == 2
+    outcome == 0 || outcome == 2
 }
 
 // A step on a job, with a link for each source. The work area is written only where a pattern is left.
@@ -43,16 +39,14 @@ fn step_with(
     widths: &[u16],
     places: &[u16],
     bits: usize,
-    next: u32,
-    ties: u32,
+    job: Job,
     work: &mut [u16],
     links: &mut [u16],
 ) -> Step
-    ensures { length links.old ≡ suc (suc bits) → StepsPlaced table.now widths.now places.now bits next ties work.old work.new result.found result.next result.ties }
+    ensures { length links.old ≡ suc (suc bits) → StepsPlaced table.now widths.now places.now bits job.next job.ties work.old work.new result.found result.job.next result.job.ties }
 {
-    let step = steps::try_step(table, widths, places, bits, next, ties, work, links);
-    let found = step.found;
-    if goes_on(found.outcome) {
+    let step = steps::try_step(table, widths, places, bits, job, work, links);
+    if goes_on(step.found.outcome) {
         areas::put_holders(links, work);
     }
     step
@@ -64,45 +58,41 @@ fn step_placed(
     widths: &[u16],
     places: &[u16],
     bits: usize,
-    next: u32,
-    ties: u32,
+    job: Job,
     work: &mut [u16],
 ) -> Step
-    ensures { StepsPlaced table.now widths.now places.now bits next ties work.old work.new result.found result.next result.ties }
+    ensures { StepsPlaced table.now widths.now places.now bits job.next job.ties work.old work.new result.found result.job.next result.job.ties }
 {
     let mut links = [0u16; 4098];
-    let sources = numbers::lesser(bits, terms::MAX_BITS) + 2;
+    let sources = bits.min(terms::MAX_BITS) + 2;
     step_with(
         table,
         widths,
         places,
         bits,
-        next,
-        ties,
+        job,
         work,
         &mut links[..sources],
     )
 }
 
 // Takes the next equation of a job.
-pub fn step_at(table: &[u16], next: u32, ties: u32, work: &mut [u16]) -> Step
-    ensures record { result.found ≡ step_record table.now next ties work.old }
-    ensures next { result.next ≡ (step_job table.now next ties work.old).next }
-    ensures ties { result.ties ≡ (step_job table.now next ties work.old).ties }
-    ensures work { work.new ≡ step_work table.now next ties work.old }
+pub fn step_at(table: &[u16], job: Job, work: &mut [u16]) -> Step
+    ensures record { result.found ≡ step_record table.now job.next job.ties work.old }
+    ensures next { result.job.next ≡ (step_job table.now job.next job.ties work.old).next }
+    ensures ties { result.job.ties ≡ (step_job table.now job.next job.ties work.old).ties }
+    ensures work { work.new ≡ step_work table.now job.next job.ties work.old }
 {
     let mut widths = [0u16; 512];
     let mut places = [0u16; 578];
-    let stop = begin(table, work.len(), &mut widths[..], &mut places[..]);
-    if stop.outcome > 0 {
+    if let Err(refusal) = begin(table, work.len(), &mut widths[..], &mut places[..]) {
         return Step {
-            found: stop,
-            next: next,
-            ties: ties,
+            found: refusal.record(),
+            job,
         };
     }
-    let bits = numbers::wide(places[checker::BITS]);
-    step_placed(table, &widths[..], &places[..], bits, next, ties, work)
+    let bits = usize::from(places[checker::BITS]);
+    step_placed(table, &widths[..], &places[..], bits, job, work)
 }
 
 // The record of a step on a job of a table that was checked and placed. The links are an array of its own, of which nothing is kept.
@@ -111,73 +101,68 @@ fn preview_placed(
     widths: &[u16],
     places: &[u16],
     bits: usize,
-    next: u32,
-    ties: u32,
+    job: Job,
     work: &[u16],
 ) -> Record
-    ensures { PreviewsPlaced table.now widths.now places.now bits next ties work.now result }
+    ensures { PreviewsPlaced table.now widths.now places.now bits job.next job.ties work.now result }
 {
     let mut links = [0u16; 4098];
-    let sources = numbers::lesser(bits, terms::MAX_BITS) + 2;
-    let step = steps::try_step(
+    let sources = bits.min(terms::MAX_BITS) + 2;
+    steps::try_step(
         table,
         widths,
         places,
         bits,
-        next,
-        ties,
+        job,
         work,
         &mut links[..sources],
-    );
-    step.found
+    )
+    .found
 }
 
 // What the next step of a job would return. Nothing that is lent is written.
-pub fn preview_at(table: &[u16], next: u32, ties: u32, work: &[u16]) -> Record
-    ensures record { result ≡ step_record table.now next ties work.now }
+pub fn preview_at(table: &[u16], job: Job, work: &[u16]) -> Record
+    ensures record { result ≡ step_record table.now job.next job.ties work.now }
 {
     let mut widths = [0u16; 512];
     let mut places = [0u16; 578];
-    let stop = begin(table, work.len(), &mut widths[..], &mut places[..]);
-    if stop.outcome > 0 {
-        return stop;
+    if let Err(refusal) = begin(table, work.len(), &mut widths[..], &mut places[..]) {
+        return refusal.record();
     }
-    let bits = numbers::wide(places[checker::BITS]);
-    preview_placed(table, &widths[..], &places[..], bits, next, ties, work)
+    let bits = usize::from(places[checker::BITS]);
+    preview_placed(table, &widths[..], &places[..], bits, job, work)
 }
 
 // The work area of a job that is opened: each place holds itself, and all else is 0.
 fn open_area(bits: usize, work: &mut [u16])
     ensures { OpensArea bits work.old work.new }
 {
-    numbers::clear(work);
-    let n = numbers::lesser(bits, work.len());
+    work.fill(0);
+    let n = bits.min(work.len());
     linking::unlink(&mut work[..n]);
 }
 
 // Opens a job.
-pub fn open_at(table: &[u16], next: u32, ties: u32, work: &mut [u16]) -> Step
+pub fn open_at(table: &[u16], job: Job, work: &mut [u16]) -> Step
     ensures record { result.found ≡ open_record table.now (length work.old) }
-    ensures next { result.next ≡ (open_job table.now next ties (length work.old)).next }
-    ensures ties { result.ties ≡ (open_job table.now next ties (length work.old)).ties }
+    ensures next { result.job.next ≡ (open_job table.now job.next job.ties (length work.old)).next }
+    ensures ties { result.job.ties ≡ (open_job table.now job.next job.ties (length work.old)).ties }
     ensures work { work.new ≡ open_work table.now work.old }
 {
     let mut widths = [0u16; 512];
     let mut places = [0u16; 578];
-    let stop = begin(table, work.len(), &mut widths[..], &mut places[..]);
-    if stop.outcome > 0 {
+    if let Err(refusal) = begin(table, work.len(), &mut widths[..], &mut places[..]) {
         return Step {
-            found: stop,
-            next: next,
-            ties: ties,
+            found: refusal.record(),
+            job,
         };
     }
-    let bits = numbers::wide(places[checker::BITS]);
+    let bits = usize::from(places[checker::BITS]);
     open_area(bits, work);
+    let next = numbers::short(sides::next_equation(table, 0, table.len() / 4));
     Step {
         found: records::complete(0, numbers::short(bits)),
-        next: numbers::short(sides::next_equation(table, 0, table.len() / 4)),
-        ties: 0,
+        job: Job { next, ties: 0 },
     }
 }
 
@@ -185,10 +170,7 @@ pub fn open_at(table: &[u16], next: u32, ties: u32, work: &mut [u16]) -> Step
 fn answer_row(next: u32, r: usize, rows: usize) -> usize
     ensures { result ≡ cond (eqb next 1000) r rows }
 {
-    if next == states::NEVER {
-        return r;
-    }
-    rows
+    if next == states::NEVER { r } else { rows }
 }
 
 // The answer so far of a job, with a link for each source.
@@ -197,39 +179,36 @@ fn answer_with(
     widths: &[u16],
     places: &[u16],
     bits: usize,
-    next: u32,
-    ties: u32,
+    job: Job,
     work: &[u16],
     links: &mut [u16],
     answer: &mut [u16],
 ) -> Record
-    ensures { length links.old ≡ suc (suc bits) → AnswersPlaced table.now widths.now places.now bits next ties work.now answer.old answer.new result }
+    ensures { length links.old ≡ suc (suc bits) → AnswersPlaced table.now widths.now places.now bits job.next job.ties work.now answer.old answer.new result }
 {
     let mut short = [0u16; 2048];
     let mut left = [0u16; 4096];
     let mut right = [0u16; 4096];
-    let rows = table.len() / 4;
     let len = copies::copy(table, &mut short[..]);
-    let r = states::read_state(
+    let Some(r) = states::read_state(
         table,
         &short[..len],
         widths,
         places,
-        next,
-        ties,
+        job,
         work,
         &mut left[..],
         &mut right[..],
         links,
-    );
-    if rows < r {
-        return records::refuse(44, 0);
-    }
+    ) else {
+        return Refusal::NoJob.record();
+    };
+    let row = answer_row(job.next, r, table.len() / 4);
     solver::answer_taken(
         table,
         bits,
-        answer_row(next, r, rows),
-        ties as usize,
+        row,
+        job.ties as usize,
         links,
         &mut left[..],
         answer,
@@ -242,22 +221,20 @@ fn answer_placed(
     widths: &[u16],
     places: &[u16],
     bits: usize,
-    next: u32,
-    ties: u32,
+    job: Job,
     work: &[u16],
     answer: &mut [u16],
 ) -> Record
-    ensures { AnswersPlaced table.now widths.now places.now bits next ties work.now answer.old answer.new result }
+    ensures { AnswersPlaced table.now widths.now places.now bits job.next job.ties work.now answer.old answer.new result }
 {
     let mut links = [0u16; 4098];
-    let sources = numbers::lesser(bits, terms::MAX_BITS) + 2;
+    let sources = bits.min(terms::MAX_BITS) + 2;
     answer_with(
         table,
         widths,
         places,
         bits,
-        next,
-        ties,
+        job,
         work,
         &mut links[..sources],
         answer,
@@ -265,28 +242,18 @@ fn answer_placed(
 }
 
 // The answer so far of a job.
-pub fn answer_at(table: &[u16], next: u32, ties: u32, work: &[u16], answer: &mut [u16]) -> Record
-    ensures record { result ≡ job_answer_record table.now next ties work.now (length answer.old) }
-    ensures answer { answer.new ≡ job_answer_after table.now next ties work.now answer.old }
+pub fn answer_at(table: &[u16], job: Job, work: &[u16], answer: &mut [u16]) -> Record
+    ensures record { result ≡ job_answer_record table.now job.next job.ties work.now (length answer.old) }
+    ensures answer { answer.new ≡ job_answer_after table.now job.next job.ties work.now answer.old }
 {
     if answer.len() < solver::ANSWER {
-        return records::refuse(10, 0);
+        return Refusal::Room.record();
     }
     let mut widths = [0u16; 512];
     let mut places = [0u16; 578];
-    let stop = begin(table, work.len(), &mut widths[..], &mut places[..]);
-    if stop.outcome > 0 {
-        return stop;
+    if let Err(refusal) = begin(table, work.len(), &mut widths[..], &mut places[..]) {
+        return refusal.record();
     }
-    let bits = numbers::wide(places[checker::BITS]);
-    answer_placed(
-        table,
-        &widths[..],
-        &places[..],
-        bits,
-        next,
-        ties,
-        work,
-        answer,
-    )
+    let bits = usize::from(places[checker::BITS]);
+    answer_placed(table, &widths[..], &places[..], bits, job, work, answer)
 }

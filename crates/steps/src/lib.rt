@@ -6,6 +6,7 @@ ghost use Rattle.std.specs.Prelude.{◌≡◌, cond, ◌/◌, ◌<◌, eqb, leng
 ghost use Rattle.steps.specs.inner.Steps.{next_row, StepsFrom, TriesStep};
 
 use jobs::Job;
+use records::Refusal;
 use terms::Record;
 
 // What a call on a job yields: the record, and the job as it is then.
@@ -90,7 +91,7 @@ pub fn try_step(
         links,
     ) else {
         return Step {
-            found: records::refuse(44, 0),
+            found: Refusal::NoJob.record(),
             job,
         };
     };
@@ -100,7 +101,7 @@ pub fn try_step(
     }
     if rows <= r {
         return Step {
-            found: records::refuse(45, 0),
+            found: Refusal::Ended.record(),
             job,
         };
     }

@@ -1,6 +1,5 @@
 -- `preview_placed` meets its contract. Assumes nothing.
-use borrow.Author.Rules.{rules}
-use mathlib.Core.Path.{◌≡◌, ◌∙◌}
+use mathlib.Core.Path.{◌∙◌}
 use Prim.Native.Nat.{ℕ, ◌+◌}
 use native.Mathlib.Omega.{arith}
 use lib.ListN.{replicate, length-replicate}
@@ -11,5 +10,5 @@ use Rattle.stepper.proofs.preview_placed.Goals as goal
 pub returns : goal.returns
 returns c =
     λ placed plain wide long.
-    let many = length-take-le {A = ℕ} (c.lesser-sources.result + 2) (replicate 4098 0) (omega (arith, c.lesser-sources.ensures.1, length-replicate {A = ℕ} 4098 0)) in
-    (c.try_step-step.ensures placed plain wide long (many ∙ omega (arith, c.lesser-sources.ensures.0, wide, table_bits _ placed.numbered.accepted))).found_is
+    let many = length-take-le {A = ℕ} (c.min-sources.result + 2) (replicate 4098 0) (omega (arith, c.min-sources.ensures, length-replicate {A = ℕ} 4098 0)) in
+    (c.try_step.ensures placed plain wide long (many ∙ omega (arith, c.min-sources.ensures, wide, table_bits _ placed.numbered.accepted))).found_is

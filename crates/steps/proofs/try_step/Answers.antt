@@ -40,7 +40,7 @@ returns-in_default c =
     λ placed plain wide long many.
     let table = c.args.table.now in
     let accepted = placed.numbered.accepted in
-    refused_44 table accepted plain _ _ _ (past_end table accepted plain _ _ _ _ _ (read c.before.before.before.before.before.before.before placed plain wide many long) c.in_default.is) _ _ c.refuse.ensures
+    refused_44 table accepted plain _ _ _ (past_end table accepted plain _ _ _ _ _ (read c.before.before.before.before.before.before.before placed plain wide many long) c.in_default.is) _ _ c.record.ensures
 
 pub returns-then-job-eq-NEVER : goal.returns-then-job-eq-NEVER
 returns-then-job-eq-NEVER c =
@@ -57,7 +57,7 @@ returns-then-rows-r c =
     let accepted = placed.numbered.accepted in
     let S = row_read table accepted plain _ _ _ _ _ _ c.in-Some.is (read c.before.before.before.before.before.before.before.before.before.before placed plain wide many long) in
     refused_45 table accepted plain _ _ _ _ _ S c.if-job-eq-NEVER.false
-    (omega (arith, c.if-rows-r.true, rows_length table, inside_table table accepted plain _ _ _ _ _ S)) _ _ c.refuse-then-rows-r.ensures
+    (omega (arith, c.if-rows-r.true, rows_length table, inside_table table accepted plain _ _ _ _ _ S)) _ _ c.record-then-rows-r.ensures
 
 pub returns : goal.returns
 returns c =

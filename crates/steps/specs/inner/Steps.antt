@@ -1,5 +1,5 @@
 -- What the inner functions promise of a step, of the opening and of the answer so far, once the table is accepted and has no line number.
-use Rattle.std.specs.Prelude.{◌≡◌, Bool, true, false, ◌||◌, cond, List, [], ◌∷◌, ℕ, suc, ◌+◌, ◌/◌, ◌%◌, ◌≤◌, eqb, length, replicate}
+use Rattle.std.specs.Prelude.{◌≡◌, ⊤, Result, Ok, Err, Bool, true, false, ◌||◌, cond, List, [], ◌∷◌, ℕ, suc, ◌+◌, ◌/◌, ◌%◌, ◌≤◌, eqb, length, replicate}
 use Rattle.laws.specs.Lists.{count_up}
 use Rattle.laws.specs.Buffers.{overwrite}
 use Rattle.terms.specs.declared.Record.{Record}
@@ -7,6 +7,8 @@ use Rattle.terms.specs.declared.Row.{Row}
 use Rattle.terms.specs.Table.{rows_of, bits_of, next_equation}
 use Rattle.terms.specs.Calls.{refusal, completed, stop_at, stopped}
 use Rattle.terms.specs.inner.Placed.{Placed}
+use Rattle.records.specs.declared.Refusal.{Refusal}
+use Rattle.records.specs.Refusals.{refusal_record}
 use Rattle.answers.specs.Answer.{answer_numbers}
 use Rattle.answers.specs.Solve.{unsatisfiable, solved_rows, answer_record, ties_to}
 use Rattle.jobs.specs.declared.Job.{Job}
@@ -82,13 +84,14 @@ PreviewsPlaced table widths places bits next ties work found =
     Placed table widths places → breaks43 (rows_of table) ≡ false → bits ≡ bits_of (rows_of table) → 16384 ≤ length work
     → found ≡ placed_record (rows_of table) next ties work
 
--- How a call of a job begins, with a work area of so many numbers: the first refusal that the opening has too, or outcome 0, and then the table is placed.
-pub record Begun (table : List ℕ) (room : ℕ) (widths places : List ℕ) (found : Record) : Type 0 where
-  pub found_is : found ≡ stop_at (open_stops table room) (completed 0 0)
-  pub placed : found.outcome ≡ 0 → Placed table widths places
+-- How a call of a job begins, with a work area of so many numbers: the first refusal that the opening has too; where it has none, the table is placed.
+pub record Begun (table : List ℕ) (room : ℕ) (widths places : List ℕ) (begun : Result ⊤ Refusal) : Type 0 where
+  pub refused : (e : Refusal) → begun ≡ Err e → (stopped (open_stops table room) ≡ true) × (refusal_record e ≡ stop_at (open_stops table room) (completed 0 0))
+  pub goes : begun ≡ Ok tt → stopped (open_stops table room) ≡ false
+  pub placed : begun ≡ Ok tt → Placed table widths places
 
-abbrev pub Begins : List ℕ → ℕ → ℕ → ℕ → List ℕ → List ℕ → Record → Type 0
-Begins table room widthsRoom placesRoom widths places found = 512 ≤ widthsRoom → 578 ≤ placesRoom → Begun table room widths places found
+abbrev pub Begins : List ℕ → ℕ → ℕ → ℕ → List ℕ → List ℕ → Result ⊤ Refusal → Type 0
+Begins table room widthsRoom placesRoom widths places begun = 512 ≤ widthsRoom → 578 ≤ placesRoom → Begun table room widths places begun
 
 -- The area of a job that is opened, with room for so many places: each holds itself, and all else is 0.
 abbrev pub OpensArea : ℕ → List ℕ → List ℕ → Type 0
