@@ -1,6 +1,6 @@
 -- `fixed_bit` meets its contract: each bit of a fill is the fill's, and bit i from the high end of a value is its number's bit b - 1 - i from
 -- the low end. Assumes nothing.
-use mathlib.Core.Path.{◌≡◌, ◌∙◌, ap}
+use mathlib.Core.Path.{◌∙◌, ap}
 use Prim.Native.Nat.{ℕ, ◌-◌, ◌/◌, ◌%◌, ◌^◌}
 use Rattle.evaluator.proofs.Bits.{fill_at, value_at}
 use Rattle.evaluator.proofs.fixed_bit.Goals as goal

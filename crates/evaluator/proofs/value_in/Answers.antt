@@ -1,11 +1,11 @@
 -- `value_in` meets its contract: each way in which it ends has its law in ValueCall.antt of terms. Assumes nothing.
 use mathlib.Core.Path.{◌≡◌, refl, sym, ◌∙◌, ap}
-use mathlib.Core.Bool.{Bool, true, false}
+use mathlib.Core.Bool.{Bool, true}
 use mathlib.Core.List.{List}
 use Prim.Native.Nat.{ℕ, ◌/◌, ◌≤◌}
 use native.Mathlib.Omega.{arith}
 use lib.ListN.{length, get_or}
-use Rattle.terms.specs.Table.{rows_of, width_of}
+use Rattle.terms.specs.Table.{rows_of}
 use Rattle.terms.specs.Faults.{absent, is_accepted, first_fault, not_term}
 use Rattle.terms.specs.Calls.{completed}
 use Rattle.terms.specs.inner.Placed.{Placed}
@@ -42,10 +42,10 @@ returns-then-bits-pattern c =
     let there = told _ _ _ c.not_term.ensures ∙ c.if-not_term.false in
     let bits = c.from-bits.ensures ∙ c.requires.placed.bits_are in
     let both = stop_pattern _ _ _ _ (good c.requires.placed) there
-        (elim c.then-bits-pattern.branch [
-          then-bits-pattern-via-then-bits-pattern w ↦ pattern_short _ _ (λ e. w.if-bits-pattern.true (bits ∙ e))
-          | then-bits-pattern-via-else-bits-pattern+then-not-all_bits w ↦ pattern_broken _ _ (sym w.all_bits.ensures ∙ w.if-not-all_bits.true)
-        ]) _ refl in
+    (elim c.then-bits-pattern.branch [
+      | then-bits-pattern-via-then-bits-pattern w ↦ pattern_short _ _ (λ e. w.if-bits-pattern.true (bits ∙ e))
+      | then-bits-pattern-via-else-bits-pattern+then-not-all_bits w ↦ pattern_broken _ _ (sym w.all_bits.ensures ∙ w.if-not-all_bits.true)
+    ]) _ refl in
     record { «record» = both.0; output = both.1 }
 
 pub bounds-places-577 : goal.bounds-places-577
@@ -87,5 +87,5 @@ returns c =
     let right = pattern_right _ _ (sym (c.from-bits.ensures ∙ p.bits_are) ∙ c.if-bits-pattern.false) (sym c.all_bits.ensures ∙ c.if-not-all_bits.false) in
     let width = p.numbered.widths_are _ (row_there _ _ there).there in
     let both = written _ _ _ _ (good p) there right (omega (arith, width, c.from.ensures, c.if-output-from.false)) _ _
-        (c.complete.ensures ∙ ap (completed 0) (c.into.ensures ∙ width)) c.write_value.ensures in
+    (c.complete.ensures ∙ ap (completed 0) (c.into.ensures ∙ width)) c.write_value.ensures in
     record { «record» = both.0; output = both.1 }
