@@ -9,9 +9,8 @@ use lib.ListN.{length, drop}
 use borrow.Author.Tests.{not-true}
 use Rattle.terms.specs.declared.Row.{Row}
 use Rattle.terms.specs.declared.Record.{Record}
-use Rattle.terms.specs.declared.Fault.TheVariants.{Accepted}
 use Rattle.terms.specs.Assignments.{Assignment, every, count}
-use Rattle.terms.specs.Faults.{first_fault}
+use Rattle.terms.specs.Faults.{Accepted, first_fault}
 use Rattle.terms.specs.Table.{rows_of, bits_of, satisfies}
 use Rattle.terms.proofs.Assignments.{every_at, every_of, count_none_of, count_none_at, count-all_of, count-all_at}
 use Rattle.answers.specs.Pairs.{Pair, equation_pairs, satisfies_pairs, equal_under}

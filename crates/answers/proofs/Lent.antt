@@ -10,10 +10,9 @@ use lib.Dec.{ltb}
 use lib.ListN.{length, take, drop, replicate}
 use lib.Seq.{take_at}
 use borrow.Author.Tests.{le-ltb, lt-ltb}
-use Rattle.terms.specs.declared.Fault.TheVariants.{Accepted}
 use Rattle.terms.specs.Acceptance.{Exactly}
 use Rattle.terms.specs.Calls.{fault_number, refusal, stop_at}
-use Rattle.terms.specs.Faults.{first_fault, is_accepted}
+use Rattle.terms.specs.Faults.{Accepted, first_fault, is_accepted}
 use Rattle.terms.specs.Table.{rows_of, bits_of, satisfies}
 use Rattle.terms.proofs.AcceptedTable.{fault_none, fault_high, table_bits}
 use Rattle.laws.proofs.Buffers.{overwrite-fits}

@@ -12,10 +12,9 @@ use borrow.Author.Tests.{eq-eqb}
 use Rattle.laws.proofs.Bools.{or_right}
 use Rattle.laws.proofs.Numbers.{lt_or_le}
 use Rattle.terms.specs.declared.Row.{Row}
-use Rattle.terms.specs.declared.Fault.TheVariants.{Accepted}
 use Rattle.terms.specs.Counting.{Revised, Counts}
 use Rattle.terms.specs.Table.{rows_of, row_numbers, row_at, no_row, if_variable, bits_of, bit_of, sources_of, source_of, evened, silent_row, counting, satisfies}
-use Rattle.terms.specs.Faults.{first_fault}
+use Rattle.terms.specs.Faults.{Accepted, first_fault}
 use Rattle.terms.proofs.Assignments.{every_of}
 use Rattle.terms.proofs.RowKinds.{Equation, of_other, of_equation, of_term}
 use Rattle.terms.proofs.RowNumbers.{rows_written}

@@ -10,9 +10,8 @@ use lib.ListN.{length, take, drop}
 use lib.Seq.{take_all}
 use borrow.Author.Tests.{not-true}
 use Rattle.terms.specs.declared.Row.{Row}
-use Rattle.terms.specs.declared.Fault.TheVariants.{Accepted}
 use Rattle.terms.specs.Assignments.{Assignment, every, count}
-use Rattle.terms.specs.Faults.{first_fault}
+use Rattle.terms.specs.Faults.{Accepted, first_fault}
 use Rattle.terms.specs.Table.{rows_of, row_at, bits_of, bit_of, counting, satisfies}
 use Rattle.laws.specs.Lists.{count_up}
 use Rattle.terms.proofs.AcceptedTable.{accepted_table}

@@ -14,12 +14,12 @@ use Rattle.laws.proofs.Bools.{not_both, and_parts, or_first, or_second, or_right
 use Rattle.laws.proofs.Numbers.{dec_eq, lt_or_le}
 use Rattle.terms.specs.declared.Record.{Record}
 use Rattle.terms.specs.declared.Row.{Row}
-use Rattle.terms.specs.declared.Fault.{Fault}
-use Rattle.terms.specs.declared.Fault.TheVariants.{Accepted, Shape, Kind, Unused, Named, Width, Value, Bounds, Count}
+use Rattle.std.specs.Prelude.{Ok, Err}
+use Rattle.terms.specs.declared.Fault.TheVariants.{Shape, Kind, Unused, Named, Width, Value, Bounds, Count}
 use Rattle.terms.specs.Acceptance.{Exactly}
 use Rattle.terms.specs.Assignments.{Assignment, count}
 use Rattle.terms.specs.Calls.{refusal, completed, fault_number, stop_at, stopped}
-use Rattle.terms.specs.Faults.{is_accepted, first_fault}
+use Rattle.terms.specs.Faults.{Found, Accepted, is_accepted, first_fault}
 use Rattle.terms.specs.Table.{rows_of, row_numbers, bits_of, same_word, satisfies, counting}
 use Rattle.terms.proofs.AcceptedTable.{fault_none, fault_high}
 use Rattle.terms.proofs.Assignments.{assignment_of}
@@ -223,16 +223,16 @@ late_number n m e h (inr (inr (inl z))) = h.1.1.0 (sym e ∙ z)
 late_number n m e h (inr (inr (inr z))) = h.1.1.1 (sym e ∙ z)
 
 -- none of them is that of a fault
-fault_early : (f : Fault) → is_accepted f ≡ false → (fault_number f ≢ 46) × ((fault_number f ≢ 34) × ((fault_number f ≢ 32) × (fault_number f ≢ 0)))
-fault_early Accepted h = let z : ◌≡◌ {A = ℕ} 0 1 = cc in absurd (omega arith)
-fault_early Shape h = (omega arith, (omega arith, (omega arith, omega arith)))
-fault_early (Kind r) h = (omega arith, (omega arith, (omega arith, omega arith)))
-fault_early (Unused r) h = (omega arith, (omega arith, (omega arith, omega arith)))
-fault_early (Named r) h = (omega arith, (omega arith, (omega arith, omega arith)))
-fault_early (Width r) h = (omega arith, (omega arith, (omega arith, omega arith)))
-fault_early (Value r) h = (omega arith, (omega arith, (omega arith, omega arith)))
-fault_early (Bounds r) h = (omega arith, (omega arith, (omega arith, omega arith)))
-fault_early (Count r) h = (omega arith, (omega arith, (omega arith, omega arith)))
+fault_early : (f : Found) → is_accepted f ≡ false → (fault_number f ≢ 46) × ((fault_number f ≢ 34) × ((fault_number f ≢ 32) × (fault_number f ≢ 0)))
+fault_early (Ok x) h = let z : ◌≡◌ {A = ℕ} 0 1 = cc in absurd (omega arith)
+fault_early (Err Shape) h = (omega arith, (omega arith, (omega arith, omega arith)))
+fault_early (Err (Kind r)) h = (omega arith, (omega arith, (omega arith, omega arith)))
+fault_early (Err (Unused r)) h = (omega arith, (omega arith, (omega arith, omega arith)))
+fault_early (Err (Named r)) h = (omega arith, (omega arith, (omega arith, omega arith)))
+fault_early (Err (Width r)) h = (omega arith, (omega arith, (omega arith, omega arith)))
+fault_early (Err (Value r)) h = (omega arith, (omega arith, (omega arith, omega arith)))
+fault_early (Err (Bounds r)) h = (omega arith, (omega arith, (omega arith, omega arith)))
+fault_early (Err (Count r)) h = (omega arith, (omega arith, (omega arith, omega arith)))
 
 module _ (table answer fresh : List ℕ) (room : ℕ) (work : List ℕ) where
   -- it is kept, and the number is none of those; or it is 0, and the number is one of those

@@ -11,9 +11,8 @@ use lib.ListN.{length, get_or, take, set}
 use lib.Seq.{get_or-set_same, get_or-set_other, take-suc, take_all}
 use borrow.Author.Tests.{eq-eqb, ne_eqb}
 use Rattle.terms.specs.declared.Row.{Row}
-use Rattle.terms.specs.declared.Fault.TheVariants.{Accepted}
 use Rattle.terms.specs.Table.{rows_of, row_at, no_row, bits_in, bits_of}
-use Rattle.terms.specs.Faults.{first_fault}
+use Rattle.terms.specs.Faults.{Accepted, first_fault}
 use Rattle.terms.proofs.AcceptedTable.{accepted_table}
 use Rattle.terms.proofs.Faults.{totals_small}
 use Rattle.terms.proofs.Values.{bits_part}

@@ -9,9 +9,8 @@ use native.Mathlib.Omega.{arith}
 use lib.Dec.{eqb, ltb}
 use Rattle.terms.specs.declared.Record.{Record}
 use Rattle.terms.specs.declared.Row.{Row}
-use Rattle.terms.specs.declared.Fault.{Fault}
 use Rattle.terms.specs.Table.{rows_of, row_numbers}
-use Rattle.terms.specs.Faults.{first_fault, is_accepted}
+use Rattle.terms.specs.Faults.{Found, first_fault, is_accepted}
 use Rattle.terms.specs.Calls.{refusal, fault_number, fault_row, fault_record, stop_at}
 use Rattle.terms.specs.Value.{value_record}
 use Rattle.terms.proofs.Acceptance.{fault_never_18}
@@ -49,7 +48,7 @@ module _ (P : Record → Type 0) (fine : (r : Record) → r.outcome ≤ 3 → P 
   first stops accepted none k = k
   first stops accepted (more {s = s} {stops = rest} h hs) k = either s.0 s.1 (stop_at rest accepted) h (first rest accepted hs k)
 
-  fault : (f : Fault) → P (fault_record f)
+  fault : (f : Found) → P (fault_record f)
   fault f = go (is_accepted f) refl
     where
       go : (b : Bool) → is_accepted f ≡ b → P (fault_record f)

@@ -10,10 +10,10 @@ use lib.Dec.{eqb}
 use lib.ListN.{length, replicate}
 use borrow.Author.Tests.{eqb-true, eqb-false, ne_eqb, le-ltb}
 use Rattle.terms.specs.declared.Record.{Record}
-use Rattle.terms.specs.declared.Fault.{Fault}
-use Rattle.terms.specs.declared.Fault.TheVariants.{Accepted, Shape, Kind, Unused, Named, Width, Value, Bounds, Count}
+use Rattle.std.specs.Prelude.{Ok, Err}
+use Rattle.terms.specs.declared.Fault.TheVariants.{Shape, Kind, Unused, Named, Width, Value, Bounds, Count}
 use Rattle.terms.specs.Table.{rows_of, row_numbers}
-use Rattle.terms.specs.Faults.{first_fault, is_accepted}
+use Rattle.terms.specs.Faults.{Found, Accepted, first_fault, is_accepted}
 use Rattle.terms.specs.Calls.{refusal, fault_number, fault_record, stop_at, stopped}
 use Rattle.terms.specs.Value.{value_record, value_after}
 use Rattle.terms.proofs.AcceptedTable.{fault_high}
@@ -149,17 +149,17 @@ refusals c l =
 -- ---- a refused table
 
 -- its number is none after which a pattern call clears its area
-fault_keeps : (f : Fault) → clears (fault_number f) ≡ false
+fault_keeps : (f : Found) → clears (fault_number f) ≡ false
 unfolding clears
-fault_keeps Accepted = refl
-fault_keeps Shape = refl
-fault_keeps (Kind r) = refl
-fault_keeps (Unused r) = refl
-fault_keeps (Named r) = refl
-fault_keeps (Width r) = refl
-fault_keeps (Value r) = refl
-fault_keeps (Bounds r) = refl
-fault_keeps (Count r) = refl
+fault_keeps (Ok x) = refl
+fault_keeps (Err Shape) = refl
+fault_keeps (Err (Kind r)) = refl
+fault_keeps (Err (Unused r)) = refl
+fault_keeps (Err (Named r)) = refl
+fault_keeps (Err (Width r)) = refl
+fault_keeps (Err (Value r)) = refl
+fault_keeps (Err (Bounds r)) = refl
+fault_keeps (Err (Count r)) = refl
 
 module _ (t : List ℕ) (h : is_accepted (first_fault t) ≡ false) where
   by_value : (row : ℕ) (pattern : List ℕ) (room : ℕ) → value_record t row pattern room ≡ fault_record (first_fault t)

@@ -13,9 +13,10 @@ use lib.ListN.{length, get_or, take, set}
 use lib.Seq.{length-take-le, take_all}
 use Rattle.terms.specs.declared.Row.{Row}
 use Rattle.terms.specs.declared.Fault.{Fault}
-use Rattle.terms.specs.declared.Fault.TheVariants.{Accepted, Shape}
+use Rattle.std.specs.Prelude.{Err}
+use Rattle.terms.specs.declared.Fault.TheVariants.{Shape}
 use Rattle.terms.specs.Table.{rows_of, row_at, width_in, widths_of, width_of, bits_in, bits_of, count_kind}
-use Rattle.terms.specs.Faults.{breaks11, breaks12, breaks13, breaks14, breaks15, breaks40, breaks16, breaks17, misnamed, wrong_width, wrong_bounds, too_many, first_rule, rules_at, fault_at, is_accepted, lowest_fault, first_fault}
+use Rattle.terms.specs.Faults.{Found, Accepted, breaks11, breaks12, breaks13, breaks14, breaks15, breaks40, breaks16, breaks17, misnamed, wrong_width, wrong_bounds, too_many, first_rule, rules_at, fault_at, is_accepted, lowest_fault, first_fault}
 use Rattle.checker.specs.inner.Check.{fault_in, rows_before, rows_passed}
 use Rattle.rules.specs.inner.Rules.{rules_in}
 use Rattle.laws.specs.Buffers.{overwrite}
@@ -29,23 +30,23 @@ use Rattle.terms.specs.Sound.{Passed}
 use Rattle.terms.proofs.AcceptedTable.{accepted_table}
 
 -- a table of the wrong shape, or too little room: nothing is written
-pub wrong_shape : (room : ℕ) (table ws : List ℕ) → fault_in room table ≡ Shape → ws ≡ overwrite (widths_of (rows_passed room table)) ws
+pub wrong_shape : (room : ℕ) (table ws : List ℕ) → fault_in room table ≡ Err Shape → ws ≡ overwrite (widths_of (rows_passed room table)) ws
 unfolding rows_passed overwrite widths_of Rattle.terms.specs.Table.by_rows
 wrong_shape room table ws e = rw e
 
-pub no_room : (room : ℕ) (table : List ℕ) → room < 512 → Shape ≡ fault_in room table
+pub no_room : (room : ℕ) (table : List ℕ) → room < 512 → Err Shape ≡ fault_in room table
 unfolding fault_in
 no_room room table h = rw (lt-ltb room 512 h)
 
-pub not_whole : (room : ℕ) (table : List ℕ) → 512 ≤ room → (length table % 4 ≡ 0 → ⊥) → Shape ≡ fault_in room table
+pub not_whole : (room : ℕ) (table : List ℕ) → 512 ≤ room → (length table % 4 ≡ 0 → ⊥) → Err Shape ≡ fault_in room table
 unfolding fault_in first_fault breaks11
 not_whole room table h l = rw (le-ltb room 512 h, ne_eqb (length table % 4) 0 l)
 
-pub too_long : (room : ℕ) (table : List ℕ) → 512 ≤ room → 2048 < length table → Shape ≡ fault_in room table
+pub too_long : (room : ℕ) (table : List ℕ) → 512 ≤ room → 2048 < length table → Err Shape ≡ fault_in room table
 unfolding fault_in first_fault breaks11
 too_long room table h l = go (eqb (length table % 4) 0) refl
   where
-    go : (b : Bool) → eqb (length table % 4) 0 ≡ b → Shape ≡ fault_in room table
+    go : (b : Bool) → eqb (length table % 4) 0 ≡ b → Err Shape ≡ fault_in room table
     go true e =
         let n : 512 < length (rows_of table) = omega (arith, rows_length table, eqb-true (length table % 4) 0 e) in
         rw (le-ltb room 512 h, lt-ltb 512 (length (rows_of table)) n, or-true)
@@ -59,7 +60,7 @@ whole room table h l m = let n : length (rows_of table) ≤ 512 = omega (arith, 
 -- a fault's row: each rule of a row has a fault at it
 abbrev AllAt : ℕ → ℕ → List (Bool × Fault) → Type 0
 AllAt r n [] = Unit {0}
-AllAt r n (s ∷ rules) = (rows_before s.1 n ≡ r) × AllAt r n rules
+AllAt r n (s ∷ rules) = (rows_before (Err s.1) n ≡ r) × AllAt r n rules
 
 first-row : (r n : ℕ) (rules : List (Bool × Fault)) → AllAt r n rules → is_accepted (first_rule rules) ≡ false → rows_before (first_rule rules) n ≡ r
 unfolding first_rule
@@ -67,7 +68,7 @@ first-row r n [] all h = absurd (not_both refl h)
 first-row r n (s ∷ rules) all h = go s.0 (first-row r n rules all.1) h
   where
     go : (b : Bool) → (is_accepted (first_rule rules) ≡ false → rows_before (first_rule rules) n ≡ r)
-        → is_accepted (cond b s.1 (first_rule rules)) ≡ false → rows_before (cond b s.1 (first_rule rules)) n ≡ r
+        → is_accepted (cond b (Err s.1) (first_rule rules)) ≡ false → rows_before (cond b (Err s.1) (first_rule rules)) n ≡ r
     go true rest h = all.0
     go false rest h = rest h
 
@@ -161,7 +162,7 @@ module _ (table ws₀ ws : List ℕ) (variables bits equations r : ℕ) (k : Che
         rule_same _ _ _ _ _ (bounds_read m) (λ _.
         rule_same _ _ _ _ _ totals_are (λ _. refl))))))))
 
-    pub checking_answer : (row : Row) (v b e : ℕ) (f : Fault) → row ≡ row_at rows r
+    pub checking_answer : (row : Row) (v b e : ℕ) (f : Found) → row ≡ row_at rows r
         → v ≡ variables + cond (eqb row.kind 0) 1 0 → b ≡ bits + bits_in row → e ≡ equations + cond (eqb row.kind 4) 1 0
         → f ≡ first_rule (rules_in rows ws r row v b e) → f ≡ fault_at rows r
     checking_answer row v b e f er ev eb ee ef = ef ∙ rw (ev, eb, ee, er) checking_fault
@@ -203,7 +204,7 @@ module _ (table ws₀ ws : List ℕ) (variables bits equations r : ℕ) (k : Che
     checking_written a e =
         k.widths
         ∙ ap (λ (n : ℕ). overwrite (widths_of (take n rows)) ws₀)
-        (sym (ap (λ (f : Fault). rows_before f (length rows)) e
+        (sym (ap (λ (f : Found). rows_before f (length rows)) e
         ∙ fault-row rows r (length rows) a))
 
   -- no row left
@@ -215,7 +216,7 @@ module _ (table ws₀ ws : List ℕ) (variables bits equations r : ℕ) (k : Che
   unfolding rows_passed
   checking_all h e =
       k.widths
-      ∙ ap (λ (n : ℕ). overwrite (widths_of (take n rows)) ws₀) (let same : r ≡ length rows = omega (arith, k.within) in same ∙ sym (ap (λ (f : Fault). rows_before f (length rows)) e))
+      ∙ ap (λ (n : ℕ). overwrite (widths_of (take n rows)) ws₀) (let same : r ≡ length rows = omega (arith, k.within) in same ∙ sym (ap (λ (f : Found). rows_before f (length rows)) e))
 
 -- the check with room for 512 widths
 pub fault_found : (room : ℕ) (table : List ℕ) → 512 ≤ room → fault_in room table ≡ first_fault table
@@ -226,7 +227,7 @@ pub room_found : (room : ℕ) (table : List ℕ) → fault_in room table ≡ Acc
 unfolding fault_in
 room_found room table e = go (ltb room 512) refl e
   where
-    go : (b : Bool) → ltb room 512 ≡ b → cond b Shape (first_fault table) ≡ Accepted → 512 ≤ room
+    go : (b : Bool) → ltb room 512 ≡ b → cond b (Err Shape) (first_fault table) ≡ Accepted → 512 ≤ room
     go true t z = let w : ◌≡◌ {A = ℕ} 0 1 = cc in absurd (omega arith)
     go false t z = omega (arith, ltb-false room 512 t)
 
@@ -237,7 +238,7 @@ unfolding rows_passed
 widths_left table old n f r h =
     let t = accepted_table table f in
     let all : take (rows_before (fault_in (length old) table) (length (rows_of table))) (rows_of table) ≡ rows_of table =
-    ap (λ (g : Fault). take (rows_before g (length (rows_of table))) (rows_of table)) (fault_found (length old) table n ∙ f)
+    ap (λ (g : Found). take (rows_before g (length (rows_of table))) (rows_of table)) (fault_found (length old) table n ∙ f)
     ∙ take_all (length (rows_of table)) (rows_of table) (omega arith) in
     ap (λ (l : List Row). get_or (overwrite (widths_of l) old) r 0) all
     ∙ overwrite_read (widths_of (rows_of table)) old r (omega (arith, widths_count (rows_of table))) (omega (arith, t.few))

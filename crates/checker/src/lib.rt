@@ -35,39 +35,34 @@ fn place_row(places: &mut [u16], r: usize, row: Row, variables: usize, bits: usi
 // Checks a table, and places its variables: how each call on a table begins. `widths` has room for 512 numbers, and afterwards the width of
 // each row that was passed. `places` has, for each row of an accepted table, how many variables stand before it; from number 512 on, for each
 // variable, the source before it; and at number 577 how many variable bits there are, each as far as there is room.
-pub fn check_and_place(table: &[u16], widths: &mut [u16], places: &mut [u16]) -> Fault
+pub fn check_and_place(table: &[u16], widths: &mut [u16], places: &mut [u16]) -> Result<(), Fault>
     ensures fault { result ≡ fault_in (length widths.old) table.now }
     ensures numbered { NumbersTable table.now (length places.old) widths.new places.new result }
     ensures placed { PlacesTable table.now (length places.old) widths.new places.new result }
     ensures widths { widths.new ≡ overwrite (widths_of (rows_passed (length widths.old) table.now)) widths.old }
 {
     if widths.len() < terms::MAX_ROWS {
-        return Fault::Shape;
+        return Err(Fault::Shape);
     }
     if 4 * terms::MAX_ROWS < table.len() {
-        return Fault::Shape;
+        return Err(Fault::Shape);
     }
     if table.len() % 4 != 0 {
-        return Fault::Shape;
+        return Err(Fault::Shape);
     }
     numbers::store(places, terms::MAX_ROWS, 1);
     let mut variables = 0;
     let mut bits = 0;
     let mut equations = 0;
-    let mut r = 0;
-    while r < table.len() / 4 {
+    for r in 0..table.len() / 4 {
         let row = rows::row_at(table, r);
         variables = variables + numbers::one_if(row.kind, terms::VARIABLE);
         bits = bits + (rules::row_bits(row) as usize);
         equations = equations + numbers::one_if(row.kind, terms::EQUATION);
-        let f = rules::row_fault(table, widths, r, row, variables, bits, equations);
-        if !records::accepted(f) {
-            return f;
-        }
+        rules::row_fault(table, widths, r, row, variables, bits, equations)?;
         widths[r] = numbers::narrow(rules::row_width(widths, row));
         place_row(places, r, row, variables, bits);
-        r += 1;
     }
     numbers::store(places, BITS, numbers::narrow(bits));
-    Fault::Accepted
+    Ok(())
 }

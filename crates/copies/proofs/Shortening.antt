@@ -11,9 +11,8 @@ use lib.ListN.{length, take, set, length-set}
 use lib.Seq.{take_all, take-suc-set, get_or-take, length-take-le}
 use borrow.Author.Tests.{eqb-true, eqb-false, eq-eqb, ne_eqb}
 use Rattle.terms.specs.declared.Row.{Row}
-use Rattle.terms.specs.declared.Fault.TheVariants.{Accepted}
 use Rattle.terms.specs.Table.{rows_of, row_at, width_of, by_rows}
-use Rattle.terms.specs.Faults.{first_fault}
+use Rattle.terms.specs.Faults.{Accepted, first_fault}
 use Rattle.terms.proofs.AcceptedTable.{accepted_table}
 use Rattle.terms.proofs.Faults.{kept, kept_names, extract_names, widths_small}
 use Rattle.terms.specs.Sound.{Sound}

@@ -5,9 +5,8 @@ use mathlib.Core.List.{List}
 use Prim.Native.Nat.{ℕ}
 use lib.ListN.{take}
 use lib.Seq.{take_all}
-use Rattle.terms.specs.declared.Fault.TheVariants.{Accepted}
 use Rattle.terms.specs.Table.{rows_of, bits_of}
-use Rattle.terms.specs.Faults.{absent, first_fault}
+use Rattle.terms.specs.Faults.{Accepted, absent, first_fault}
 use Rattle.terms.proofs.AcceptedTable.{accepted_table, term_there}
 use Rattle.evaluator.specs.inner.Ready.{IsTerm}
 

@@ -8,8 +8,10 @@ ghost use Rattle.terms.specs.Table.{rows_of, row_at, bits_of, fixed_word, width_
 ghost use Rattle.laws.specs.Buffers.{overwrite};
 ghost use Rattle.terms.specs.Value.{value_record, value_after};
 ghost use Rattle.terms.specs.inner.Placed.{Placed};
+ghost use Rattle.records.specs.Refusals.{record_of};
 ghost use Rattle.evaluator.specs.inner.Ready.{Ready, IsTerm, is_fixed};
 
+use records::Refusal;
 use terms::{Record, Row};
 
 // A row of the table that is there.
@@ -33,18 +35,15 @@ fn source_before(places: &[u16], row: usize) -> usize
     requires in_bounds { 577 ≤ length places.now }
     ensures { (result ≡ get_or places.now (512 + get_or places.now row 0) 0) × (result ≤ 65535) }
 {
-    let v = numbers::wide(places[row]);
-    numbers::wide(places[terms::MAX_ROWS + v])
+    let variable = usize::from(places[row]);
+    places[terms::MAX_ROWS + variable].into()
 }
 
 // Whether a row of this kind is a fixed word: a constant (fill) or a value.
 fn fixed(kind: u16) -> bool
     ensures { result ≡ is_fixed kind }
 {
-    if kind == terms::CONSTANT {
-        return true;
-    }
-    kind == terms::VALUE
+    kind == terms::CONSTANT || kind == terms::VALUE
 }
 
 // Bit i of a fixed word, counted from its high end.
@@ -54,12 +53,11 @@ fn fixed_bit(r: Row, i: usize) -> u8
     requires i_lt_b { i < r.b }
     ensures { result ≡ get_or (fixed_word r) i 0 }
 {
-    let kind = r.kind;
-    if kind == terms::CONSTANT {
+    if r.kind == terms::CONSTANT {
         return r.a as u8;
     }
-    let last = numbers::wide(r.b) - 1;
-    numbers::bit_of(r.a, numbers::minus(last, i)) as u8
+    let last = usize::from(r.b) - 1;
+    numbers::bit_of(r.a, last - i) as u8
 }
 
 // Bit i of a row's value, counted from its high end.
@@ -103,44 +101,52 @@ fn write_value(
     requires row_in_bounds { width_of (rows_of table.now) row ≤ length output.old }
     ensures { output.new ≡ overwrite (value_of (rows_of table.now) pattern.now row) output.old }
 {
-    let width = numbers::wide(widths[row]);
-    let mut i = 0;
-    while i < width {
+    for i in 0..usize::from(widths[row]) {
         output[i] = bit(table, widths, places, pattern, row, i);
-        i += 1;
     }
 }
 
-// The value of a row of a table that was checked and placed.
+// The value of a row of a table that was checked and placed, or why the call stops.
 fn value_in(
     table: &[u16],
     widths: &[u16],
     places: &[u16],
-    bits: usize,
     row: usize,
     pattern: &[u8],
     output: &mut [u8],
-) -> Record
+) -> Result<Record, Refusal>
     requires placed { Placed table.now widths.now places.now }
-    requires bits_value { bits ≡ bits_of (rows_of table.now) }
-    ensures record { result ≡ value_record table.now row pattern.now (length output.old) }
+    ensures record { record_of result ≡ value_record table.now row pattern.now (length output.old) }
     ensures output { output.new ≡ value_after table.now row pattern.now output.old }
 {
     if rules::not_term(table, table.len() / 4, row) {
-        return records::refuse(30, 0);
+        return Err(Refusal::NoTerm);
     }
-    if bits != pattern.len() {
-        return records::refuse(31, 0);
+    let bits = usize::from(places[checker::BITS]);
+    if bits != pattern.len() || !numbers::all_bits(pattern) {
+        return Err(Refusal::Pattern);
     }
-    if !numbers::all_bits(pattern) {
-        return records::refuse(31, 0);
-    }
-    let width = widths[row] as u32;
-    if output.len() < width as usize {
-        return records::refuse(32, 0);
+    let width = widths[row];
+    if output.len() < usize::from(width) {
+        return Err(Refusal::Output);
     }
     write_value(table, widths, places, pattern, row, output);
-    records::complete(0, width)
+    Ok(records::complete(0, width.into()))
+}
+
+fn try_value(
+    table: &[u16],
+    row: usize,
+    pattern: &[u8],
+    output: &mut [u8],
+) -> Result<Record, Refusal>
+    ensures record { record_of result ≡ value_record table.now row pattern.now (length output.old) }
+    ensures output { output.new ≡ value_after table.now row pattern.now output.old }
+{
+    let mut widths = [0u16; 512];
+    let mut places = [0u16; 578];
+    checker::check_and_place(table, &mut widths, &mut places)?;
+    value_in(table, &widths, &places, row, pattern, output)
 }
 
 // A row's value under a pattern, as bytes 0 and 1, high bit first.
@@ -148,12 +154,5 @@ pub fn value(table: &[u16], row: usize, pattern: &[u8], output: &mut [u8]) -> Re
     ensures record { result ≡ value_record table.now row pattern.now (length output.old) }
     ensures output { output.new ≡ value_after table.now row pattern.now output.old }
 {
-    let mut widths = [0u16; 512];
-    let mut places = [0u16; 578];
-    let fault = checker::check_and_place(table, &mut widths[..], &mut places[..]);
-    if !records::accepted(fault) {
-        return records::fault_record(fault);
-    }
-    let bits = numbers::wide(places[checker::BITS]);
-    value_in(table, &widths[..], &places[..], bits, row, pattern, output)
+    try_value(table, row, pattern, output).unwrap_or_else(Refusal::record)
 }

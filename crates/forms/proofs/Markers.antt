@@ -15,9 +15,8 @@ use Rattle.laws.proofs.Binary.{binary_bits, binary_zeros, binary_ones}
 use Rattle.laws.proofs.Lists.{map-replicate}
 use Rattle.laws.proofs.Numbers.{dec_eq}
 use Rattle.terms.specs.declared.Row.{Row}
-use Rattle.terms.specs.declared.Fault.TheVariants.{Accepted}
 use Rattle.terms.specs.Table.{rows_of, bits_of, sources_of}
-use Rattle.terms.specs.Faults.{first_fault}
+use Rattle.terms.specs.Faults.{Accepted, first_fault}
 use Rattle.terms.specs.Sound.{Sound, IsValue}
 use Rattle.terms.proofs.AcceptedTable.{accepted_table}
 use Rattle.terms.proofs.Markers.{marker}

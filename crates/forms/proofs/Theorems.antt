@@ -6,10 +6,9 @@ use Prim.Native.Nat.{ℕ, ◌+◌, ◌-◌, ◌<◌, ◌≤◌}
 use native.Mathlib.Omega.{arith}
 use lib.ListN.{length, take}
 use Rattle.terms.specs.declared.Row.{Row}
-use Rattle.terms.specs.declared.Fault.TheVariants.{Accepted}
 use Rattle.terms.specs.Table.{rows_of, row_at, widths_of, width_of, bits_of, count_kind, extract, sources_of, source_of, value_of}
 use Rattle.laws.specs.Lists.{count_up}
-use Rattle.terms.specs.Faults.{first_fault}
+use Rattle.terms.specs.Faults.{Accepted, first_fault}
 use Rattle.terms.specs.Assignments.{Assignment}
 use Rattle.terms.proofs.AcceptedTable.{accepted_table, term_present}
 use Rattle.terms.proofs.Assignments.{assignment_length}

@@ -14,9 +14,8 @@ use Rattle.laws.proofs.Bools.{same_test}
 use Rattle.laws.proofs.Numbers.{lt_or_le}
 use Rattle.laws.proofs.Tallies.{below_of, below_at}
 use Rattle.terms.specs.declared.Row.{Row}
-use Rattle.terms.specs.declared.Fault.TheVariants.{Accepted}
 use Rattle.terms.specs.Assignments.{Assignment}
-use Rattle.terms.specs.Faults.{first_fault}
+use Rattle.terms.specs.Faults.{Accepted, first_fault}
 use Rattle.terms.specs.Table.{rows_of, bits_of, bit_of, satisfies}
 use Rattle.terms.proofs.Assignments.{every_of}
 use Rattle.answers.specs.Pairs.{equal_under}

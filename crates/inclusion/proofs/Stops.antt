@@ -11,10 +11,10 @@ use borrow.Author.Tests.{lt-ltb, le-ltb}
 use Rattle.laws.proofs.Bools.{not_both}
 use Rattle.laws.proofs.Numbers.{lt_or_le}
 use Rattle.terms.specs.declared.Record.{Record}
-use Rattle.terms.specs.declared.Fault.{Fault}
-use Rattle.terms.specs.declared.Fault.TheVariants.{Accepted, Shape, Kind, Unused, Named, Width, Value, Bounds, Count}
+use Rattle.std.specs.Prelude.{Ok, Err}
+use Rattle.terms.specs.declared.Fault.TheVariants.{Shape, Kind, Unused, Named, Width, Value, Bounds, Count}
 use Rattle.terms.specs.Table.{rows_of, bits_of, same_word}
-use Rattle.terms.specs.Faults.{is_accepted, first_fault}
+use Rattle.terms.specs.Faults.{Found, Accepted, is_accepted, first_fault}
 use Rattle.terms.specs.Calls.{refusal, fault_number, fault_record, stop_at, stopped}
 use Rattle.terms.proofs.AcceptedTable.{fault_none, fault_high}
 use Rattle.terms.proofs.Satisfies.{same-word, word_same}
@@ -36,23 +36,23 @@ other_widths ws vs h = go (same_word ws vs) refl
     go true e = absurd (h (same-word ws vs e))
     go false e = refl
 
-not_accepted : (f : Fault) → f ≢ Accepted → is_accepted f ≡ false
+not_accepted : (f : Found) → f ≢ Accepted → is_accepted f ≡ false
 not_accepted f h = go (is_accepted f) refl
   where
     go : (b : Bool) → is_accepted f ≡ b → b ≡ false
     go true e = absurd (h (fault_none f e))
     go false e = refl
 
-never_49 : (f : Fault) → fault_number f ≢ 49
-never_49 Accepted e = omega (arith, e)
-never_49 Shape e = omega (arith, e)
-never_49 (Kind r) e = omega (arith, e)
-never_49 (Unused r) e = omega (arith, e)
-never_49 (Named r) e = omega (arith, e)
-never_49 (Width r) e = omega (arith, e)
-never_49 (Value r) e = omega (arith, e)
-never_49 (Bounds r) e = omega (arith, e)
-never_49 (Count r) e = omega (arith, e)
+never_49 : (f : Found) → fault_number f ≢ 49
+never_49 (Ok x) e = omega (arith, e)
+never_49 (Err Shape) e = omega (arith, e)
+never_49 (Err (Kind r)) e = omega (arith, e)
+never_49 (Err (Unused r)) e = omega (arith, e)
+never_49 (Err (Named r)) e = omega (arith, e)
+never_49 (Err (Width r)) e = omega (arith, e)
+never_49 (Err (Value r)) e = omega (arith, e)
+never_49 (Err (Bounds r)) e = omega (arith, e)
+never_49 (Err (Count r)) e = omega (arith, e)
 
 -- tables that can be compared have as many variable bits
 pub as_many : (first second : List ℕ) (room : ℕ) → Comparable first second room → bits_of (rows_of first) ≡ bits_of (rows_of second)

@@ -2,11 +2,10 @@
 use Rattle.std.specs.Prelude.{◌≡◌, ◌≢◌, true, false, List, [], ◌∷◌, ◌++◌, ℕ, zero, suc, ◌*◌, ◌≤◌, ◌<◌, length, replicate, take}
 use Rattle.terms.specs.declared.Record.{Record}
 use Rattle.terms.specs.declared.Row.{Row}
-use Rattle.terms.specs.declared.Fault.TheVariants.{Accepted}
 use Rattle.terms.specs.Assignments.{Assignment}
 use Rattle.terms.specs.Acceptance.{Exactly}
 use Rattle.terms.specs.Table.{rows_of, bits_of, value_of, evened, satisfies}
-use Rattle.terms.specs.Faults.{first_fault}
+use Rattle.terms.specs.Faults.{Accepted, first_fault}
 use Rattle.terms.specs.Calls.{refusal, fault_record}
 use Rattle.answers.specs.Answer.{variable_widths, answer_numbers}
 use Rattle.answers.specs.Solve.{solved_rows, answer_record, answer_after}

@@ -15,10 +15,9 @@ use Rattle.laws.proofs.Least.{least_within, least-passed, least_found}
 use Rattle.laws.proofs.Numbers.{lt_or_le, two}
 use Rattle.laws.proofs.Tallies.{implied}
 use Rattle.terms.specs.declared.Row.{Row}
-use Rattle.terms.specs.declared.Fault.TheVariants.{Accepted}
 use Rattle.terms.specs.Assignments.{Assignment}
 use Rattle.terms.specs.Table.{rows_of, bits_of, bit_of, satisfies}
-use Rattle.terms.specs.Faults.{first_fault}
+use Rattle.terms.specs.Faults.{Accepted, first_fault}
 use Rattle.terms.specs.Counting.{MeetsBefore, NoLines}
 use Rattle.terms.proofs.AcceptedTable.{table_bits}
 use Rattle.terms.proofs.Assignments.{every_at, every_of}

@@ -16,9 +16,8 @@ use Rattle.laws.proofs.Lists.{read_places, tail_length, tail_at}
 use Rattle.laws.proofs.Numbers.{lt_or_le}
 use Rattle.laws.proofs.Tallies.{tally_ext}
 use Rattle.terms.specs.declared.Row.{Row}
-use Rattle.terms.specs.declared.Fault.TheVariants.{Accepted}
 use Rattle.terms.specs.Table.{rows_of, row_numbers, bits_of}
-use Rattle.terms.specs.Faults.{first_fault}
+use Rattle.terms.specs.Faults.{Accepted, first_fault}
 use Rattle.terms.specs.Counting.{NoLines}
 use Rattle.terms.proofs.AcceptedTable.{table_bits}
 use Rattle.terms.proofs.RowNumbers.{rows_written}

@@ -12,9 +12,8 @@ use borrow.Author.Tests.{eqb-true, eq-eqb, ne_eqb, lt-ltb, le-ltb}
 use Rattle.laws.proofs.Bools.{not_both}
 use Rattle.laws.proofs.Numbers.{lt_or_le, dec_eq}
 use Rattle.terms.specs.declared.Row.{Row}
-use Rattle.terms.specs.declared.Fault.TheVariants.{Accepted}
 use Rattle.terms.specs.Table.{rows_of, row_numbers, row_at, no_row, silent_row, counting, values_of, sides_agree, all_rows, satisfies}
-use Rattle.terms.specs.Faults.{first_fault}
+use Rattle.terms.specs.Faults.{Accepted, first_fault}
 use Rattle.terms.specs.Sound.{Sound}
 use Rattle.terms.specs.Counting.{NoLines}
 use Rattle.terms.proofs.Alike.{Alike}

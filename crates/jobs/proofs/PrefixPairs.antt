@@ -13,9 +13,8 @@ use Rattle.laws.proofs.Bools.{not_both}
 use Rattle.laws.proofs.Numbers.{lt_or_le}
 use Rattle.laws.proofs.CountUp.{count_at}
 use Rattle.terms.specs.declared.Row.{Row}
-use Rattle.terms.specs.declared.Fault.TheVariants.{Accepted}
 use Rattle.terms.specs.Table.{rows_of, row_numbers, row_at, silent_row, bits_of, source_of, evened}
-use Rattle.terms.specs.Faults.{first_fault}
+use Rattle.terms.specs.Faults.{Accepted, first_fault}
 use Rattle.terms.specs.Counting.{NoLines}
 use Rattle.terms.proofs.Alike.{alike_bits}
 use Rattle.terms.proofs.LeavingOff.{alike_sources}

@@ -10,11 +10,10 @@ use lib.ListN.{length}
 use Rattle.laws.proofs.Numbers.{lt_or_le, dec_eq}
 use Rattle.terms.specs.declared.Record.{Record}
 use Rattle.terms.specs.declared.Row.{Row}
-use Rattle.terms.specs.declared.Fault.TheVariants.{Accepted}
 use Rattle.terms.specs.Acceptance.{Exactly}
 use Rattle.terms.specs.Assignments.{Assignment}
 use Rattle.terms.specs.Counting.{NoLines, SidesEqual}
-use Rattle.terms.specs.Faults.{first_fault}
+use Rattle.terms.specs.Faults.{Accepted, first_fault}
 use Rattle.terms.specs.Table.{rows_of, row_numbers, row_at}
 use Rattle.terms.proofs.AcceptedTable.{accepted_table}
 use Rattle.terms.proofs.RowNumbers.{rows_written}

@@ -14,10 +14,9 @@ use Rattle.laws.proofs.Bools.{not_both, and_parts, one_most}
 use Rattle.laws.proofs.Numbers.{lt_or_le}
 use Rattle.laws.proofs.Tallies.{below_fails}
 use Rattle.terms.specs.declared.Row.{Row}
-use Rattle.terms.specs.declared.Fault.TheVariants.{Accepted}
 use Rattle.terms.specs.Acceptance.{Exactly}
 use Rattle.terms.specs.Table.{rows_of, count_kind, same_word}
-use Rattle.terms.specs.Faults.{first_fault}
+use Rattle.terms.specs.Faults.{Accepted, first_fault}
 use Rattle.terms.specs.Counting.{NoLines}
 use Rattle.terms.proofs.AcceptedTable.{accepted_table}
 use Rattle.terms.proofs.NextEquation.{next_found, next_end}

@@ -10,10 +10,9 @@ use lib.ListN.{length}
 use borrow.Author.Tests.{ne_eqb, lt-ltb, le-ltb}
 use Rattle.terms.specs.declared.Record.{Record}
 use Rattle.terms.specs.declared.Row.{Row}
-use Rattle.terms.specs.declared.Fault.TheVariants.{Accepted}
 use Rattle.terms.specs.Calls.{stop_at, stopped}
 use Rattle.terms.specs.Counting.{IsLine}
-use Rattle.terms.specs.Faults.{is_accepted, first_fault}
+use Rattle.terms.specs.Faults.{Accepted, is_accepted, first_fault}
 use Rattle.terms.specs.Table.{rows_of}
 use Rattle.terms.proofs.AcceptedTable.{fault_none}
 use Rattle.terms.proofs.Stopping.{goes-on}

@@ -2,10 +2,9 @@
 use Rattle.std.specs.Prelude.{◌≡◌, ◌≢◌, true, List, ℕ, zero, suc, ◌≤◌, length}
 use Rattle.terms.specs.declared.Record.{Record}
 use Rattle.terms.specs.declared.Row.{Row}
-use Rattle.terms.specs.declared.Fault.TheVariants.{Accepted}
 use Rattle.terms.specs.Acceptance.{Exactly}
 use Rattle.terms.specs.Calls.{refusal}
-use Rattle.terms.specs.Faults.{first_fault}
+use Rattle.terms.specs.Faults.{Accepted, first_fault}
 use Rattle.terms.specs.Table.{rows_of, row_numbers, bits_of, count_kind}
 use Rattle.answers.specs.Demands.{Demand2, Demand3}
 use Rattle.answers.specs.Solve.{unsatisfiable, unsat_row, always_record, answer_record, solve_record, answer_after}

@@ -1,11 +1,10 @@
 -- What the theorems say of the refusals of a job's calls (document 02, (viii)): in their order, whatever else is wrong, and nothing lent is changed.
 use Rattle.std.specs.Prelude.{◌≡◌, ◌≢◌, List, ℕ, ◌<◌, ◌≤◌, length}
 use Rattle.terms.specs.declared.Record.{Record}
-use Rattle.terms.specs.declared.Fault.TheVariants.{Accepted}
 use Rattle.terms.specs.Acceptance.{Exactly}
 use Rattle.terms.specs.Calls.{refusal, fault_record}
 use Rattle.terms.specs.Counting.{IsLine}
-use Rattle.terms.specs.Faults.{first_fault}
+use Rattle.terms.specs.Faults.{Accepted, first_fault}
 use Rattle.terms.specs.Table.{rows_of}
 use Rattle.jobs.specs.Call.{open_record}
 use Rattle.jobs.specs.Course.{Lent, after_open, after_step, step_told, answer_told, answer_left, after_steps}

@@ -10,9 +10,8 @@ use lib.ListN.{length, get_or}
 use lib.Seq.{ext_get_or}
 use borrow.Author.Tests.{ne_eqb}
 use Rattle.terms.specs.declared.Row.{Row}
-use Rattle.terms.specs.declared.Fault.TheVariants.{Accepted}
 use Rattle.terms.specs.Table.{rows_of, bits_of}
-use Rattle.terms.specs.Faults.{first_fault}
+use Rattle.terms.specs.Faults.{Accepted, first_fault}
 use Rattle.laws.specs.Lists.{count_up}
 use Rattle.laws.proofs.Numbers.{dec_eq}
 use Rattle.laws.proofs.CountUp.{count_at, count-up}

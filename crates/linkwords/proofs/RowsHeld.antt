@@ -9,6 +9,7 @@ use lib.Dec.{eqb, ltb}
 use lib.ListN.{length, take}
 use lib.Seq.{length-take-le}
 use Rattle.terms.specs.declared.Row.{Row}
+use Rattle.std.specs.Prelude.{Err}
 use Rattle.terms.specs.declared.Fault.TheVariants.{Shape}
 use Rattle.terms.specs.Calls.{refusal, stop_at}
 use Rattle.terms.specs.Faults.{first_fault}
@@ -42,7 +43,7 @@ was_copied rows base flat used room count put =
     }
 
 -- ---- a table of the wrong shape
-module _ (t : List ℕ) (h : first_fault t ≡ Shape) where
+module _ (t : List ℕ) (h : first_fault t ≡ Err Shape) where
   value_refused : (row : ℕ) (pattern : List ℕ) (room : ℕ) → value_record t row pattern room ≡ refusal 11 512
   unfolding value_record stop_at
   value_refused row pattern room = rw h refl

@@ -13,8 +13,7 @@ use Rattle.laws.specs.Lists.{below}
 use Rattle.laws.proofs.Bools.{same_test}
 use Rattle.laws.proofs.Tallies.{below_of, below_at}
 use Rattle.terms.specs.declared.Record.{Record}
-use Rattle.terms.specs.declared.Fault.TheVariants.{Accepted}
-use Rattle.terms.specs.Faults.{first_fault}
+use Rattle.terms.specs.Faults.{Accepted, first_fault}
 use Rattle.terms.specs.Table.{rows_of, bits_of, same_word}
 use Rattle.terms.proofs.Satisfies.{same-word, word_same}
 use Rattle.answers.specs.Answer.{answer_numbers}

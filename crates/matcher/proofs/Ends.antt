@@ -6,9 +6,8 @@ use Prim.Native.Nat.{ℕ, ◌<◌, ◌≤◌}
 use lib.ListN.{length, replicate}
 use borrow.Author.Tests.{lt-ltb, le-ltb}
 use Rattle.terms.specs.declared.Record.{Record}
-use Rattle.terms.specs.declared.Fault.TheVariants.{Accepted}
 use Rattle.terms.specs.Calls.{refusal, fault_record, stop_at, stopped}
-use Rattle.terms.specs.Faults.{is_accepted, first_fault}
+use Rattle.terms.specs.Faults.{Accepted, is_accepted, first_fault}
 use Rattle.assignments.specs.Form.{has_form}
 use Rattle.assignments.specs.Call.{pattern_record, pattern_after}
 use Rattle.assignments.specs.Matching.{other_answer, make_stops, make_record, make_after, make_work}

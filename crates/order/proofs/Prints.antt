@@ -6,8 +6,7 @@ use mathlib.Core.List.{List, append-nil}
 use Prim.Native.Nat.{ℕ}
 use Rattle.terms.specs.declared.Record.{Record}
 use Rattle.terms.specs.declared.Row.{Row}
-use Rattle.terms.specs.declared.Fault.TheVariants.{Accepted}
-use Rattle.terms.specs.Faults.{first_fault}
+use Rattle.terms.specs.Faults.{Accepted, first_fault}
 use Rattle.terms.specs.Counting.{NoLines}
 use Rattle.terms.specs.Table.{row_numbers}
 use Rattle.terms.proofs.RowNumbers.{rows_written}

@@ -8,8 +8,7 @@ use native.Mathlib.Omega.{arith}
 use lib.Dec.{eqb}
 use lib.ListN.{length, take, get_or}
 use Rattle.terms.specs.declared.Row.{Row}
-use Rattle.terms.specs.declared.Fault.TheVariants.{Accepted}
-use Rattle.terms.specs.Faults.{first_fault}
+use Rattle.terms.specs.Faults.{Accepted, first_fault}
 use Rattle.terms.specs.Table.{rows_of, by_kind, bits_of, bit_of, values_of, sources_of, source_of, same_word, evened, sides_agree, all_rows, counting, satisfies}
 use Rattle.terms.specs.Counting.{NoLines}
 use Rattle.terms.proofs.Alike.{Alike, alike_bits}

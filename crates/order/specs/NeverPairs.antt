@@ -2,8 +2,7 @@
 -- exception is no slip of the proof.
 use Rattle.std.specs.Prelude.{◌≡◌, List, [], ◌∷◌, ◌++◌, ℕ}
 use Rattle.terms.specs.declared.Record.{Record}
-use Rattle.terms.specs.declared.Fault.TheVariants.{Accepted}
-use Rattle.terms.specs.Faults.{first_fault}
+use Rattle.terms.specs.Faults.{Accepted, first_fault}
 use Rattle.terms.specs.Counting.{NoLines}
 use Rattle.terms.specs.Table.{rows_of}
 use Rattle.answers.specs.Solve.{answer_record}

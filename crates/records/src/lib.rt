@@ -3,9 +3,97 @@
 
 ghost use Rattle.std.specs.Prelude.{◌≡◌, ◌-◌};
 ghost use Rattle.terms.specs.Faults.{is_accepted};
-ghost use Rattle.terms.specs.Calls.{refusal, completed, fault_number, fault_row, fault_record};
+ghost use Rattle.terms.specs.Calls.{refusal, completed, rule_number, rule_row, fault_record};
+ghost use Rattle.records.specs.Refusals.{refusal_number, refusal_row, refusal_record};
+ghost use Rattle.records.specs.declared.Refusal.TheVariants.{Table};
 
 use terms::{Fault, Record};
+
+// Why a call on a table stops: one of the numbers of "Where a call stops", or the fault of a table.
+#[derive(Clone, Copy, PartialEq, Eq)]
+pub enum Refusal {
+    // 10: a buffer or the work area has too little room
+    Room,
+    // 11 to 17, and 40
+    Table(Fault),
+    // 30: the row is absent or an equation
+    NoTerm,
+    // 31: no pattern of the table
+    Pattern,
+    // 32: the output has too little room
+    Output,
+    // 33: no answer has this form
+    Form,
+    // 34: not the answer's fresh bits
+    FreshBits,
+    // 41: no words of the table's variable
+    NotWords,
+    // 42: the run of words is too long
+    LongRun,
+    // 43: an equation has a line number
+    Lined,
+    // 44: the area holds no job
+    NoJob,
+    // 45: the job has ended
+    Ended,
+    // 46: the answer of another table
+    OtherAnswer,
+    // 47: no recordings of the same frames
+    Recordings,
+    // 48: not the counters' room
+    Counters,
+    // 49: other variables
+    Variables,
+}
+
+impl From<Fault> for Refusal {
+    ghost from_gives = { λ fault refusal. refusal ≡ Table fault };
+
+    fn from(fault: Fault) -> Refusal {
+        Refusal::Table(fault)
+    }
+}
+
+impl Refusal {
+    fn number(self) -> u32
+        ensures { result ≡ refusal_number self }
+    {
+        match self {
+            Refusal::Room => 10,
+            Refusal::Table(fault) => rule_number(fault),
+            Refusal::NoTerm => 30,
+            Refusal::Pattern => 31,
+            Refusal::Output => 32,
+            Refusal::Form => 33,
+            Refusal::FreshBits => 34,
+            Refusal::NotWords => 41,
+            Refusal::LongRun => 42,
+            Refusal::Lined => 43,
+            Refusal::NoJob => 44,
+            Refusal::Ended => 45,
+            Refusal::OtherAnswer => 46,
+            Refusal::Recordings => 47,
+            Refusal::Counters => 48,
+            Refusal::Variables => 49,
+        }
+    }
+
+    // The row that a table's fault tells; 0 in any other refusal.
+    fn row(self) -> u32
+        ensures { result ≡ refusal_row self }
+    {
+        match self {
+            Refusal::Table(fault) => rule_row(fault),
+            _ => 0,
+        }
+    }
+
+    pub fn record(self) -> Record
+        ensures { result ≡ refusal_record self }
+    {
+        refuse(self.number(), self.row())
+    }
+}
 
 // A refusal: its number and its row.
 pub fn refuse(number: u32, row: u32) -> Record
@@ -35,12 +123,11 @@ pub fn complete(pieces: u32, width: u32) -> Record
     }
 }
 
-// A fault's number in documents 01 and 02, and its row.
-fn fault_number(f: Fault) -> u32
-    ensures { result ≡ fault_number f }
+// The number of the rule that a fault tells (documents 01 and 02), and the row that breaks it.
+fn rule_number(fault: Fault) -> u32
+    ensures { result ≡ rule_number fault }
 {
-    match f {
-        Fault::Accepted => 0,
+    match fault {
         Fault::Shape => 11,
         Fault::Kind(_) => 12,
         Fault::Unused(_) => 13,
@@ -52,42 +139,34 @@ fn fault_number(f: Fault) -> u32
     }
 }
 
-fn fault_row(f: Fault) -> u32
-    ensures { result ≡ fault_row f }
+fn rule_row(fault: Fault) -> u32
+    ensures { result ≡ rule_row fault }
 {
-    match f {
-        Fault::Accepted => 0,
+    match fault {
         Fault::Shape => 512,
-        Fault::Kind(r) => r as u32,
-        Fault::Unused(r) => r as u32,
-        Fault::Named(r) => r as u32,
-        Fault::Width(r) => r as u32,
-        Fault::Value(r) => r as u32,
-        Fault::Bounds(r) => r as u32,
-        Fault::Count(r) => r as u32,
+        Fault::Kind(r)
+        | Fault::Unused(r)
+        | Fault::Named(r)
+        | Fault::Width(r)
+        | Fault::Value(r)
+        | Fault::Bounds(r)
+        | Fault::Count(r) => r.into(),
     }
 }
 
-// The record of what the check found.
-pub fn fault_record(f: Fault) -> Record
-    ensures { result ≡ fault_record f }
+// The record of what a check found.
+pub fn fault_record(found: Result<(), Fault>) -> Record
+    ensures { result ≡ fault_record found }
 {
-    refuse(fault_number(f), fault_row(f))
+    match found {
+        Ok(()) => refuse(0, 0),
+        Err(fault) => refuse(rule_number(fault), rule_row(fault)),
+    }
 }
 
-// Whether the check found no fault.
-pub fn accepted(f: Fault) -> bool
-    ensures { result ≡ is_accepted f }
+// Whether a check found no fault.
+pub fn accepted(found: Result<(), Fault>) -> bool
+    ensures { result ≡ is_accepted found }
 {
-    match f {
-        Fault::Accepted => true,
-        Fault::Shape => false,
-        Fault::Kind(_) => false,
-        Fault::Unused(_) => false,
-        Fault::Named(_) => false,
-        Fault::Width(_) => false,
-        Fault::Value(_) => false,
-        Fault::Bounds(_) => false,
-        Fault::Count(_) => false,
-    }
+    found.is_ok()
 }

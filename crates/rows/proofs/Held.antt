@@ -12,6 +12,7 @@ use lib.ListN.{length, get_or, take, drop}
 use lib.Seq.{take-suc, take_at, length-take-le, take_all}
 use borrow.Author.Tests.{lt-ltb, ltb-true, ltb-false}
 use Rattle.terms.specs.declared.Row.{Row}
+use Rattle.std.specs.Prelude.{Err}
 use Rattle.terms.specs.declared.Fault.TheVariants.{Shape}
 use Rattle.terms.specs.Table.{no_row, rows_of}
 use Rattle.laws.specs.Buffers.{overwrite}
@@ -89,7 +90,7 @@ held_read rows base zs e =
     ap (take (length new)) (e ∙ overwrite-fits new base (held_room rows (length base))) ∙ take_at new (drop (length new) base) (length new) refl
 
 -- ---- more than 512 rows
-pub over_512 : (rows : List Row) → 512 < length rows → first_fault (row_numbers rows) ≡ Shape
+pub over_512 : (rows : List Row) → 512 < length rows → first_fault (row_numbers rows) ≡ Err Shape
 unfolding first_fault breaks11
 over_512 rows h =
     let whole : length (row_numbers rows) % 4 ≡ 0 = omega (arith, row_numbers_length rows) in
@@ -98,7 +99,7 @@ over_512 rows h =
 
 -- The area holds 513 rows, and so either all rows or too many of them. So what a call says of the rows held it says of all rows, if it
 -- says one and the same of every table of the wrong shape.
-pub all-or_over : {X : Type 0} (call : List ℕ → X) (refused : X) → ((t : List ℕ) → first_fault t ≡ Shape → call t ≡ refused)
+pub all-or_over : {X : Type 0} (call : List ℕ → X) (refused : X) → ((t : List ℕ) → first_fault t ≡ Err Shape → call t ≡ refused)
     → (rows : List Row) → call (held rows area_numbers) ≡ call (row_numbers rows)
 unfolding held
 all-or_over call refused stops rows = by_count (lt_or_le (area_numbers / 4) (length rows))

@@ -195,33 +195,32 @@ pub fn row_fault(
     variables: usize,
     bits: usize,
     equations: usize,
-) -> Fault
+) -> Result<(), Fault>
     ensures { result ≡ first_rule (rules_in (rows_of table.now) widths.now r row variables bits equations) }
 {
     let at = numbers::narrow(r);
-    let kind = row.kind;
-    if terms::VALUE < kind {
-        return Fault::Kind(at);
+    if terms::VALUE < row.kind {
+        return Err(Fault::Kind(at));
     }
     if unused(row) {
-        return Fault::Unused(at);
+        return Err(Fault::Unused(at));
     }
     if bad_names(table, r, row) {
-        return Fault::Named(at);
+        return Err(Fault::Named(at));
     }
     if bad_width(row, row_width(widths, row)) {
-        return Fault::Width(at);
+        return Err(Fault::Width(at));
     }
     if bad_value(row) {
-        return Fault::Value(at);
+        return Err(Fault::Value(at));
     }
     if bad_bounds(row, width_at(widths, row.a)) {
-        return Fault::Bounds(at);
+        return Err(Fault::Bounds(at));
     }
     if too_many(variables, bits, equations) {
-        return Fault::Count(at);
+        return Err(Fault::Count(at));
     }
-    Fault::Accepted
+    Ok(())
 }
 
 // The variable bits that a row adds.

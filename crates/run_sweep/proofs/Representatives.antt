@@ -9,9 +9,8 @@ use lib.ListN.{length, get_or}
 use borrow.Author.Tests.{eq-eqb}
 use Rattle.laws.specs.Lists.{count_up, least}
 use Rattle.terms.specs.declared.Row.{Row}
-use Rattle.terms.specs.declared.Fault.TheVariants.{Accepted}
 use Rattle.terms.specs.Assignments.{Assignment}
-use Rattle.terms.specs.Faults.{first_fault}
+use Rattle.terms.specs.Faults.{Accepted, first_fault}
 use Rattle.terms.specs.Table.{rows_of, bits_of, bit_of, satisfies}
 use Rattle.terms.proofs.Assignments.{every_of}
 use Rattle.answers.specs.Pairs.{Pair, equation_pairs, satisfies_pairs, equal_under, equals}

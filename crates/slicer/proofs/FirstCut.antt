@@ -8,8 +8,7 @@ use lib.ListN.{length, take}
 use Rattle.laws.proofs.Bools.{or_left, or_right}
 use Rattle.laws.proofs.Lists.{tab, tab_at}
 use Rattle.terms.specs.declared.Row.{Row}
-use Rattle.terms.specs.declared.Fault.TheVariants.{Accepted}
-use Rattle.terms.specs.Faults.{first_fault}
+use Rattle.terms.specs.Faults.{Accepted, first_fault}
 use Rattle.terms.specs.Table.{rows_of, row_at, widths_of, count_kind}
 use Rattle.terms.specs.inner.Places.{low_source}
 use Rattle.answers.specs.Pairs.{pairs_of}

@@ -8,11 +8,11 @@ use lib.Dec.{eqb, ltb}
 use lib.ListN.{length, replicate}
 use borrow.Author.Tests.{lt-ltb, le-ltb}
 use Rattle.terms.specs.declared.Record.{Record}
-use Rattle.terms.specs.declared.Fault.{Fault}
-use Rattle.terms.specs.declared.Fault.TheVariants.{Accepted, Shape, Kind, Unused, Named, Width, Value, Bounds, Count}
+use Rattle.std.specs.Prelude.{Ok, Err}
+use Rattle.terms.specs.declared.Fault.TheVariants.{Shape, Kind, Unused, Named, Width, Value, Bounds, Count}
 use Rattle.terms.specs.Table.{rows_of}
 use Rattle.terms.specs.Calls.{refusal, fault_number, fault_record, stop_at}
-use Rattle.terms.specs.Faults.{is_accepted, first_fault}
+use Rattle.terms.specs.Faults.{Found, Accepted, is_accepted, first_fault}
 use Rattle.answers.specs.Solve.{answer_record, solve_record, answer_after, work_after}
 use Rattle.answers.proofs.Demands.{demand_3}
 use Rattle.solver.specs.inner.Call.{answer_over, Answered}
@@ -32,16 +32,16 @@ unfolding solve_record stop_at answer_after work_after
 stop_work table answer work k l r e = rw (le-ltb (length answer) 24576 k, lt-ltb (length work) 16384 l) (e, (refl, refl))
 
 -- refused for a fault of the table
-pub fault_high : (f : Fault) → is_accepted f ≡ false → (eqb (fault_number f) 2 ≡ false) × (ltb (fault_number f) 3 ≡ false)
-fault_high Accepted h = let z : ◌≡◌ {A = ℕ} 0 1 = cc in absurd (omega arith)
-fault_high Shape h = (refl, refl)
-fault_high (Kind r) h = (refl, refl)
-fault_high (Unused r) h = (refl, refl)
-fault_high (Named r) h = (refl, refl)
-fault_high (Width r) h = (refl, refl)
-fault_high (Value r) h = (refl, refl)
-fault_high (Bounds r) h = (refl, refl)
-fault_high (Count r) h = (refl, refl)
+pub fault_high : (f : Found) → is_accepted f ≡ false → (eqb (fault_number f) 2 ≡ false) × (ltb (fault_number f) 3 ≡ false)
+fault_high (Ok x) h = let z : ◌≡◌ {A = ℕ} 0 1 = cc in absurd (omega arith)
+fault_high (Err Shape) h = (refl, refl)
+fault_high (Err (Kind r)) h = (refl, refl)
+fault_high (Err (Unused r)) h = (refl, refl)
+fault_high (Err (Named r)) h = (refl, refl)
+fault_high (Err (Width r)) h = (refl, refl)
+fault_high (Err (Value r)) h = (refl, refl)
+fault_high (Err (Bounds r)) h = (refl, refl)
+fault_high (Err (Count r)) h = (refl, refl)
 
 pub stop_fault : (table answer work : List ℕ) → 24576 ≤ length answer → 16384 ≤ length work → is_accepted (first_fault table) ≡ false
     → (r : Record) → r ≡ fault_record (first_fault table) → Ends table answer work r answer work

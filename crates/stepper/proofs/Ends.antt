@@ -15,11 +15,9 @@ use Rattle.laws.proofs.Buffers.{overwrite-fits}
 use Rattle.laws.proofs.CountUp.{count-up}
 use Rattle.terms.specs.declared.Record.{Record}
 use Rattle.terms.specs.declared.Row.{Row}
-use Rattle.terms.specs.declared.Fault.{Fault}
-use Rattle.terms.specs.declared.Fault.TheVariants.{Accepted, Shape, Kind, Unused, Named, Width, Value, Bounds, Count}
 use Rattle.terms.specs.Table.{rows_of, bits_of}
 use Rattle.terms.specs.Calls.{refusal, completed, fault_number, fault_record, stop_at, stopped}
-use Rattle.terms.specs.Faults.{is_accepted, first_fault}
+use Rattle.terms.specs.Faults.{Accepted, is_accepted, first_fault}
 use Rattle.terms.specs.inner.Placed.{Placed}
 use Rattle.terms.proofs.AcceptedTable.{accepted_table, table_bits, fault_none}
 use Rattle.terms.proofs.Rows.{rows_length}

@@ -14,9 +14,8 @@ use Rattle.laws.proofs.Bools.{not_both}
 use Rattle.laws.proofs.CountUp.{count-up}
 use Rattle.terms.specs.declared.Record.{Record}
 use Rattle.terms.specs.declared.Row.{Row}
-use Rattle.terms.specs.declared.Fault.TheVariants.{Accepted}
 use Rattle.terms.specs.Table.{rows_of, row_numbers, bits_of, next_equation}
-use Rattle.terms.specs.Faults.{first_fault}
+use Rattle.terms.specs.Faults.{Accepted, first_fault}
 use Rattle.terms.specs.Counting.{NoLines}
 use Rattle.terms.proofs.AcceptedTable.{accepted_table, table_bits}
 use Rattle.terms.proofs.NextEquation.{Passed}

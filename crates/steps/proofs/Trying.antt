@@ -15,9 +15,8 @@ use Rattle.laws.proofs.Buffers.{overwrite-fits}
 use Rattle.laws.proofs.Numbers.{dec_eq, lt_or_le}
 use Rattle.terms.specs.declared.Record.{Record}
 use Rattle.terms.specs.declared.Row.{Row}
-use Rattle.terms.specs.declared.Fault.TheVariants.{Accepted}
 use Rattle.terms.specs.Table.{rows_of, row_numbers, bits_of}
-use Rattle.terms.specs.Faults.{first_fault}
+use Rattle.terms.specs.Faults.{Accepted, first_fault}
 use Rattle.terms.specs.Calls.{refusal, stop_at, stopped}
 use Rattle.terms.specs.Counting.{NoLines}
 use Rattle.terms.proofs.AcceptedTable.{accepted_table, table_bits}

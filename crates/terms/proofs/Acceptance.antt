@@ -10,11 +10,11 @@ use lib.Dec.{eqb, ltb}
 use lib.ListN.{length}
 use borrow.Author.Tests.{ltb-false, eqb-true, not-false, le-ltb, eq-eqb}
 use Rattle.terms.specs.declared.Row.{Row}
-use Rattle.terms.specs.declared.Fault.{Fault}
-use Rattle.terms.specs.declared.Fault.TheVariants.{Accepted, Shape, Kind, Unused, Named, Width, Value, Bounds, Count}
+use Rattle.std.specs.Prelude.{Ok, Err}
+use Rattle.terms.specs.declared.Fault.TheVariants.{Shape, Kind, Unused, Named, Width, Value, Bounds, Count}
 use Rattle.terms.specs.Table.{rows_of}
-use Rattle.terms.specs.Calls.{fault_number, fault_row}
-use Rattle.terms.specs.Faults.{nonzero, breaks11, breaks12, breaks13, breaks14, breaks15, breaks40, breaks16, breaks17, fault_at, is_accepted, lowest_fault, first_fault}
+use Rattle.terms.specs.Calls.{rule_number, fault_number, fault_row}
+use Rattle.terms.specs.Faults.{Found, Accepted, nonzero, breaks11, breaks12, breaks13, breaks14, breaks15, breaks40, breaks16, breaks17, fault_at, is_accepted, lowest_fault, first_fault}
 use Rattle.terms.specs.Acceptance.{Exactly, WholeRows, KeepsAll, Reaches, Says, Refused, Acceptance}
 use Rattle.terms.proofs.RuleOrder.{told_12, told_13, told_14, told_15, told_40, told_16, told_17, told_none}
 use Rattle.terms.proofs.Faults.{all_kept, kept, lowest_here, lowest_past}
@@ -54,8 +54,8 @@ module _ (numbers : List ℕ) where
       next k (breaks17 t r) (λ h. says (told_17 t r k h) (reach, k, h)) λ k.
       absurd (not_both (ap is_accepted (told_none t r k)) fault)
     where
-      says : {f : Fault} → fault_at t r ≡ f → Says f numbers → Says (fault_at t r) numbers
-      says e s = subst (λ (f : Fault). Says f numbers) (sym e) s
+      says : {f : Found} → fault_at t r ≡ f → Says f numbers → Says (fault_at t r) numbers
+      says e s = subst (λ (f : Found). Says f numbers) (sym e) s
 
       first : {A : Type 0} (b : Bool) → (b ≡ true → A) → (b ≡ false → A) → A
       first true broken kept = broken refl
@@ -79,7 +79,7 @@ module _ (numbers : List ℕ) where
   unfolding first_fault
   table_says = go (breaks11 numbers) refl
     where
-      go : (b : Bool) → breaks11 numbers ≡ b → Says (cond b Shape (lowest_fault t 0 (length t))) numbers
+      go : (b : Bool) → breaks11 numbers ≡ b → Says (cond b (Err Shape) (lowest_fault t 0 (length t))) numbers
       go true h = λ rows. not_both h ((whole_rows numbers).of rows)
       go false h = rows_say ((whole_rows numbers).to h) (length t) 0 (omega arith) (λ i l. absurd (omega arith))
 
@@ -91,60 +91,60 @@ module _ (numbers : List ℕ) where
       comes_to rows r (suc m) (omega arith) (λ i l. before i (omega arith))
       ∙ lowest_past t r m (ap is_accepted (told_none t r (before r (omega arith))))
 
-  ends-at : (r : ℕ) → Reaches numbers r → (f : Fault) → is_accepted f ≡ false → fault_at t r ≡ f → first_fault numbers ≡ f
+  ends-at : (r : ℕ) → Reaches numbers r → (f : Found) → is_accepted f ≡ false → fault_at t r ≡ f → first_fault numbers ≡ f
   ends-at r reach f fault e =
       let there = reach.there in
       let rest = length t - suc r in
       comes_to reach.rows r (suc rest) (omega arith) reach.before ∙ lowest_here t r rest (ap is_accepted e ∙ fault) ∙ e
 
   -- so the first fault is the one that says what is so
-  said : (f : Fault) → Says f numbers → first_fault numbers ≡ f
+  said : (f : Found) → Says f numbers → first_fault numbers ≡ f
   unfolding first_fault lowest_fault
-  said Accepted s = comes_to s.0 (length t) 0 (omega arith) s.1
-  said Shape s = go (breaks11 numbers) refl
+  said (Ok tt) s = comes_to s.0 (length t) 0 (omega arith) s.1
+  said (Err Shape) s = go (breaks11 numbers) refl
     where
-      go : (b : Bool) → breaks11 numbers ≡ b → cond b Shape (lowest_fault t 0 (length t)) ≡ Shape
+      go : (b : Bool) → breaks11 numbers ≡ b → cond b (Err Shape) (lowest_fault t 0 (length t)) ≡ Err Shape
       go true h = refl
       go false h = absurd (s ((whole_rows numbers).to h))
-  said (Kind r) s = ends-at r s.0 (Kind r) refl (told_12 t r s.1)
-  said (Unused r) s = ends-at r s.0 (Unused r) refl (told_13 t r s.1 s.2)
-  said (Named r) s = ends-at r s.0 (Named r) refl (told_14 t r s.1 s.2)
-  said (Width r) s = ends-at r s.0 (Width r) refl (told_15 t r s.1 s.2)
-  said (Value r) s = ends-at r s.0 (Value r) refl (told_40 t r s.1 s.2)
-  said (Bounds r) s = ends-at r s.0 (Bounds r) refl (told_16 t r s.1 s.2)
-  said (Count r) s = ends-at r s.0 (Count r) refl (told_17 t r s.1 s.2)
+  said (Err (Kind r)) s = ends-at r s.0 (Err (Kind r)) refl (told_12 t r s.1)
+  said (Err (Unused r)) s = ends-at r s.0 (Err (Unused r)) refl (told_13 t r s.1 s.2)
+  said (Err (Named r)) s = ends-at r s.0 (Err (Named r)) refl (told_14 t r s.1 s.2)
+  said (Err (Width r)) s = ends-at r s.0 (Err (Width r)) refl (told_15 t r s.1 s.2)
+  said (Err (Value r)) s = ends-at r s.0 (Err (Value r)) refl (told_40 t r s.1 s.2)
+  said (Err (Bounds r)) s = ends-at r s.0 (Err (Bounds r)) refl (told_16 t r s.1 s.2)
+  said (Err (Count r)) s = ends-at r s.0 (Err (Count r)) refl (told_17 t r s.1 s.2)
 
-  pub fault_exactly : (f : Fault) → Exactly (first_fault numbers ≡ f) (Says f numbers)
-  fault_exactly f = record { to = λ e. subst (λ (f : Fault). Says f numbers) e table_says; of = said f }
+  pub fault_exactly : (f : Found) → Exactly (first_fault numbers ≡ f) (Says f numbers)
+  fault_exactly f = record { to = λ e. subst (λ (f : Found). Says f numbers) e table_says; of = said f }
 
 -- ---- by numbers
 
 -- the fault that has a number and a row: no two faults have the same
-numbered : ℕ → ℕ → Fault
+numbered : ℕ → ℕ → Found
 numbered n r =
-    cond (eqb n (fault_number Shape)) Shape
-    (cond (eqb n (fault_number (Kind r))) (Kind r)
-    (cond (eqb n (fault_number (Unused r))) (Unused r)
-    (cond (eqb n (fault_number (Named r))) (Named r)
-    (cond (eqb n (fault_number (Width r))) (Width r)
-    (cond (eqb n (fault_number (Value r))) (Value r)
-    (cond (eqb n (fault_number (Bounds r))) (Bounds r)
-    (cond (eqb n (fault_number (Count r))) (Count r)
+    cond (eqb n (rule_number Shape)) (Err Shape)
+    (cond (eqb n (rule_number (Kind r))) (Err (Kind r))
+    (cond (eqb n (rule_number (Unused r))) (Err (Unused r))
+    (cond (eqb n (rule_number (Named r))) (Err (Named r))
+    (cond (eqb n (rule_number (Width r))) (Err (Width r))
+    (cond (eqb n (rule_number (Value r))) (Err (Value r))
+    (cond (eqb n (rule_number (Bounds r))) (Err (Bounds r))
+    (cond (eqb n (rule_number (Count r))) (Err (Count r))
     Accepted)))))))
 
-numbered_is : (f : Fault) → numbered (fault_number f) (fault_row f) ≡ f
+numbered_is : (f : Found) → numbered (fault_number f) (fault_row f) ≡ f
 unfolding numbered
-numbered_is Accepted = refl
-numbered_is Shape = refl
-numbered_is (Kind r) = refl
-numbered_is (Unused r) = refl
-numbered_is (Named r) = refl
-numbered_is (Width r) = refl
-numbered_is (Value r) = refl
-numbered_is (Bounds r) = refl
-numbered_is (Count r) = refl
+numbered_is (Ok tt) = refl
+numbered_is (Err Shape) = refl
+numbered_is (Err (Kind r)) = refl
+numbered_is (Err (Unused r)) = refl
+numbered_is (Err (Named r)) = refl
+numbered_is (Err (Width r)) = refl
+numbered_is (Err (Value r)) = refl
+numbered_is (Err (Bounds r)) = refl
+numbered_is (Err (Count r)) = refl
 
-pub number_exactly : (numbers : List ℕ) (f : Fault) → Exactly (Refused numbers (fault_number f) (fault_row f)) (Says f numbers)
+pub number_exactly : (numbers : List ℕ) (f : Found) → Exactly (Refused numbers (fault_number f) (fault_row f)) (Says f numbers)
 number_exactly numbers f =
     record {
       to = λ e. (fault_exactly numbers f).to (sym (numbered_is (first_fault numbers)) ∙ ap₂ numbered e.0 e.1 ∙ numbered_is f);
@@ -152,29 +152,29 @@ number_exactly numbers f =
     }
 
 -- no fault has the number 18
-pub fault_never_18 : (f : Fault) → fault_number f ≡ 18 → ⊥
-fault_never_18 Accepted e = omega arith
-fault_never_18 Shape e = omega arith
-fault_never_18 (Kind r) e = omega arith
-fault_never_18 (Unused r) e = omega arith
-fault_never_18 (Named r) e = omega arith
-fault_never_18 (Width r) e = omega arith
-fault_never_18 (Value r) e = omega arith
-fault_never_18 (Bounds r) e = omega arith
-fault_never_18 (Count r) e = omega arith
+pub fault_never_18 : (f : Found) → fault_number f ≡ 18 → ⊥
+fault_never_18 (Ok x) e = omega arith
+fault_never_18 (Err Shape) e = omega arith
+fault_never_18 (Err (Kind r)) e = omega arith
+fault_never_18 (Err (Unused r)) e = omega arith
+fault_never_18 (Err (Named r)) e = omega arith
+fault_never_18 (Err (Width r)) e = omega arith
+fault_never_18 (Err (Value r)) e = omega arith
+fault_never_18 (Err (Bounds r)) e = omega arith
+fault_never_18 (Err (Count r)) e = omega arith
 
 -- Acceptance and each number of a table's refusals, both ways; and 18 is none of them.
 pub acceptance : (numbers : List ℕ) → Acceptance numbers
 acceptance numbers =
     record {
       accepted = fault_exactly numbers Accepted;
-      refused_11 = number_exactly numbers Shape;
-      refused_12 = λ r. number_exactly numbers (Kind r);
-      refused_13 = λ r. number_exactly numbers (Unused r);
-      refused_14 = λ r. number_exactly numbers (Named r);
-      refused_15 = λ r. number_exactly numbers (Width r);
-      refused_40 = λ r. number_exactly numbers (Value r);
-      refused_16 = λ r. number_exactly numbers (Bounds r);
-      refused_17 = λ r. number_exactly numbers (Count r);
+      refused_11 = number_exactly numbers (Err Shape);
+      refused_12 = λ r. number_exactly numbers (Err (Kind r));
+      refused_13 = λ r. number_exactly numbers (Err (Unused r));
+      refused_14 = λ r. number_exactly numbers (Err (Named r));
+      refused_15 = λ r. number_exactly numbers (Err (Width r));
+      refused_40 = λ r. number_exactly numbers (Err (Value r));
+      refused_16 = λ r. number_exactly numbers (Err (Bounds r));
+      refused_17 = λ r. number_exactly numbers (Err (Count r));
       never_18 = λ r e. fault_never_18 (first_fault numbers) e.0;
     }

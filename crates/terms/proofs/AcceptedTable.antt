@@ -9,27 +9,20 @@ use lib.ListN.{length}
 use lib.Seq.{take-length}
 use borrow.Author.Tests.{ne_eqb, eq-eqb, le-ltb}
 use Rattle.terms.specs.declared.Row.{Row}
-use Rattle.terms.specs.declared.Fault.{Fault}
-use Rattle.terms.specs.declared.Fault.TheVariants.{Accepted, Shape, Kind, Unused, Named, Width, Value, Bounds, Count}
+use Rattle.std.specs.Prelude.{Ok, Err}
+use Rattle.terms.specs.declared.Fault.TheVariants.{Shape, Kind, Unused, Named, Width, Value, Bounds, Count}
 use Rattle.terms.specs.Table.{rows_of, row_at, bits_of, count_kind}
 use Rattle.terms.specs.Calls.{fault_number}
-use Rattle.terms.specs.Faults.{breaks11, fault_at, is_accepted, lowest_fault, first_fault, absent}
+use Rattle.terms.specs.Faults.{Found, Accepted, breaks11, fault_at, is_accepted, lowest_fault, first_fault, absent}
 use Rattle.laws.proofs.Bools.{not_both}
 use Rattle.terms.proofs.RuleOrder.{told_none}
 use Rattle.terms.proofs.Acceptance.{fault_exactly}
 use Rattle.terms.proofs.Faults.{term, Term, term_named, totals_small}
 use Rattle.terms.specs.Sound.{Sound}
 
-pub fault_none : (f : Fault) → is_accepted f ≡ true → f ≡ Accepted
-fault_none Accepted h = refl
-fault_none Shape h = absurd (not_both h refl)
-fault_none (Kind r) h = absurd (not_both h refl)
-fault_none (Unused r) h = absurd (not_both h refl)
-fault_none (Named r) h = absurd (not_both h refl)
-fault_none (Width r) h = absurd (not_both h refl)
-fault_none (Value r) h = absurd (not_both h refl)
-fault_none (Bounds r) h = absurd (not_both h refl)
-fault_none (Count r) h = absurd (not_both h refl)
+pub fault_none : (f : Found) → is_accepted f ≡ true → f ≡ Accepted
+fault_none (Ok tt) h = refl
+fault_none (Err f) h = absurd (not_both h refl)
 
 pub record Table (numbers : List ℕ) : Type 0 where
   pub few : length (rows_of numbers) ≤ 512
@@ -67,18 +60,18 @@ sound_accepted numbers whole few sound =
     (none_lowest (rows_of numbers) 0 (length (rows_of numbers)) (λ i l h. sound i (omega arith)))
 
 -- a fault's number is 11 or more, and not 0
-pub fault_high : (f : Fault) → is_accepted f ≡ false → 11 ≤ fault_number f
-fault_high Accepted h = absurd (not_both refl h)
-fault_high Shape h = omega arith
-fault_high (Kind r) h = omega arith
-fault_high (Unused r) h = omega arith
-fault_high (Named r) h = omega arith
-fault_high (Width r) h = omega arith
-fault_high (Value r) h = omega arith
-fault_high (Bounds r) h = omega arith
-fault_high (Count r) h = omega arith
+pub fault_high : (f : Found) → is_accepted f ≡ false → 11 ≤ fault_number f
+fault_high (Ok x) h = absurd (not_both refl h)
+fault_high (Err Shape) h = omega arith
+fault_high (Err (Kind r)) h = omega arith
+fault_high (Err (Unused r)) h = omega arith
+fault_high (Err (Named r)) h = omega arith
+fault_high (Err (Width r)) h = omega arith
+fault_high (Err (Value r)) h = omega arith
+fault_high (Err (Bounds r)) h = omega arith
+fault_high (Err (Count r)) h = omega arith
 
-pub fault_numbered : (f : Fault) → is_accepted f ≡ false → eqb (fault_number f) 0 ≡ false
+pub fault_numbered : (f : Found) → is_accepted f ≡ false → eqb (fault_number f) 0 ≡ false
 fault_numbered f h = ne_eqb (fault_number f) 0 (λ e. omega (arith, e, fault_high f h))
 
 -- a row that is not absent is a term

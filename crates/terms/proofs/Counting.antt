@@ -13,9 +13,8 @@ use borrow.Author.Tests.{eqb-true, eq-eqb, ne_eqb, ltb-true, lt-ltb}
 use Rattle.laws.proofs.Bools.{not_both, and_parts, and_both, or_left, or_right}
 use Rattle.laws.proofs.Numbers.{lt_or_le, dec_eq}
 use Rattle.terms.specs.declared.Row.{Row}
-use Rattle.terms.specs.declared.Fault.TheVariants.{Accepted}
 use Rattle.terms.specs.Table.{rows_of, row_numbers, row_at, no_row, silent_row, leaving_off, of_line, some_row, revised, counting}
-use Rattle.terms.specs.Faults.{first_fault}
+use Rattle.terms.specs.Faults.{Accepted, first_fault}
 use Rattle.terms.specs.Sound.{Sound}
 use Rattle.terms.specs.Counting.{IsLine, Revised, Counts, CountingRows, OneOfLine, DistinctLines, Unmoved, without_line, FewEquations}
 use Rattle.terms.proofs.RowNumbers.{row_numbers_length, rows_written}

@@ -10,6 +10,7 @@ use lib.ListN.{length, take}
 use borrow.Author.Tests.{ltb-true, ltb-false, eqb-false, not-false, lt-ltb, le-ltb, ne_eqb}
 use Rattle.terms.specs.declared.Row.{Row}
 use Rattle.terms.specs.declared.Fault.{Fault}
+use Rattle.std.specs.Prelude.{Err}
 use Rattle.terms.specs.declared.Fault.TheVariants.{Kind, Unused, Named, Width, Value, Bounds, Count}
 use Rattle.terms.specs.Table.{row_at, by_kind, width_in, width_of, bits_of, count_kind}
 use Rattle.terms.specs.Faults.{breaks12, breaks13, breaks14, breaks15, breaks40, breaks16, breaks17, unused_column, not_term, misnamed, outside, wrong_width, wrong_value, wrong_bounds, too_many, first_rule, rules_at, fault_at, is_accepted, lowest_fault}
@@ -24,7 +25,7 @@ use Rattle.terms.specs.Sound.{Passed}
 -- ---- rules read from the top
 
 -- a rule that is kept, and those behind it
-pub rule_kept : (b : Bool) (f : Fault) (rules : List (Bool × Fault)) → is_accepted f ≡ false → is_accepted (first_rule ((b, f) ∷ rules)) ≡ true
+pub rule_kept : (b : Bool) (f : Fault) (rules : List (Bool × Fault)) → is_accepted (Err f) ≡ false → is_accepted (first_rule ((b, f) ∷ rules)) ≡ true
     → (b ≡ false) × (is_accepted (first_rule rules) ≡ true)
 unfolding first_rule
 rule_kept true f rules n h = absurd (not_both h n)

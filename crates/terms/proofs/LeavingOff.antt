@@ -3,13 +3,13 @@
 use mathlib.Core.Path.{◌≡◌, refl, sym, ◌∙◌, ap, ap₂}
 use mathlib.Core.Bool.{Bool, true, false, cond}
 use mathlib.Core.List.{List, [], ◌∷◌, ◌++◌}
-use Prim.Native.Nat.{ℕ, zero, suc, ◌+◌, ◌<◌, ◌≤◌}
+use Prim.Native.Nat.{ℕ, zero, suc, ◌+◌, ◌<◌}
 use native.Mathlib.Omega.{arith}
-use lib.ListN.{length, take, drop}
+use lib.ListN.{length, drop}
 use Rattle.laws.specs.Lists.{count_up}
 use Rattle.terms.specs.declared.Row.{Row}
 use Rattle.terms.specs.Table.{row_at, by_kind, by_rows, width_in, widths_of, bits_of, value_in, values_of, sources_of, silent_row, leaving_off}
-use Rattle.terms.specs.Faults.{breaks12, breaks13, breaks14, breaks15, breaks40, breaks16, unused_column, misnamed, wrong_width, wrong_value, wrong_bounds}
+use Rattle.terms.specs.Faults.{breaks13, breaks14, breaks15, breaks40, breaks16, unused_column, misnamed, wrong_width, wrong_value, wrong_bounds}
 use Rattle.terms.specs.Sound.{Sound}
 use Rattle.terms.proofs.Widths.{bits_snoc}
 use Rattle.terms.proofs.Faults.{Kept, kept, kept_names, unbroken, equation_names, term_named}

@@ -11,11 +11,11 @@ use Rattle.laws.specs.Binary.{binary, bits_number}
 use Rattle.laws.proofs.Binary.{written}
 use Rattle.laws.proofs.Numbers.{dec_eq, lt_or_le}
 use Rattle.terms.specs.declared.Row.{Row}
-use Rattle.terms.specs.declared.Fault.{Fault}
-use Rattle.terms.specs.declared.Fault.TheVariants.{Accepted, Unused, Width, Value}
+use Rattle.std.specs.Prelude.{Err}
+use Rattle.terms.specs.declared.Fault.TheVariants.{Unused, Width, Value}
 use Rattle.terms.specs.Table.{row_at, width_of, value_of}
 use Rattle.terms.specs.Calls.{fault_number, fault_row}
-use Rattle.terms.specs.Faults.{first_fault}
+use Rattle.terms.specs.Faults.{Found, Accepted, first_fault}
 use Rattle.terms.specs.Acceptance.{Refused}
 use Rattle.terms.specs.Sound.{Sound, IsValue}
 use Rattle.terms.specs.Markers.{Marker, one_value, OneValue}
@@ -45,19 +45,19 @@ marker t sound {r} {a} {w} is =
 -- ---- one row alone
 
 module _ (a b c : ℕ) where
-  abbrev first : Fault
+  abbrev first : Found
   first = first_fault (one_value a b c)
 
-  is_unused : (c ≡ 0 → ⊥) → first ≡ Unused 0
+  is_unused : (c ≡ 0 → ⊥) → first ≡ Err (Unused 0)
   unfolding fault_computed
   is_unused h = rw (ne_eqb c 0 h)
 
-  is_wide : c ≡ 0 → (b ≡ 0) ⊎ (1024 < b) → first ≡ Width 0
+  is_wide : c ≡ 0 → (b ≡ 0) ⊎ (1024 < b) → first ≡ Err (Width 0)
   unfolding fault_computed
   is_wide e (inl h) = rw (e, h)
   is_wide e (inr h) = rw (e, lt-ltb 1024 b h, or-true)
 
-  is_misfit : c ≡ 0 → 1 ≤ b → b ≤ 1024 → (16 < b) ⊎ (2 ^ b ≤ a) → first ≡ Value 0
+  is_misfit : c ≡ 0 → 1 ≤ b → b ≤ 1024 → (16 < b) ⊎ (2 ^ b ≤ a) → first ≡ Err (Value 0)
   unfolding fault_computed
   is_misfit e l m (inl h) = rw (e, ne_eqb b 0 (λ z. omega arith), le-ltb 1024 b m, lt-ltb 16 b h)
   is_misfit e l m (inr h) = rw (e, ne_eqb b 0 (λ z. omega arith), le-ltb 1024 b m, le-ltb a (2 ^ b) h, or-true)
@@ -127,7 +127,7 @@ module _ (a b c : ℕ) where
   verdict_is : {n : ℕ} → fault_number first ≡ n → told verdict ≡ n
   verdict_is e = sym (number_is verdict) ∙ e
 
-  tells : {f : Fault} → first ≡ f → Refused (one_value a b c) (fault_number f) (fault_row f)
+  tells : {f : Found} → first ≡ f → Refused (one_value a b c) (fault_number f) (fault_row f)
   tells e = (ap fault_number e, ap fault_row e)
 
   -- The table of one value's row: accepted, or refused 13, 15 or 40.

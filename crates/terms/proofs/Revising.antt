@@ -7,9 +7,8 @@ use Prim.Native.Nat.{ℕ, zero, suc, ◌<◌}
 use lib.ListN.{get_or}
 use Rattle.laws.proofs.Bools.{and_parts, and_both}
 use Rattle.terms.specs.declared.Row.{Row}
-use Rattle.terms.specs.declared.Fault.TheVariants.{Accepted}
 use Rattle.terms.specs.Table.{rows_of, by_kind, value_in, values_of, sides_agree, all_rows, counting, satisfies}
-use Rattle.terms.specs.Faults.{first_fault}
+use Rattle.terms.specs.Faults.{Accepted, first_fault}
 use Rattle.terms.specs.Counting.{LeftOff, without_line, TakesItsPlace}
 use Rattle.terms.proofs.ByRows.{rows_snoc}
 use Rattle.terms.proofs.LeavingOff.{alike_values}

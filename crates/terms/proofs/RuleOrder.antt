@@ -6,17 +6,17 @@ use mathlib.Core.List.{List}
 use Prim.Native.Nat.{ℕ}
 use lib.ListN.{drop}
 use Rattle.terms.specs.declared.Row.{Row}
-use Rattle.terms.specs.declared.Fault.{Fault}
-use Rattle.terms.specs.declared.Fault.TheVariants.{Accepted, Kind, Unused, Named, Width, Value, Bounds, Count}
-use Rattle.terms.specs.Faults.{breaks12, breaks13, breaks14, breaks15, breaks40, breaks16, breaks17, first_rule, rules_at, fault_at}
+use Rattle.std.specs.Prelude.{Err}
+use Rattle.terms.specs.declared.Fault.TheVariants.{Kind, Unused, Named, Width, Value, Bounds, Count}
+use Rattle.terms.specs.Faults.{Found, Accepted, breaks12, breaks13, breaks14, breaks15, breaks40, breaks16, breaks17, first_rule, rules_at, fault_at}
 use Rattle.terms.specs.Acceptance.{Keeps12, Keeps13, Keeps14, Keeps15, Keeps40, Keeps16, KeepsAll}
 
 module _ (t : List Row) (r : ℕ) where
   -- the fault of the rules behind the first n
-  behind : ℕ → Fault
+  behind : ℕ → Found
   behind n = first_rule (drop n (rules_at t r))
 
-  pub told_12 : breaks12 t r ≡ true → fault_at t r ≡ Kind r
+  pub told_12 : breaks12 t r ≡ true → fault_at t r ≡ Err (Kind r)
   unfolding fault_at rules_at first_rule
   told_12 h = rw h
 
@@ -24,7 +24,7 @@ module _ (t : List Row) (r : ℕ) where
   unfolding fault_at behind rules_at first_rule
   past_12 k = rw k
 
-  pub told_13 : Keeps12 t r → breaks13 t r ≡ true → fault_at t r ≡ Unused r
+  pub told_13 : Keeps12 t r → breaks13 t r ≡ true → fault_at t r ≡ Err (Unused r)
   unfolding behind rules_at first_rule
   told_13 k h = past_12 k ∙ rw h
 
@@ -32,7 +32,7 @@ module _ (t : List Row) (r : ℕ) where
   unfolding behind rules_at first_rule
   past_13 k = past_12 k.0 ∙ rw k.1
 
-  pub told_14 : Keeps13 t r → breaks14 t r ≡ true → fault_at t r ≡ Named r
+  pub told_14 : Keeps13 t r → breaks14 t r ≡ true → fault_at t r ≡ Err (Named r)
   unfolding behind rules_at first_rule
   told_14 k h = past_13 k ∙ rw h
 
@@ -40,7 +40,7 @@ module _ (t : List Row) (r : ℕ) where
   unfolding behind rules_at first_rule
   past_14 k = past_13 k.0 ∙ rw k.1
 
-  pub told_15 : Keeps14 t r → breaks15 t r ≡ true → fault_at t r ≡ Width r
+  pub told_15 : Keeps14 t r → breaks15 t r ≡ true → fault_at t r ≡ Err (Width r)
   unfolding behind rules_at first_rule
   told_15 k h = past_14 k ∙ rw h
 
@@ -48,7 +48,7 @@ module _ (t : List Row) (r : ℕ) where
   unfolding behind rules_at first_rule
   past_15 k = past_14 k.0 ∙ rw k.1
 
-  pub told_40 : Keeps15 t r → breaks40 t r ≡ true → fault_at t r ≡ Value r
+  pub told_40 : Keeps15 t r → breaks40 t r ≡ true → fault_at t r ≡ Err (Value r)
   unfolding behind rules_at first_rule
   told_40 k h = past_15 k ∙ rw h
 
@@ -56,7 +56,7 @@ module _ (t : List Row) (r : ℕ) where
   unfolding behind rules_at first_rule
   past_40 k = past_15 k.0 ∙ rw k.1
 
-  pub told_16 : Keeps40 t r → breaks16 t r ≡ true → fault_at t r ≡ Bounds r
+  pub told_16 : Keeps40 t r → breaks16 t r ≡ true → fault_at t r ≡ Err (Bounds r)
   unfolding behind rules_at first_rule
   told_16 k h = past_40 k ∙ rw h
 
@@ -64,7 +64,7 @@ module _ (t : List Row) (r : ℕ) where
   unfolding behind rules_at first_rule
   past_16 k = past_40 k.0 ∙ rw k.1
 
-  pub told_17 : Keeps16 t r → breaks17 t r ≡ true → fault_at t r ≡ Count r
+  pub told_17 : Keeps16 t r → breaks17 t r ≡ true → fault_at t r ≡ Err (Count r)
   unfolding behind rules_at first_rule
   told_17 k h = past_16 k ∙ rw h
 

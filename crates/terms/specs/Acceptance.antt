@@ -1,12 +1,11 @@
 -- What it says of a table that it is accepted, and what each of its refusals says (document 01, "Where a call stops", 11 to 17; document 02, 40): by the
 -- rules alone, without a search for the first. `acceptance` and `fault_exactly` (proofs/Acceptance.antt) are the theorems.
-use Rattle.std.specs.Prelude.{◌≡◌, true, false, List, ℕ, ◌%◌, ◌<◌, ◌≤◌, length}
+use Rattle.std.specs.Prelude.{◌≡◌, true, false, List, ℕ, ◌%◌, ◌<◌, ◌≤◌, length, Ok, Err}
 use Rattle.terms.specs.declared.Row.{Row}
-use Rattle.terms.specs.declared.Fault.{Fault}
-use Rattle.terms.specs.declared.Fault.TheVariants.{Accepted, Shape, Kind, Unused, Named, Width, Value, Bounds, Count}
+use Rattle.terms.specs.declared.Fault.TheVariants.{Shape, Kind, Unused, Named, Width, Value, Bounds, Count}
 use Rattle.terms.specs.Table.{rows_of}
 use Rattle.terms.specs.Calls.{fault_number, fault_row}
-use Rattle.terms.specs.Faults.{breaks12, breaks13, breaks14, breaks15, breaks40, breaks16, breaks17, first_fault}
+use Rattle.terms.specs.Faults.{Found, Accepted, breaks12, breaks13, breaks14, breaks15, breaks40, breaks16, breaks17, first_fault}
 
 -- A holds exactly if B does.
 pub record Exactly (A B : Type 0) : Type 0 where
@@ -49,16 +48,16 @@ pub record Reaches (numbers : List ℕ) (r : ℕ) : Type 0 where
 
 -- What each fault says of a table. Accepted: it is at most 512 whole rows, and none of them breaks a rule. Shape: it is not at most 512
 -- whole rows. A fault of row r: no row before r breaks a rule, and the fault's rule is the first, in the documents' order, that r breaks.
-abbrev pub Says : Fault → List ℕ → Type 0
-Says Accepted numbers = WholeRows numbers × ((r : ℕ) → r < length (rows_of numbers) → KeepsAll (rows_of numbers) r)
-Says Shape numbers = WholeRows numbers → ⊥
-Says (Kind r) numbers = Reaches numbers r × (breaks12 (rows_of numbers) r ≡ true)
-Says (Unused r) numbers = Reaches numbers r × Keeps12 (rows_of numbers) r × (breaks13 (rows_of numbers) r ≡ true)
-Says (Named r) numbers = Reaches numbers r × Keeps13 (rows_of numbers) r × (breaks14 (rows_of numbers) r ≡ true)
-Says (Width r) numbers = Reaches numbers r × Keeps14 (rows_of numbers) r × (breaks15 (rows_of numbers) r ≡ true)
-Says (Value r) numbers = Reaches numbers r × Keeps15 (rows_of numbers) r × (breaks40 (rows_of numbers) r ≡ true)
-Says (Bounds r) numbers = Reaches numbers r × Keeps40 (rows_of numbers) r × (breaks16 (rows_of numbers) r ≡ true)
-Says (Count r) numbers = Reaches numbers r × Keeps16 (rows_of numbers) r × (breaks17 (rows_of numbers) r ≡ true)
+abbrev pub Says : Found → List ℕ → Type 0
+Says (Ok x) numbers = WholeRows numbers × ((r : ℕ) → r < length (rows_of numbers) → KeepsAll (rows_of numbers) r)
+Says (Err Shape) numbers = WholeRows numbers → ⊥
+Says (Err (Kind r)) numbers = Reaches numbers r × (breaks12 (rows_of numbers) r ≡ true)
+Says (Err (Unused r)) numbers = Reaches numbers r × Keeps12 (rows_of numbers) r × (breaks13 (rows_of numbers) r ≡ true)
+Says (Err (Named r)) numbers = Reaches numbers r × Keeps13 (rows_of numbers) r × (breaks14 (rows_of numbers) r ≡ true)
+Says (Err (Width r)) numbers = Reaches numbers r × Keeps14 (rows_of numbers) r × (breaks15 (rows_of numbers) r ≡ true)
+Says (Err (Value r)) numbers = Reaches numbers r × Keeps15 (rows_of numbers) r × (breaks40 (rows_of numbers) r ≡ true)
+Says (Err (Bounds r)) numbers = Reaches numbers r × Keeps40 (rows_of numbers) r × (breaks16 (rows_of numbers) r ≡ true)
+Says (Err (Count r)) numbers = Reaches numbers r × Keeps16 (rows_of numbers) r × (breaks17 (rows_of numbers) r ≡ true)
 
 -- A table is refused with this number and this row.
 abbrev pub Refused : List ℕ → ℕ → ℕ → Type 0
@@ -67,12 +66,12 @@ Refused numbers number row = (fault_number (first_fault numbers) ≡ number) × 
 -- Acceptance and each number of a table's refusals, both ways. No table is refused 18: document 02, (iii), took that number away.
 pub record Acceptance (numbers : List ℕ) : Type 0 where
   pub accepted : Exactly (first_fault numbers ≡ Accepted) (Says Accepted numbers)
-  pub refused_11 : Exactly (Refused numbers 11 512) (Says Shape numbers)
-  pub refused_12 : (r : ℕ) → Exactly (Refused numbers 12 r) (Says (Kind r) numbers)
-  pub refused_13 : (r : ℕ) → Exactly (Refused numbers 13 r) (Says (Unused r) numbers)
-  pub refused_14 : (r : ℕ) → Exactly (Refused numbers 14 r) (Says (Named r) numbers)
-  pub refused_15 : (r : ℕ) → Exactly (Refused numbers 15 r) (Says (Width r) numbers)
-  pub refused_40 : (r : ℕ) → Exactly (Refused numbers 40 r) (Says (Value r) numbers)
-  pub refused_16 : (r : ℕ) → Exactly (Refused numbers 16 r) (Says (Bounds r) numbers)
-  pub refused_17 : (r : ℕ) → Exactly (Refused numbers 17 r) (Says (Count r) numbers)
+  pub refused_11 : Exactly (Refused numbers 11 512) (Says (Err Shape) numbers)
+  pub refused_12 : (r : ℕ) → Exactly (Refused numbers 12 r) (Says (Err (Kind r)) numbers)
+  pub refused_13 : (r : ℕ) → Exactly (Refused numbers 13 r) (Says (Err (Unused r)) numbers)
+  pub refused_14 : (r : ℕ) → Exactly (Refused numbers 14 r) (Says (Err (Named r)) numbers)
+  pub refused_15 : (r : ℕ) → Exactly (Refused numbers 15 r) (Says (Err (Width r)) numbers)
+  pub refused_40 : (r : ℕ) → Exactly (Refused numbers 40 r) (Says (Err (Value r)) numbers)
+  pub refused_16 : (r : ℕ) → Exactly (Refused numbers 16 r) (Says (Err (Bounds r)) numbers)
+  pub refused_17 : (r : ℕ) → Exactly (Refused numbers 17 r) (Says (Err (Count r)) numbers)
   pub never_18 : (r : ℕ) → Refused numbers 18 r → ⊥

@@ -1,8 +1,9 @@
 -- What calls return and leave in buffers (document 01, "Where a call stops").
-use Rattle.std.specs.Prelude.{Bool, false, ◌||◌, cond, List, [], ◌∷◌, ℕ}
+use Rattle.std.specs.Prelude.{Bool, false, ◌||◌, cond, List, [], ◌∷◌, ℕ, Ok, Err}
 use Rattle.terms.specs.declared.Record.{Record}
 use Rattle.terms.specs.declared.Fault.{Fault}
-use Rattle.terms.specs.declared.Fault.TheVariants.{Accepted, Shape, Kind, Unused, Named, Width, Value, Bounds, Count}
+use Rattle.terms.specs.declared.Fault.TheVariants.{Shape, Kind, Unused, Named, Width, Value, Bounds, Count}
+use Rattle.terms.specs.Faults.{Found}
 
 -- A refusal's number stands as outcome; other fields are 0 but row.
 abbrev pub refusal : ℕ → ℕ → Record
@@ -13,29 +14,36 @@ abbrev pub completed : ℕ → ℕ → Record
 completed pieces width = record { outcome = 0; pieces = pieces; fresh = 0; free = width; ties = 0; row = 0 }
 
 -- The number and the row of each fault of a table.
-abbrev pub fault_number : Fault → ℕ
-fault_number Accepted = 0
-fault_number Shape = 11
-fault_number (Kind r) = 12
-fault_number (Unused r) = 13
-fault_number (Named r) = 14
-fault_number (Width r) = 15
-fault_number (Value r) = 40
-fault_number (Bounds r) = 16
-fault_number (Count r) = 17
+abbrev pub rule_number : Fault → ℕ
+rule_number Shape = 11
+rule_number (Kind r) = 12
+rule_number (Unused r) = 13
+rule_number (Named r) = 14
+rule_number (Width r) = 15
+rule_number (Value r) = 40
+rule_number (Bounds r) = 16
+rule_number (Count r) = 17
 
-abbrev pub fault_row : Fault → ℕ
-fault_row Accepted = 0
-fault_row Shape = 512
-fault_row (Kind r) = r
-fault_row (Unused r) = r
-fault_row (Named r) = r
-fault_row (Width r) = r
-fault_row (Value r) = r
-fault_row (Bounds r) = r
-fault_row (Count r) = r
+abbrev pub rule_row : Fault → ℕ
+rule_row Shape = 512
+rule_row (Kind r) = r
+rule_row (Unused r) = r
+rule_row (Named r) = r
+rule_row (Width r) = r
+rule_row (Value r) = r
+rule_row (Bounds r) = r
+rule_row (Count r) = r
 
-abbrev pub fault_record : Fault → Record
+-- The same of what a check finds: 0 and 0 without a fault.
+abbrev pub fault_number : Found → ℕ
+fault_number (Ok x) = 0
+fault_number (Err f) = rule_number f
+
+abbrev pub fault_row : Found → ℕ
+fault_row (Ok x) = 0
+fault_row (Err f) = rule_row f
+
+abbrev pub fault_record : Found → Record
 fault_record f = refusal (fault_number f) (fault_row f)
 
 -- The record of the first condition that is met, from the top down; a call that meets none is accepted.

@@ -1,9 +1,8 @@
 -- What the theorems say of the equations that count (document 02, (vii); proofs/Counting.antt).
 use Rattle.std.specs.Prelude.{◌≡◌, true, List, [], ◌∷◌, ◌++◌, ℕ, ◌<◌, ◌≤◌, length}
 use Rattle.terms.specs.declared.Row.{Row}
-use Rattle.terms.specs.declared.Fault.TheVariants.{Accepted}
 use Rattle.terms.specs.Table.{rows_of, row_numbers, row_at, widths_of, count_kind, value_of, evened, satisfies, silent_row, leaving_off, of_line, counting}
-use Rattle.terms.specs.Faults.{first_fault}
+use Rattle.terms.specs.Faults.{Accepted, first_fault}
 use Rattle.terms.specs.Acceptance.{Exactly}
 
 -- Row r is an equation of line n.

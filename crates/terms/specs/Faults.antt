@@ -1,9 +1,9 @@
 -- Which rule of document 01's table ("Where a call stops", numbers 11 to 17), and of document 02's (40), a term table breaks first.
 -- Each number is one definition, over the rows t of the table and the number r of a row.
-use Rattle.std.specs.Prelude.{Bool, true, false, not, ◌&&◌, ◌||◌, cond, List, [], ◌∷◌, ℕ, zero, suc, ◌%◌, ◌^◌, eqb, ltb, length, take}
+use Rattle.std.specs.Prelude.{Bool, true, false, not, ◌&&◌, ◌||◌, cond, List, [], ◌∷◌, ℕ, zero, suc, ◌%◌, ◌^◌, eqb, ltb, length, take, Result, Ok, Err, ⊤}
 use Rattle.terms.specs.declared.Row.{Row}
 use Rattle.terms.specs.declared.Fault.{Fault}
-use Rattle.terms.specs.declared.Fault.TheVariants.{Accepted, Shape, Kind, Unused, Named, Width, Value, Bounds, Count}
+use Rattle.terms.specs.declared.Fault.TheVariants.{Shape, Kind, Unused, Named, Width, Value, Bounds, Count}
 use Rattle.terms.specs.Table.{rows_of, row_at, by_kind, width_of, count_kind, bits_of}
 
 abbrev pub nonzero : ℕ → Bool
@@ -89,10 +89,17 @@ too_many variables bits equations = ltb 64 variables || ltb 4096 bits || ltb 64 
 unfoldable pub breaks17 : List Row → ℕ → Bool
 breaks17 t r = too_many (count_kind 0 (take (suc r) t)) (bits_of (take (suc r) t)) (count_kind 4 (take (suc r) t))
 
+-- What the check of a table or of a row finds: no fault, or the first.
+abbrev pub Found : Type 0
+Found = Result ⊤ Fault
+
+abbrev pub Accepted : Found
+Accepted = Ok tt
+
 -- The fault of the first rule that is broken, where each test says whether its rule is; without one, the row is accepted.
-unfoldable pub first_rule : List (Bool × Fault) → Fault
+unfoldable pub first_rule : List (Bool × Fault) → Found
 first_rule [] = Accepted
-first_rule (s ∷ rules) = cond s.0 s.1 (first_rule rules)
+first_rule (s ∷ rules) = cond s.0 (Err s.1) (first_rule rules)
 
 -- The rules of row r, in the documents' order, each with its fault.
 unfoldable pub rules_at : List Row → ℕ → List (Bool × Fault)
@@ -106,28 +113,21 @@ rules_at t r =
     ∷ (breaks17 t r, Count r)
     ∷ []
 
-unfoldable pub fault_at : List Row → ℕ → Fault
+unfoldable pub fault_at : List Row → ℕ → Found
 fault_at t r = first_rule (rules_at t r)
 
-abbrev pub is_accepted : Fault → Bool
-is_accepted Accepted = true
-is_accepted Shape = false
-is_accepted (Kind r) = false
-is_accepted (Unused r) = false
-is_accepted (Named r) = false
-is_accepted (Width r) = false
-is_accepted (Value r) = false
-is_accepted (Bounds r) = false
-is_accepted (Count r) = false
+abbrev pub is_accepted : Found → Bool
+is_accepted (Ok x) = true
+is_accepted (Err f) = false
 
 -- The fault of the lowest row that breaks a rule, of n rows from row r on.
-unfoldable pub lowest_fault : List Row → ℕ → ℕ → Fault
+unfoldable pub lowest_fault : List Row → ℕ → ℕ → Found
 lowest_fault t r zero = Accepted
 lowest_fault t r (suc n) = cond (is_accepted (fault_at t r)) (lowest_fault t (suc r) n) (fault_at t r)
 
 -- The first fault of a table: 11, else that of the lowest row that breaks a rule.
-unfoldable pub first_fault : List ℕ → Fault
-first_fault numbers = cond (breaks11 numbers) Shape (lowest_fault (rows_of numbers) 0 (length (rows_of numbers)))
+unfoldable pub first_fault : List ℕ → Found
+first_fault numbers = cond (breaks11 numbers) (Err Shape) (lowest_fault (rows_of numbers) 0 (length (rows_of numbers)))
 
 -- 30: row absent or an equation
 unfoldable pub absent : List Row → ℕ → Bool

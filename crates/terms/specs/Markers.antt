@@ -3,9 +3,8 @@
 use Rattle.std.specs.Prelude.{◌≡◌, List, [], ◌∷◌, ◌⊎◌, ℕ, ◌^◌, ◌<◌, ◌≤◌}
 use Rattle.laws.specs.Binary.{binary, bits_number}
 use Rattle.terms.specs.declared.Row.{Row}
-use Rattle.terms.specs.declared.Fault.TheVariants.{Accepted}
 use Rattle.terms.specs.Table.{width_of, value_of}
-use Rattle.terms.specs.Faults.{first_fault}
+use Rattle.terms.specs.Faults.{Accepted, first_fault}
 use Rattle.terms.specs.Acceptance.{Exactly, Refused}
 
 -- Row r is the number a in w bits, which are 1 to 16 and hold it: under every pattern its value is these bits, and their number is a.

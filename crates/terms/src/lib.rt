@@ -50,11 +50,10 @@ pub struct Row {
     pub c: u16,
 }
 
-// What the check of a table finds: no fault, a table that is not at most 512 whole rows, or the first rule
-// broken and the row that breaks it. `fault_record` has the number and the row for each.
-#[derive(Clone, Copy)]
+// The fault of a table that is refused: it is not at most 512 whole rows, or the first rule broken and the row that
+// breaks it. `rule_number` and `rule_row` have the number and the row of each.
+#[derive(Clone, Copy, PartialEq, Eq)]
 pub enum Fault {
-    Accepted,
     Shape,
     Kind(u16),
     Unused(u16),

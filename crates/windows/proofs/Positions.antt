@@ -11,11 +11,9 @@ use lib.ListN.{length, get_or, take, drop, length-drop, length-append}
 use lib.Seq.{length-take-le, take-append-le}
 use borrow.Author.Tests.{leb-true, ltb-true, eq-eqb, ne_eqb, le-leb, lt-leb, lt-ltb, le-ltb, not-true}
 use Rattle.terms.specs.declared.Row.{Row}
-use Rattle.terms.specs.declared.Fault.{Fault}
-use Rattle.terms.specs.declared.Fault.TheVariants.{Accepted}
 use Rattle.terms.specs.Assignments.{Assignment}
 use Rattle.terms.specs.Calls.{stop_at}
-use Rattle.terms.specs.Faults.{is_accepted, first_fault}
+use Rattle.terms.specs.Faults.{Found, Accepted, is_accepted, first_fault}
 use Rattle.terms.specs.Table.{rows_of, row_numbers, bits_of, count_kind, counting, satisfies}
 use Rattle.terms.proofs.AcceptedTable.{fault_none}
 use Rattle.terms.proofs.Alike.{alike-count}
@@ -105,7 +103,7 @@ positions_counted table words a one h l =
     }
 
 -- ---- the refusals
-not_accepted : (f : Fault) → f ≢ Accepted → is_accepted f ≡ false
+not_accepted : (f : Found) → f ≢ Accepted → is_accepted f ≡ false
 not_accepted f h = go (is_accepted f) refl
   where
     go : (b : Bool) → is_accepted f ≡ b → b ≡ false

@@ -1,11 +1,10 @@
 -- What the theorems say of marker positions (document 02, (ii); proofs/Positions.antt). k is the number of the table's variables.
 use Rattle.std.specs.Prelude.{◌≡◌, ◌≢◌, true, cond, List, [], ◌∷◌, ◌++◌, ℕ, suc, ◌+◌, ◌-◌, ◌≤◌, ◌<◌, leb, length, get_or, take, drop}
 use Rattle.terms.specs.declared.Row.{Row}
-use Rattle.terms.specs.declared.Fault.TheVariants.{Accepted}
 use Rattle.terms.specs.Assignments.{Assignment}
 use Rattle.terms.specs.Acceptance.{Exactly}
 use Rattle.terms.specs.Calls.{refusal, completed, fault_record}
-use Rattle.terms.specs.Faults.{first_fault}
+use Rattle.terms.specs.Faults.{Accepted, first_fault}
 use Rattle.terms.specs.Table.{rows_of, row_numbers, row_at, bits_of, count_kind, counting, value_of, satisfies}
 use Rattle.laws.specs.Binary.{binary}
 use Rattle.laws.specs.Lists.{count_up, member, distinct}

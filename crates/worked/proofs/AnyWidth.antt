@@ -8,9 +8,8 @@ use native.Mathlib.Omega.{arith}
 use lib.ListN.{length, get_or, take, replicate, length-replicate}
 use lib.Seq.{take_all}
 use borrow.Author.Tests.{le-ltb, lt-ltb, ne_eqb}
-use Rattle.terms.specs.declared.Fault.TheVariants.{Accepted}
 use Rattle.terms.specs.Calls.{fault_record}
-use Rattle.terms.specs.Faults.{is_accepted, first_fault}
+use Rattle.terms.specs.Faults.{Accepted, is_accepted, first_fault}
 use Rattle.terms.specs.Table.{rows_of, extract, evened, same_word, satisfies}
 use Rattle.terms.specs.Assignments.{every}
 use Rattle.laws.specs.Lists.{least}

@@ -9,8 +9,7 @@ use lib.Dec.{eqb}
 use lib.ListN.{length, replicate, length-append, length-replicate}
 use lib.Seq.{take_all}
 use borrow.Author.Tests.{le-ltb, lt-ltb, ne_eqb}
-use Rattle.terms.specs.declared.Fault.TheVariants.{Accepted}
-use Rattle.terms.specs.Faults.{first_fault}
+use Rattle.terms.specs.Faults.{Accepted, first_fault}
 use Rattle.terms.specs.Table.{rows_of, bits_of, extract, same_word, satisfies}
 use Rattle.terms.proofs.Computed.{fault_computed, satisfies_computed}
 use Rattle.terms.proofs.Filled.{same_even}

@@ -9,11 +9,10 @@ use lib.Dec.{eqb}
 use lib.ListN.{length}
 use borrow.Author.Tests.{le-ltb}
 use Rattle.terms.specs.declared.Record.{Record}
-use Rattle.terms.specs.declared.Fault.TheVariants.{Accepted}
 use Rattle.terms.specs.Assignments.{Assignment, every, count}
 use Rattle.terms.specs.Calls.{completed, fault_record, stop_at}
 use Rattle.laws.specs.Buffers.{overwrite}
-use Rattle.terms.specs.Faults.{first_fault, is_accepted, absent}
+use Rattle.terms.specs.Faults.{Accepted, first_fault, is_accepted, absent}
 use Rattle.terms.specs.Table.{rows_of, bits_of, width_of, satisfies}
 use Rattle.terms.proofs.Assignments.{every_at, every_of}
 use Rattle.forms.specs.declared.Piece.{Piece}

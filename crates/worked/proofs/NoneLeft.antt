@@ -10,9 +10,8 @@ use lib.ListN.{length, get_or, take, drop, replicate, length-replicate, length-d
 use lib.Seq.{length-take-le, take_all, take_at, drop_at, get_or-take, get_or-drop}
 use borrow.Author.Tests.{le-ltb, ne_eqb}
 use Rattle.terms.specs.declared.Row.{Row}
-use Rattle.terms.specs.declared.Fault.TheVariants.{Accepted}
 use Rattle.terms.specs.Assignments.{Assignment, every}
-use Rattle.terms.specs.Faults.{first_fault}
+use Rattle.terms.specs.Faults.{Accepted, first_fault}
 use Rattle.terms.specs.Table.{rows_of, bits_of, bit_of, sources_of, evened, same_word, satisfies}
 use Rattle.terms.proofs.Assignments.{assignment_length, every_of}
 use Rattle.terms.proofs.Computed.{fault_computed, satisfies_computed}

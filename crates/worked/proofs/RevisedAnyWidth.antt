@@ -9,10 +9,11 @@ use lib.Dec.{eqb, ltb}
 use lib.ListN.{length, get_or, take, replicate, length-replicate}
 use lib.Seq.{take_all}
 use borrow.Author.Tests.{le-ltb, lt-ltb, eq-eqb, ne_eqb}
-use Rattle.terms.specs.declared.Fault.TheVariants.{Accepted, Unused, Named}
+use Rattle.std.specs.Prelude.{Err}
+use Rattle.terms.specs.declared.Fault.TheVariants.{Unused, Named}
 use Rattle.terms.specs.Assignments.{Assignment}
 use Rattle.terms.specs.Calls.{fault_record}
-use Rattle.terms.specs.Faults.{first_fault, is_accepted}
+use Rattle.terms.specs.Faults.{Accepted, first_fault, is_accepted}
 use Rattle.terms.specs.Table.{rows_of, bits_of, sources_of, evened, same_word, satisfies}
 use Rattle.terms.proofs.Computed.{fault_computed, satisfies_computed}
 use Rattle.terms.proofs.Filled.{same_even}
@@ -272,12 +273,12 @@ module _ (w : ℕ) (one : 1 ≤ w) (most : w ≤ 1024) where
   checked_too_any n r h =
       refused_case (zeros_and_ones w ++ row 4 0 r n ++ row 4 0 2 n) (figures 14 0 0 0 0 3) (ap is_accepted fault) (ap fault_record fault)
     where
-      fault : first_fault (zeros_and_ones w ++ row 4 0 r n ++ row 4 0 2 n) ≡ Named 3
+      fault : first_fault (zeros_and_ones w ++ row 4 0 r n ++ row 4 0 2 n) ≡ Err (Named 3)
       fault = unfold fault_computed in (rw (not_0, le-ltb 1024 w most, bits_0, le-ltb r 3 h) refl)
 
 -- Column c of a value.
 pub value_unlined_any : (a b c : ℕ) → 1 ≤ c → Holds (Refused (row 5 a b c) (figures 13 0 0 0 0 0))
 value_unlined_any a b c h = refused_case (row 5 a b c) (figures 13 0 0 0 0 0) (ap is_accepted fault) (ap fault_record fault)
   where
-    fault : first_fault (row 5 a b c) ≡ Unused 0
+    fault : first_fault (row 5 a b c) ≡ Err (Unused 0)
     fault = unfold fault_computed in (rw (ne_eqb c 0 (λ e. omega arith)) refl)

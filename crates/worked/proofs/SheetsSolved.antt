@@ -7,9 +7,8 @@ use lib.ListN.{length}
 use Rattle.laws.specs.Buffers.{overwrite}
 use Rattle.terms.specs.declared.Record.{Record}
 use Rattle.terms.specs.declared.Row.{Row}
-use Rattle.terms.specs.declared.Fault.TheVariants.{Accepted}
 use Rattle.terms.specs.Calls.{completed}
-use Rattle.terms.specs.Faults.{first_fault}
+use Rattle.terms.specs.Faults.{Accepted, first_fault}
 use Rattle.terms.specs.Table.{rows_of, row_numbers}
 use Rattle.terms.proofs.RowNumbers.{rows_written}
 use Rattle.sheets.specs.Call.{sheet_record, table_after}

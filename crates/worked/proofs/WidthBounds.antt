@@ -6,9 +6,10 @@ use mathlib.Core.Logic.{◌⊎◌, inl, inr}
 use Prim.Native.Nat.{ℕ, ◌+◌, ◌^◌, ◌≤◌, ◌<◌}
 use native.Mathlib.Omega.{arith}
 use borrow.Author.Tests.{le-ltb, lt-ltb, ne_eqb}
-use Rattle.terms.specs.declared.Fault.TheVariants.{Accepted, Width}
+use Rattle.std.specs.Prelude.{Err}
+use Rattle.terms.specs.declared.Fault.TheVariants.{Width}
 use Rattle.terms.specs.Calls.{fault_record}
-use Rattle.terms.specs.Faults.{is_accepted, first_fault}
+use Rattle.terms.specs.Faults.{Accepted, is_accepted, first_fault}
 use Rattle.terms.proofs.Computed.{fault_computed, satisfies_computed}
 use Rattle.answers.specs.Solve.{always_record}
 use Rattle.worked.specs.Cases.{Solved, Refused, Holds, row, figures}
@@ -20,7 +21,7 @@ module _ (b w : ℕ) where
   unfolding fault_computed
   fill_accepted bit one most = rw (ne_eqb w 0 (λ e. omega arith), le-ltb 1024 w most, le-ltb 1 b bit)
 
-  fill_refused : (w ≡ 0) ⊎ (1024 < w) → first_fault (row 1 b w 0) ≡ Width 0
+  fill_refused : (w ≡ 0) ⊎ (1024 < w) → first_fault (row 1 b w 0) ≡ Err (Width 0)
   unfolding fault_computed
   fill_refused (inl e) = rw e
   fill_refused (inr h) = rw (lt-ltb 1024 w h, or-true)
@@ -51,7 +52,7 @@ module _ (v w : ℕ) (one : 1 ≤ v) (most : v ≤ 1024) (one' : 1 ≤ w) (most'
         le-ltb 1024 (v + w) h,
       )
 
-  join_refused : 1024 < v + w → first_fault (row 0 v 0 0 ++ row 0 w 0 0 ++ row 2 0 1 0) ≡ Width 2
+  join_refused : 1024 < v + w → first_fault (row 0 v 0 0 ++ row 0 w 0 0 ++ row 2 0 1 0) ≡ Err (Width 2)
   unfolding fault_computed
   join_refused h =
       rw (

@@ -11,10 +11,9 @@ use Rattle.laws.proofs.Bools.{not_both}
 use Rattle.laws.proofs.Buffers.{overwrite-fits}
 use Rattle.terms.specs.declared.Record.{Record}
 use Rattle.terms.specs.declared.Row.{Row}
-use Rattle.terms.specs.declared.Fault.TheVariants.{Accepted}
 use Rattle.terms.specs.Assignments.{done, off, on, every, count}
 use Rattle.terms.specs.Calls.{stop_at}
-use Rattle.terms.specs.Faults.{first_fault}
+use Rattle.terms.specs.Faults.{Accepted, first_fault}
 use Rattle.terms.specs.Table.{rows_of, next_equation, bits_of, bit_of, satisfies, same_word, evened}
 use Rattle.terms.proofs.Assignments.{assignment_length}
 use Rattle.terms.proofs.Computed.{fault_computed, satisfies_computed}

@@ -1,8 +1,7 @@
 -- What the functions promise of the answer's rows.
 use Rattle.std.specs.Prelude.{◌≡◌, List, ℕ, length}
-use Rattle.terms.specs.declared.Fault.TheVariants.{Accepted}
 use Rattle.terms.specs.Table.{rows_of, bits_of}
-use Rattle.terms.specs.Faults.{first_fault}
+use Rattle.terms.specs.Faults.{Accepted, first_fault}
 use Rattle.laws.specs.Buffers.{overwrite}
 use Rattle.answers.specs.Pairs.{Pair}
 use Rattle.answers.specs.inner.Classes.{rep, in_class, Represents}

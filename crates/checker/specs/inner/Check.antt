@@ -1,27 +1,26 @@
 -- What the check of a table promises: what it finds, the rows that it passes, and where its variables stand.
-use Rattle.std.specs.Prelude.{◌≡◌, cond, List, ℕ, ◌+◌, ◌-◌, ◌%◌, ◌≤◌, eqb, ltb, length, take, set}
+use Rattle.std.specs.Prelude.{◌≡◌, cond, List, ℕ, ◌+◌, ◌-◌, ◌%◌, ◌≤◌, eqb, ltb, length, take, set, Ok, Err}
 use Rattle.terms.specs.declared.Row.{Row}
-use Rattle.terms.specs.declared.Fault.{Fault}
-use Rattle.terms.specs.declared.Fault.TheVariants.{Accepted, Shape, Kind, Unused, Named, Width, Value, Bounds, Count}
+use Rattle.terms.specs.declared.Fault.TheVariants.{Shape, Kind, Unused, Named, Width, Value, Bounds, Count}
 use Rattle.terms.specs.Table.{rows_of}
-use Rattle.terms.specs.Faults.{first_fault}
+use Rattle.terms.specs.Faults.{Found, Accepted, first_fault}
 use Rattle.terms.specs.inner.Placed.{Numbered, Placed}
 
 -- What the check finds with room for so many widths: below 512 it takes no table.
-unfoldable pub fault_in : ℕ → List ℕ → Fault
-fault_in room numbers = cond (ltb room 512) Shape (first_fault numbers)
+unfoldable pub fault_in : ℕ → List ℕ → Found
+fault_in room numbers = cond (ltb room 512) (Err Shape) (first_fault numbers)
 
 -- How many of n rows stand before a fault. A table of the wrong shape has none.
-abbrev pub rows_before : Fault → ℕ → ℕ
-rows_before Accepted n = n
-rows_before Shape n = 0
-rows_before (Kind r) n = r
-rows_before (Unused r) n = r
-rows_before (Named r) n = r
-rows_before (Width r) n = r
-rows_before (Value r) n = r
-rows_before (Bounds r) n = r
-rows_before (Count r) n = r
+abbrev pub rows_before : Found → ℕ → ℕ
+rows_before (Ok x) n = n
+rows_before (Err Shape) n = 0
+rows_before (Err (Kind r)) n = r
+rows_before (Err (Unused r)) n = r
+rows_before (Err (Named r)) n = r
+rows_before (Err (Width r)) n = r
+rows_before (Err (Value r)) n = r
+rows_before (Err (Bounds r)) n = r
+rows_before (Err (Count r)) n = r
 
 -- The rows that the check passes: all of them, or those before the fault.
 unfoldable pub rows_passed : ℕ → List ℕ → List Row
@@ -37,8 +36,8 @@ row_placed places r row variables bits =
 
 -- What the check that places promises, with the answer f: of an accepted table the widths and the variables before each row, with room for
 -- 512 numbers of places; with room for 578 all that is placed.
-abbrev pub NumbersTable : List ℕ → ℕ → List ℕ → List ℕ → Fault → Type 0
+abbrev pub NumbersTable : List ℕ → ℕ → List ℕ → List ℕ → Found → Type 0
 NumbersTable table room widths places f = f ≡ Accepted → 512 ≤ room → Numbered table widths places
 
-abbrev pub PlacesTable : List ℕ → ℕ → List ℕ → List ℕ → Fault → Type 0
+abbrev pub PlacesTable : List ℕ → ℕ → List ℕ → List ℕ → Found → Type 0
 PlacesTable table room widths places f = f ≡ Accepted → 578 ≤ room → Placed table widths places

@@ -1,15 +1,13 @@
 -- `compare_tables` meets its contract: without room, the first table's fault, or what `compare_with` does. Assumes nothing.
 use mathlib.Core.Path.{◌≡◌, sym, ◌∙◌, ap}
 use native.Mathlib.Omega.{arith}
-use Rattle.terms.specs.declared.Fault.TheVariants.{Accepted}
-use Rattle.terms.specs.Faults.{is_accepted, first_fault}
+use Rattle.terms.specs.Faults.{Accepted, is_accepted, first_fault}
 use Rattle.terms.specs.Calls.{fault_record}
 use Rattle.terms.specs.inner.Placed.{Placed}
 use Rattle.terms.proofs.AcceptedTable.{fault_none}
 use Rattle.checker.proofs.Checking.{fault_found}
 use Rattle.inclusion.proofs.Stops.{stop_room, stop_first}
 use Rattle.comparer.proofs.Stops.{ends_stopped}
-use borrow.Author.Rules.{rules}
 use Rattle.comparer.proofs.compare_tables.Goals as goal
 use Rattle.comparer.proofs.compare_tables.Lts as lts
 use Rattle.comparer.proofs.compare_tables.Tie as tie

@@ -1,8 +1,7 @@
 -- A copy of a table from which its equations are taken: each cut of a cut is made one cut, and the revised equations are left off.
 use Rattle.std.specs.Prelude.{◌≡◌, List, ℕ, ◌≤◌, length, take}
-use Rattle.terms.specs.declared.Fault.TheVariants.{Accepted}
 use Rattle.terms.specs.Table.{rows_of, counting}
-use Rattle.terms.specs.Faults.{first_fault}
+use Rattle.terms.specs.Faults.{Accepted, first_fault}
 use Rattle.copies.specs.inner.Shortened.{shortened}
 
 pub record Copied (table copy : List ℕ) : Type 0 where

@@ -7,6 +7,6 @@ pub returns-then-kind-eq-CONSTANT : goal.returns-then-kind-eq-CONSTANT
 unfolding is_fixed
 returns-then-kind-eq-CONSTANT c = rw (eq-eqb _ _ c.if-kind-eq-CONSTANT.true)
 
-pub returns : goal.returns
+pub returns-else-kind-eq-CONSTANT : goal.returns-else-kind-eq-CONSTANT
 unfolding is_fixed
-returns c = rw (ne_eqb _ _ c.if-kind-eq-CONSTANT.false)
+returns-else-kind-eq-CONSTANT c = rw (ne_eqb _ _ c.if-kind-eq-CONSTANT.false)

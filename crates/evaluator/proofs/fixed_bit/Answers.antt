@@ -5,13 +5,12 @@ use Prim.Native.Nat.{ℕ, ◌-◌, ◌/◌, ◌%◌, ◌^◌}
 use Rattle.evaluator.proofs.Bits.{fill_at, value_at}
 use Rattle.evaluator.proofs.fixed_bit.Goals as goal
 
-pub returns-then-kind-eq-CONSTANT : goal.returns-then-kind-eq-CONSTANT
-returns-then-kind-eq-CONSTANT c = fill_at _ _ c.if-kind-eq-CONSTANT.true c.requires.i_lt_b
+pub returns-then-r-eq-CONSTANT : goal.returns-then-r-eq-CONSTANT
+returns-then-r-eq-CONSTANT c = fill_at _ _ c.if-r-eq-CONSTANT.true c.requires.i_lt_b
 
 pub returns : goal.returns
 returns c =
     let a = c.args in
-    let at : c.minus.result ≡ a.r.b - 1 - a.i = c.minus.ensures ∙ ap (λ (n : ℕ). n - 1 - a.i) c.wide-last.ensures.0 in
     c.bit_of.ensures.0
-    ∙ ap (λ (n : ℕ). a.r.a / 2 ^ n % 2) at
-    ∙ value_at _ _ c.requires.kind_value c.if-kind-eq-CONSTANT.false c.requires.i_lt_b
+    ∙ ap (λ (n : ℕ). a.r.a / 2 ^ (n - 1 - a.i) % 2) c.from-last.ensures
+    ∙ value_at _ _ c.requires.kind_value c.if-r-eq-CONSTANT.false c.requires.i_lt_b

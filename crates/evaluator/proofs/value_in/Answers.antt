@@ -1,14 +1,13 @@
 -- `value_in` meets its contract: each way in which it ends has its law in ValueCall.antt of terms. Assumes nothing.
-use mathlib.Core.Path.{◌≡◌, sym, ◌∙◌, ap}
-use mathlib.Core.Bool.{true, false}
+use mathlib.Core.Path.{◌≡◌, refl, sym, ◌∙◌, ap}
+use mathlib.Core.Bool.{Bool, true, false}
 use mathlib.Core.List.{List}
-use Prim.Native.Nat.{ℕ, ◌≤◌}
+use Prim.Native.Nat.{ℕ, ◌/◌, ◌≤◌}
 use native.Mathlib.Omega.{arith}
-use lib.ListN.{get_or}
+use lib.ListN.{length, get_or}
 use Rattle.terms.specs.Table.{rows_of, width_of}
 use Rattle.terms.specs.Faults.{absent, is_accepted, first_fault, not_term}
 use Rattle.terms.specs.Calls.{completed}
-use Rattle.terms.specs.Value.{wrong_pattern}
 use Rattle.terms.specs.inner.Placed.{Placed}
 use Rattle.terms.proofs.AcceptedTable.{accepted_table}
 use Rattle.terms.proofs.Faults.{widths_small}
@@ -17,68 +16,76 @@ use Rattle.terms.proofs.ValueCall.{stop_absent, stop_pattern, stop_room, written
 use Rattle.evaluator.specs.inner.Ready.{IsTerm}
 use Rattle.evaluator.proofs.Found.{row_there}
 use Rattle.evaluator.proofs.value_in.Goals as goal
-use Rattle.evaluator.proofs.value_in.Lts as lts
-use Rattle.evaluator.proofs.value_in.Tie as tie
-use Rattle.evaluator.proofs.value_in.Reads as reads
+use Rattle.evaluator.proofs.value_in.Goals.{then-bits-pattern-via-then-bits-pattern, then-bits-pattern-via-else-bits-pattern+then-not-all_bits}
 
 -- the row is tested as the definition asks
-absent-is : (d : lts.After-not_term tie.the-claims reads.Pre reads.Post tie.handed_clauses) → absent (rows_of d.args.table.now) d.args.row ≡ d.not_term.result
+told : (table : List ℕ) (row : ℕ) (b : Bool) → b ≡ not_term (rows_of table) (length table / 4) row → absent (rows_of table) row ≡ b
 unfolding absent
-absent-is d = ap (λ (n : ℕ). not_term (rows_of d.args.table.now) n d.args.row) (rows_length d.args.table.now) ∙ sym d.not_term.ensures
+told table row b e = ap (λ (n : ℕ). not_term (rows_of table) n row) (rows_length table) ∙ sym e
 
-is_there : (d : lts.Else1 tie.the-claims reads.Pre reads.Post tie.handed_clauses) → absent (rows_of d.args.table.now) d.args.row ≡ false
-is_there d = absent-is d.before ∙ d.if-not_term.false
-
-is-term : (d : lts.Else1 tie.the-claims reads.Pre reads.Post tie.handed_clauses) → IsTerm d.args.table.now d.args.row
-is-term d = row_there _ _ (is_there d)
-
-is-good : (table : List ℕ) {widths places : List ℕ} → Placed table widths places → is_accepted (first_fault table) ≡ true
-is-good table p = ap is_accepted p.numbered.accepted
-
-is_right : (d : lts.Else3 tie.the-claims reads.Pre reads.Post tie.handed_clauses) → wrong_pattern (rows_of d.args.table.now) d.args.pattern.now ≡ false
-is_right d = pattern_right _ _ (sym d.requires.bits_value ∙ d.if-bits-pattern.false) (sym d.all_bits.ensures ∙ d.if-not-all_bits.false)
+good : {table widths places : List ℕ} → Placed table widths places → is_accepted (first_fault table) ≡ true
+good p = ap is_accepted p.numbered.accepted
 
 -- the width that was placed for the row
-width_read : (d : lts.Else3 tie.the-claims reads.Pre reads.Post tie.handed_clauses) → get_or d.args.widths.now d.args.row 0 ≡ width_of (rows_of d.args.table.now) d.args.row
-width_read d = d.requires.placed.numbered.widths_are _ (is-term d.before.before.before).there
-
-width_small : (d : lts.Else3 tie.the-claims reads.Pre reads.Post tie.handed_clauses) → get_or d.args.widths.now d.args.row 0 ≤ 1024
-width_small d =
-    let t = accepted_table _ d.requires.placed.numbered.accepted in
-    rw (width_read d) (widths_small _ _ (omega arith) t.sound _ (is-term d.before.before.before).there)
+width_small : {table widths places : List ℕ} → Placed table widths places → (row : ℕ) → IsTerm table row → get_or widths row 0 ≤ 1024
+width_small p row t =
+    let sound = (accepted_table _ p.numbered.accepted).sound in
+    rw (p.numbered.widths_are row t.there) (widths_small _ _ (omega arith) sound _ t.there)
 
 pub returns-then-not_term : goal.returns-then-not_term
 returns-then-not_term c =
-    let both = stop_absent _ _ _ _ (is-good _ c.requires.placed) (absent-is c.before.before.before ∙ c.if-not_term.true) _ c.refuse.ensures in
+    let both = stop_absent _ _ _ _ (good c.requires.placed) (told _ _ _ c.not_term.ensures ∙ c.if-not_term.true) _ refl in
     record { «record» = both.0; output = both.1 }
 
 pub returns-then-bits-pattern : goal.returns-then-bits-pattern
 returns-then-bits-pattern c =
-    let both = stop_pattern _ _ _ _ (is-good _ c.requires.placed) (is_there c.before.before.before) (pattern_short _ _ (λ e. c.if-bits-pattern.true (c.requires.bits_value ∙ e))) _ c.refuse-then-bits-pattern.ensures in
+    let there = told _ _ _ c.not_term.ensures ∙ c.if-not_term.false in
+    let bits = c.from-bits.ensures ∙ c.requires.placed.bits_are in
+    let both = stop_pattern _ _ _ _ (good c.requires.placed) there
+        (elim c.then-bits-pattern.branch [
+          then-bits-pattern-via-then-bits-pattern w ↦ pattern_short _ _ (λ e. w.if-bits-pattern.true (bits ∙ e))
+          | then-bits-pattern-via-else-bits-pattern+then-not-all_bits w ↦ pattern_broken _ _ (sym w.all_bits.ensures ∙ w.if-not-all_bits.true)
+        ]) _ refl in
     record { «record» = both.0; output = both.1 }
 
-pub returns-then-not-all_bits : goal.returns-then-not-all_bits
-returns-then-not-all_bits c =
-    let both = stop_pattern _ _ _ _ (is-good _ c.requires.placed) (is_there c.before.before.before.before.before) (pattern_broken _ _ (sym c.all_bits.ensures ∙ c.if-not-all_bits.true)) _ c.refuse-then-not-all_bits.ensures in
-    record { «record» = both.0; output = both.1 }
+pub bounds-places-577 : goal.bounds-places-577
+bounds-places-577 c = omega (arith, c.requires.placed.places_room)
 
 pub offset_bounds-widths-row : goal.offset_bounds-widths-row
-offset_bounds-widths-row c = omega (arith, (is-term c.before.before.before.before).there, (accepted_table _ c.requires.placed.numbered.accepted).few)
+offset_bounds-widths-row c =
+    let t = row_there _ _ (told _ _ _ c.not_term.ensures ∙ c.if-not_term.false) in
+    omega (arith, t.there, (accepted_table _ c.requires.placed.numbered.accepted).few)
 
 pub bounds-widths-row : goal.bounds-widths-row
-bounds-widths-row c = omega (arith, (is-term c.before.before.before.before.before).there, c.requires.placed.widths_room)
+bounds-widths-row c =
+    let t = row_there _ _ (told _ _ _ c.not_term.ensures ∙ c.if-not_term.false) in
+    omega (arith, t.there, c.requires.placed.widths_room)
 
-pub returns-then-output-width : goal.returns-then-output-width
-returns-then-output-width c =
-    let both = stop_room _ _ _ _ (is-good _ c.requires.placed) (is_there c.before.before.before.before.before.before.before) (is_right c.before.before.before.before) (omega (arith, width_read c.before.before.before.before, c.if-output-width.true)) _ c.refuse-then-output-width.ensures in
+pub returns-then-output-from : goal.returns-then-output-from
+returns-then-output-from c =
+    let p = c.requires.placed in
+    let there = told _ _ _ c.not_term.ensures ∙ c.if-not_term.false in
+    let right = pattern_right _ _ (sym (c.from-bits.ensures ∙ p.bits_are) ∙ c.if-bits-pattern.false) (sym c.all_bits.ensures ∙ c.if-not-all_bits.false) in
+    let width = p.numbered.widths_are _ (row_there _ _ there).there in
+    let both = stop_room _ _ _ _ (good p) there right (omega (arith, width, c.from.ensures, c.if-output-from.true)) _ refl in
     record { «record» = both.0; output = both.1 }
 
 pub write_value-requires : goal.write_value-requires
 write_value-requires c =
-    record { ready = record { placed = c.requires.placed; whole = sym c.if-bits-pattern.false ∙ c.requires.bits_value }; term = is-term c.before.before.before.before.before.before.before; row_in_bounds = omega (arith, width_read c.before.before.before.before, c.if-output-width.false) }
+    let p = c.requires.placed in
+    let t = row_there _ _ (told _ _ _ c.not_term.ensures ∙ c.if-not_term.false) in
+    record {
+      ready = record { placed = p; whole = sym c.if-bits-pattern.false ∙ c.from-bits.ensures ∙ p.bits_are };
+      term = t;
+      row_in_bounds = omega (arith, p.numbered.widths_are _ t.there, c.from.ensures, c.if-output-from.false);
+    }
 
 pub returns : goal.returns
 returns c =
-    let both = written _ _ _ _ (is-good _ c.requires.placed) (is_there c.before.before.before.before.before.before.before.before.before.before.before) (is_right c.before.before.before.before.before.before.before.before) (omega (arith, width_read c.before.before.before.before.before.before.before.before, c.if-output-width.false)) _ _
-    (c.complete.ensures ∙ ap (completed 0) (width_read c.before.before.before.before.before.before.before.before)) c.write_value.ensures in
+    let p = c.requires.placed in
+    let there = told _ _ _ c.not_term.ensures ∙ c.if-not_term.false in
+    let right = pattern_right _ _ (sym (c.from-bits.ensures ∙ p.bits_are) ∙ c.if-bits-pattern.false) (sym c.all_bits.ensures ∙ c.if-not-all_bits.false) in
+    let width = p.numbered.widths_are _ (row_there _ _ there).there in
+    let both = written _ _ _ _ (good p) there right (omega (arith, width, c.from.ensures, c.if-output-from.false)) _ _
+        (c.complete.ensures ∙ ap (completed 0) (c.into.ensures ∙ width)) c.write_value.ensures in
     record { «record» = both.0; output = both.1 }

@@ -1,9 +1,8 @@
 -- What the inner functions promise of the classes of a table's bits.
 use Rattle.std.specs.Prelude.{◌≡◌, List, ℕ, suc, ◌≤◌, length}
 use Rattle.terms.specs.declared.Row.{Row}
-use Rattle.terms.specs.declared.Fault.TheVariants.{Accepted}
 use Rattle.terms.specs.Table.{rows_of, bits_of}
-use Rattle.terms.specs.Faults.{first_fault}
+use Rattle.terms.specs.Faults.{Accepted, first_fault}
 use Rattle.terms.specs.inner.Placed.{Placed}
 use Rattle.laws.specs.Lists.{count_up}
 use Rattle.answers.specs.Pairs.{equation_pairs}

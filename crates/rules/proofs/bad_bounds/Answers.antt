@@ -4,7 +4,6 @@ use Rattle.terms.proofs.RowKinds.{each_kind}
 use mathlib.Core.Path.{refl}
 use native.Mathlib.Omega.{arith}
 use borrow.Author.Tests.{lt-ltb, le-ltb}
-use borrow.Author.Rules.{rules}
 use Rattle.rules.proofs.bad_bounds.Goals as goal
 
 pub returns-then-width-wide : goal.returns-then-width-wide

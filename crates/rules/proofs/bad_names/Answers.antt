@@ -4,7 +4,6 @@ use Rattle.terms.specs.Faults.{misnamed, not_term}
 use Rattle.terms.specs.Table.{rows_of}
 use native.Mathlib.Omega.{arith}
 use mathlib.Core.Path.{◌≡◌, refl, sym, ◌∙◌, ap}
-use borrow.Author.Rules.{rules}
 use Rattle.rules.proofs.bad_names.Goals as goal
 use Rattle.rules.proofs.bad_names.Lts as lts
 use Rattle.rules.proofs.bad_names.Tie as tie

@@ -3,7 +3,6 @@ use Rattle.terms.specs.Faults.{not_term}
 use Rattle.terms.specs.Table.{rows_of, row_at}
 use borrow.Author.Tests.{lt-ltb, le-ltb, ne_eqb}
 use mathlib.Core.Path.{◌≡◌, sym, ◌∙◌, ap}
-use borrow.Author.Rules.{rules}
 use Rattle.rules.proofs.not_term.Goals as goal
 
 pub returns-then-r-x : goal.returns-then-r-x

@@ -3,7 +3,6 @@ use Rattle.terms.proofs.RowKinds.{each_kind}
 use Rattle.terms.specs.Table.{bits_in}
 use native.Mathlib.Omega.{arith}
 use mathlib.Core.Path.{refl}
-use borrow.Author.Rules.{rules}
 use Rattle.rules.proofs.row_bits.Goals as goal
 
 pub returns-then-kind-eq-VARIABLE : goal.returns-then-kind-eq-VARIABLE

@@ -1,11 +1,10 @@
 -- `row_width` meets its contract, kind by kind. Assumes nothing.
 use mathlib.Core.Path.{ap₂}
-use Prim.Native.Nat.{◌+◌, ◌-◌}
+use Prim.Native.Nat.{◌+◌}
 use Rattle.terms.specs.Table.{width_in}
 use Rattle.terms.proofs.RowKinds.{each_kind}
 use mathlib.Core.Path.{refl}
 use native.Mathlib.Omega.{arith}
-use borrow.Author.Rules.{rules}
 use Rattle.rules.proofs.row_width.Goals as goal
 
 pub returns-then-kind-eq-VARIABLE : goal.returns-then-kind-eq-VARIABLE

@@ -1,9 +1,8 @@
 -- What the functions promise that answer from equations taken in whole runs.
 use Rattle.std.specs.Prelude.{◌≡◌, List, ℕ, ◌*◌, ◌≤◌, length}
 use Rattle.terms.specs.declared.Record.{Record}
-use Rattle.terms.specs.declared.Fault.TheVariants.{Accepted}
 use Rattle.terms.specs.Table.{rows_of, bits_of}
-use Rattle.terms.specs.Faults.{first_fault}
+use Rattle.terms.specs.Faults.{Accepted, first_fault}
 use Rattle.solver.specs.inner.Call.{Concluded, Answered}
 use Rattle.run_classes.specs.inner.Classes.{TakenInRuns}
 

@@ -5,8 +5,7 @@ use mathlib.Core.Bool.{true, false}
 use Prim.Native.Nat.{◌≤◌}
 use native.Mathlib.Omega.{arith}
 use lib.ListN.{length}
-use Rattle.terms.specs.declared.Fault.TheVariants.{Accepted}
-use Rattle.terms.specs.Faults.{is_accepted, first_fault}
+use Rattle.terms.specs.Faults.{Accepted, is_accepted, first_fault}
 use Rattle.terms.specs.Calls.{fault_record}
 use Rattle.terms.proofs.AcceptedTable.{fault_none}
 use Rattle.checker.proofs.Checking.{fault_found}

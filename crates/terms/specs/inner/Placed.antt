@@ -2,9 +2,8 @@
 -- variables stand before each row, from number 512 on the source before each variable, and at number 577 how many variable bits there are.
 use Rattle.std.specs.Prelude.{◌≡◌, List, ℕ, ◌+◌, ◌≤◌, ◌<◌, length, get_or, take}
 use Rattle.terms.specs.declared.Row.{Row}
-use Rattle.terms.specs.declared.Fault.TheVariants.{Accepted}
 use Rattle.terms.specs.Table.{rows_of, bits_of, width_of, count_kind}
-use Rattle.terms.specs.Faults.{first_fault}
+use Rattle.terms.specs.Faults.{Accepted, first_fault}
 use Rattle.terms.specs.inner.Places.{source_before}
 
 -- The numbers are the widths of the rows.
