@@ -1,15 +1,12 @@
 -- `make_pattern` meets its contract: each way in which it ends has its law in proofs/Ends.antt. Assumes nothing.
-use mathlib.Core.Path.{◌≡◌, sym, ◌∙◌, ap}
-use mathlib.Core.Bool.{true}
+use mathlib.Core.Path.{sym, ◌∙◌, ap}
 use Prim.Native.Nat.{ℕ, ◌≤◌}
 use native.Mathlib.Omega.{arith}
 use lib.ListN.{length, replicate}
-use Rattle.terms.specs.Faults.{Accepted, is_accepted, first_fault}
+use Rattle.terms.specs.Faults.{is_accepted}
 use Rattle.terms.specs.Calls.{fault_record}
-use Rattle.terms.specs.inner.Placed.{Placed}
 use Rattle.terms.proofs.AcceptedTable.{fault_none}
 use Rattle.checker.proofs.Checking.{fault_found}
-use Rattle.assignments.specs.Form.{has_form}
 use Rattle.matcher.proofs.Ends.{stop_memory, stop_fault, stop_33, stop_46, fill_right}
 use Rattle.maker.proofs.Ending.{form_filled}
 use Rattle.matcher.proofs.make_pattern.Goals as goal
