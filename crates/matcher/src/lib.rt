@@ -93,13 +93,12 @@ pub fn make_pattern(
     let fault = checker::check_and_place(table, &mut widths[..], &mut places[..]);
     let mut starts = [0u16; 4096];
     let found = shapes::form_of(answer, &mut starts[..]);
-    let fine = found.fine;
     if !records::accepted(fault) {
         return records::fault_record(fault);
     }
-    if !fine {
+    let Some(found) = found else {
         return records::refuse(33, 0);
-    }
+    };
     let bits = usize::from(places[checker::BITS]);
     let other = is_other(table, &widths[..], &places[..], bits, answer, work);
     work.fill(0);
