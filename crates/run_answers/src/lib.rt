@@ -9,6 +9,7 @@ use terms::Record;
 
 // The record of the equations that were taken, and for outcome 2 the answer's rows, four numbers each, as far as the answer table lent reaches.
 // Runs are swept only where there are rows to write: without ties each source links to itself already.
+// Kept: a twin of crate solver's; shared it is no plainer, since the sweep and the rows between its parts take other lists (the runs)
 fn conclude(
     table: &[u16],
     bits: usize,
@@ -24,11 +25,9 @@ fn conclude(
     if row < table.len() / 4 {
         return Record {
             outcome: 1,
-            pieces: 0,
-            fresh: 0,
-            free: 0,
             ties: numbers::short(ties),
             row: numbers::short(row),
+            ..records::complete(0, 0)
         };
     }
     if ties == 0 {
@@ -40,7 +39,7 @@ fn conclude(
         outcome: 2,
         pieces: numbers::short(counts.pieces),
         fresh: numbers::short(counts.fresh),
-        free: numbers::short(numbers::minus(bits, ties)),
+        free: numbers::short(bits.saturating_sub(ties)),
         ties: numbers::short(ties),
         row: 0,
     }

@@ -36,6 +36,7 @@ pub fn start(sources: &[u16], n: u16, last: &mut [u16], first: &mut [u16])
 {
     let mut v: usize = 0;
     let mut x: u16 = 2;
+    // Kept: a `while`, since it goes from variable to variable, on by a found length
     while x < n {
         let end = numbers::load(sources, v + 1).min(n - 1);
         let t = x.max(end);
@@ -127,6 +128,7 @@ pub fn find(links: &[u16], last: &[u16], s: u16, count: u16) -> Found
     let mut x = s;
     let mut len = count;
     let mut hops: u16 = 0;
+    // Kept: a `while`, since it goes from link to link
     while 1 < x {
         len = len.min(rest(last, x));
         let g = numbers::load(links, usize::from(x));
