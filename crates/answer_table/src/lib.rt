@@ -2,13 +2,14 @@
 #![tactic(auto)]
 
 ghost use Rattle.std.specs.Prelude.{◌≡◌, drop};
-ghost use Rattle.answers.specs.RightSide.{row_variables, rows_before, rows_on, right_side_start, right_side_length, right_side};
+ghost use Rattle.answers.specs.RightSide.{row_variables, rows_on, right_side_start, right_side_length, right_side};
 ghost use Rattle.answers.specs.Answer.{answer_rows_of, answer_row_at};
-ghost use Rattle.answer_table.specs.inner.Rows.{four_put};
+ghost use Rattle.answer_table.specs.inner.Rows.{four_put, first_of};
 
 use answers::{AnswerRow, Part};
 
 // Row i of an answer table, all 0 past its end.
+// Kept: the row of all 0, and no Option, since answer_row_at says so.
 pub fn row_at(answer: &[u16], i: usize) -> AnswerRow
     ensures { result ≡ answer_row_at (answer_rows_of answer.now) i }
 {
@@ -33,38 +34,34 @@ pub fn row_at(answer: &[u16], i: usize) -> AnswerRow
 pub fn put_four(answer: &mut [u16], i: u16, row: AnswerRow)
     ensures { answer.new ≡ four_put answer.old i row }
 {
-    let at = numbers::wide(i) * answers::FOUR;
+    let at = usize::from(i) * answers::FOUR;
     numbers::store_four(answer, at, row.variable, row.kind, row.width, row.fresh);
 }
 
-// The first row of a variable, or the number of whole rows if there is none.
-fn first_row(used: &[u16], variable: usize) -> usize
-    ensures { result ≡ rows_before variable (row_variables used.now) }
+// The first row of a variable, if there is one.
+fn first_row(used: &[u16], variable: usize) -> Option<usize>
+    ensures { result ≡ first_of variable (row_variables used.now) }
 {
-    let mut i = 0;
-    while i < used.len() / answers::ROW {
-        let row = row_at(used, i);
-        if numbers::wide(row.variable) == variable {
-            return i;
+    for i in 0..used.len() / answers::ROW {
+        if usize::from(row_at(used, i).variable) == variable {
+            return Some(i);
         }
-        i += 1;
     }
-    i
+    None
 }
 
 // How many rows of a variable follow directly, from one row on.
 fn rows_on(used: &[u16], variable: usize, first: usize) -> usize
     ensures { result ≡ rows_on variable (drop first (row_variables used.now)) }
 {
-    let mut i = first;
-    while i < used.len() / answers::ROW {
-        let row = row_at(used, i);
-        if numbers::wide(row.variable) != variable {
-            return i - first;
+    let mut count = 0;
+    for i in first..used.len() / answers::ROW {
+        if usize::from(row_at(used, i).variable) != variable {
+            break;
         }
-        i += 1;
+        count += 1;
     }
-    i - first
+    count
 }
 
 // Where the right side of a variable stands in an answer table of which so many rows are in use.
@@ -75,13 +72,11 @@ pub fn right_part(answer: &[u16], rows: usize, variable: usize) -> Part
     if answer.len() / answers::ROW < rows {
         return Part { start: 0, len: 0 };
     }
-    let end = rows * answers::ROW;
-    let used = &answer[..end];
-    let first = first_row(used, variable);
-    let count = rows_on(used, variable, first);
-    if count == 0 {
+    let used = &answer[..rows * answers::ROW];
+    let Some(first) = first_row(used, variable) else {
         return Part { start: 0, len: 0 };
-    }
+    };
+    let count = rows_on(used, variable, first);
     Part {
         start: first * answers::ROW,
         len: count * answers::ROW,
@@ -93,7 +88,5 @@ pub fn right_side<'a>(answer: &'a [u16], rows: usize, variable: usize) -> &'a [u
     ensures { result.now ≡ right_side answer.now rows variable }
 {
     let part = right_part(answer, rows, variable);
-    let start = part.start;
-    let end = start + part.len;
-    &answer[start..end]
+    &answer[part.start..part.start + part.len]
 }

@@ -88,19 +88,19 @@ single_bit : (t : List Row) (b : ℕ) → b ≤ 1 → form_from t (b ∷ []) ≡
 unfolding form_from group add_all add
 single_bit t b h = ap (λ (p : Piece). p ∷ []) (constant_piece t b h)
 
--- one bit more of bits top down of a number, behind k of them: bit top - k
-pub appended_bit : (t : List Row) (a top k n m : ℕ) (out out₁ : List ℕ) → k ≤ top → Appended t (binary k (a / 2 ^ (top + 1 - k))) n out m out₁
-    → (i b : ℕ) → i ≡ top - k → b ≡ a / 2 ^ i % 2 → (q : Piece) → q ≡ fill b 0 → (m' : ℕ) (out₂ : List ℕ) → m' ≡ pushed_count out₁ m q → out₂ ≡ pushed_numbers out₁ m q
-    → Appended t (binary (k + 1) (a / 2 ^ (top + 1 - (k + 1)))) n out m' out₂
+-- one bit more of bits top down of a number, behind those from bit k on: bit i, where k is i + 1
+pub appended_bit : (t : List Row) (a top k i n m : ℕ) (out out₁ : List ℕ) → k ≡ suc i → i ≤ top → Appended t (binary (top + 1 - k) (a / 2 ^ k)) n out m out₁
+    → (b : ℕ) → b ≡ a / 2 ^ i % 2 → (q : Piece) → q ≡ fill b 0 → (m' : ℕ) (out₂ : List ℕ) → m' ≡ pushed_count out₁ m q → out₂ ≡ pushed_numbers out₁ m q
+    → Appended t (binary (top + 1 - i) (a / 2 ^ i)) n out m' out₂
 unfolding binary
-appended_bit t a top k n m out out₁ l f i b ei eb q eq m' out₂ em eo =
-    let more : k + 1 ≡ suc k = omega arith in
-    let last : top + 1 - (k + 1) ≡ i = omega arith in
-    let before : top + 1 - k ≡ suc i = omega arith in
-    rw (last, more)
-    (appended_same t (binary k (a / 2 ^ (top + 1 - k)) ++ (b ∷ [])) (binary (suc k) (a / 2 ^ i)) n m' out out₂
-    (ap₂ (λ (h x : ℕ). binary k h ++ (x ∷ [])) (ap (λ (e : ℕ). a / 2 ^ e) before ∙ sym (bit_half a i)) eb)
-    (appended_both t (binary k (a / 2 ^ (top + 1 - k))) (b ∷ []) n m m' out out₁ out₂ f
+appended_bit t a top k i n m out out₁ ek l f b eb q eq m' out₂ em eo =
+    let more : top + 1 - i ≡ suc (top - i) = omega arith in
+    let before : top + 1 - k ≡ top - i = omega arith in
+    let f' : Appended t (binary (top - i) (a / 2 ^ suc i)) n out m out₁ = rw (before, ek) at f in
+    rw more
+    (appended_same t (binary (top - i) (a / 2 ^ suc i) ++ (b ∷ [])) (binary (suc (top - i)) (a / 2 ^ i)) n m' out out₂
+    (ap₂ (λ (h x : ℕ). binary (top - i) h ++ (x ∷ [])) (sym (bit_half a i)) eb)
+    (appended_both t (binary (top - i) (a / 2 ^ suc i)) (b ∷ []) n m m' out out₁ out₂ f'
     (appended_push t (b ∷ []) q (single_bit t b (omega arith) ∙ ap (λ (p : Piece). p ∷ []) (sym eq)) m out₁ m' out₂ em eo)))
 
 -- what was appended to nothing is the form of the sources; of a row, where they are the row's

@@ -29,25 +29,12 @@ struct Part {
     low: u16,
 }
 
-fn cut_of(row: u16, high: u16, low: u16) -> Cut
-    ensures { result ≡ record { row = row; high = high; low = low } }
-{
-    Cut {
-        row: row,
-        high: high,
-        low: low,
-    }
-}
-
-fn part_of(row: u16, width: u16, high: u16, low: u16) -> Part
-    ensures { result ≡ record { row = row; width = width; high = high; low = low } }
-{
-    Part {
-        row: row,
-        width: width,
-        high: high,
-        low: low,
-    }
+// The lists that forms are made from: a table, the width of each row, and the variables before it.
+#[derive(Clone, Copy)]
+struct Lists<'a> {
+    table: &'a [u16],
+    widths: &'a [u16],
+    variables: &'a [u16],
 }
 
 // What a cut of a join has of the left part, which is this row, where the parts are so wide.
@@ -55,14 +42,19 @@ fn left_bits(row: u16, left: u16, right: u16, cut: Cut) -> Part
     ensures { result ≡ left_bits row left right cut }
 {
     if cut.high < right {
-        return part_of(row, 0, 0, 0);
+        return Part {
+            row,
+            width: 0,
+            high: 0,
+            low: 0,
+        };
     }
-    part_of(
+    Part {
         row,
-        left,
-        cut.high - right,
-        numbers::difference(cut.low, right),
-    )
+        width: left,
+        high: cut.high - right,
+        low: cut.low.saturating_sub(right),
+    }
 }
 
 // The same of the right part.
@@ -70,45 +62,50 @@ fn right_bits(row: u16, right: u16, cut: Cut) -> Part
     ensures { result ≡ right_bits row right cut }
 {
     if right <= cut.low {
-        return part_of(row, 0, 0, 0);
+        return Part {
+            row,
+            width: 0,
+            high: 0,
+            low: 0,
+        };
     }
-    if cut.high < right {
-        return part_of(row, right, cut.high, cut.low);
+    let high = if cut.high < right {
+        cut.high
+    } else {
+        right - 1
+    };
+    Part {
+        row,
+        width: right,
+        high,
+        low: cut.low,
     }
-    part_of(row, right, numbers::difference(right, 1), cut.low)
 }
 
 // Whether a row of this kind names no other row: a variable, a constant or a value.
+#[tactic(auto, unfolding(crate::specs::inner::Cuts::is_leaf))]
 fn leaf(kind: u16) -> bool
     ensures { result ≡ is_leaf kind }
 {
-    if kind == terms::VARIABLE {
-        return true;
-    }
-    if kind == terms::CONSTANT {
-        return true;
-    }
-    kind == terms::VALUE
+    matches!(kind, terms::VARIABLE | terms::CONSTANT | terms::VALUE)
 }
 
 // The piece that bits high to low of a variable or a constant are, where v is a variable's number.
 fn leaf_piece(r: Row, v: u16, high: u16, low: u16) -> Piece
     ensures { result ≡ leaf_piece r v high low }
 {
-    let kind = r.kind;
-    if kind == terms::VARIABLE {
+    if r.kind == terms::VARIABLE {
         return Piece {
             kind: 2,
             variable: v,
-            high: high,
-            low: low,
+            high,
+            low,
         };
     }
     Piece {
         kind: r.a,
-        variable: 0,
-        high: numbers::difference(high, low),
-        low: 0,
+        high: high.saturating_sub(low),
+        ..Piece::default()
     }
 }
 
@@ -118,9 +115,7 @@ fn bit_piece(bit: u16) -> Piece
 {
     Piece {
         kind: bit,
-        variable: 0,
-        high: 0,
-        low: 0,
+        ..Piece::default()
     }
 }
 
@@ -133,9 +128,8 @@ pub fn put_fill(out: &mut [u16], n: usize, bit: u16, count: u16) -> usize
     }
     let fill = Piece {
         kind: bit,
-        variable: 0,
-        high: numbers::difference(count, 1),
-        low: 0,
+        high: count - 1,
+        ..Piece::default()
     };
     pieces::push(out, n, fill)
 }
@@ -144,14 +138,9 @@ pub fn put_fill(out: &mut [u16], n: usize, bit: u16, count: u16) -> usize
 fn put_bits(number: u16, high: u16, low: u16, out: &mut [u16], n: usize) -> usize
     ensures { AppendsBits number high low n out.old result out.new }
 {
-    let top = numbers::wide(high);
-    let count = numbers::minus(top + 1, numbers::wide(low));
     let mut m = n;
-    let mut k = 0;
-    while k < count {
-        let bit = numbers::bit_of(number, numbers::minus(top, k));
-        m = pieces::push(out, m, bit_piece(bit));
-        k += 1;
+    for k in (usize::from(low)..usize::from(high) + 1).rev() {
+        m = pieces::push(out, m, bit_piece(numbers::bit_of(number, k)));
     }
     m
 }
@@ -160,15 +149,13 @@ fn put_bits(number: u16, high: u16, low: u16, out: &mut [u16], n: usize) -> usiz
 fn put_leaf(r: Row, v: u16, high: u16, low: u16, out: &mut [u16], n: usize) -> usize
     ensures { AppendsLeaf r v high low n out.old result out.new }
 {
-    let kind = r.kind;
-    if kind == terms::VALUE {
+    if r.kind == terms::VALUE {
         return put_bits(r.a, high, low, out, n);
     }
     pieces::push(out, n, leaf_piece(r, v, high, low))
 }
 
 // Appends the normal form of a row.
-#[cycle(put_cut_put_form_put_join_put_part)]
 pub fn put_form(
     table: &[u16],
     widths: &[u16],
@@ -179,104 +166,103 @@ pub fn put_form(
 ) -> usize
     ensures { AppendsForm table.now widths.now variables.now row n out.old result out.new }
 {
-    let r = rows::row_at(table, row);
-    let kind = r.kind;
-    if leaf(kind) {
-        let v = numbers::load(variables, row);
-        let high = numbers::difference(numbers::load(widths, row), 1);
+    let lists = Lists {
+        table,
+        widths,
+        variables,
+    };
+    put_row(lists, row, out, n)
+}
+
+// The same, from the lists together.
+#[cycle(normalizing)]
+fn put_row(lists: Lists, row: usize, out: &mut [u16], n: usize) -> usize
+    ensures { AppendsForm lists.entry.table.now lists.entry.widths.now lists.entry.variables.now row n out.old result out.new }
+{
+    let r = rows::row_at(lists.table, row);
+    if leaf(r.kind) {
+        let v = numbers::load(lists.variables, row);
+        let high = numbers::load(lists.widths, row).saturating_sub(1);
         return put_leaf(r, v, high, 0, out, n);
     }
-    let a = numbers::wide(r.a);
+    let a = usize::from(r.a);
     if row <= a {
         return n;
     }
-    if kind == terms::EXTRACT {
-        let cut = cut_of(r.a, r.b, r.c);
-        return put_cut(table, widths, variables, cut, out, n);
+    if r.kind == terms::EXTRACT {
+        let cut = Cut {
+            row: r.a,
+            high: r.b,
+            low: r.c,
+        };
+        return put_cut(lists, cut, out, n);
     }
-    let b = numbers::wide(r.b);
+    let b = usize::from(r.b);
     if row <= b {
         return n;
     }
-    let m = put_form(table, widths, variables, a, out, n);
-    put_form(table, widths, variables, b, out, m)
+    let m = put_row(lists, a, out, n);
+    put_row(lists, b, out, m)
 }
 
 // Appends the normal form of a cut: a cut of a cut is one cut of the row that is named there.
-#[cycle(put_cut_put_form_put_join_put_part)]
-fn put_cut(
-    table: &[u16],
-    widths: &[u16],
-    variables: &[u16],
-    cut: Cut,
-    out: &mut [u16],
-    n: usize,
-) -> usize
-    ensures { AppendsCut table.now widths.now variables.now cut n out.old result out.new }
+#[cycle(normalizing)]
+fn put_cut(lists: Lists, cut: Cut, out: &mut [u16], n: usize) -> usize
+    ensures { AppendsCut lists.entry.table.now lists.entry.widths.now lists.entry.variables.now cut n out.old result out.new }
 {
-    let row = numbers::wide(cut.row);
-    let r = rows::row_at(table, row);
-    let kind = r.kind;
-    if leaf(kind) {
-        let v = numbers::load(variables, row);
+    let row = usize::from(cut.row);
+    let r = rows::row_at(lists.table, row);
+    if leaf(r.kind) {
+        let v = numbers::load(lists.variables, row);
         return put_leaf(r, v, cut.high, cut.low, out, n);
     }
-    let a = numbers::wide(r.a);
+    let a = usize::from(r.a);
     if row <= a {
         return n;
     }
-    if kind == terms::EXTRACT {
-        let high = numbers::plus(cut.high, r.c);
-        let named = cut_of(r.a, high, numbers::plus(cut.low, r.c));
-        return put_cut(table, widths, variables, named, out, n);
+    if r.kind == terms::EXTRACT {
+        let named = Cut {
+            row: r.a,
+            high: cut.high.wrapping_add(r.c),
+            low: cut.low.wrapping_add(r.c),
+        };
+        return put_cut(lists, named, out, n);
     }
-    let b = numbers::wide(r.b);
+    let b = usize::from(r.b);
     if row <= b {
         return n;
     }
-    let width = numbers::load(widths, b);
-    let left = left_bits(r.a, numbers::load(widths, a), width, cut);
+    let width = numbers::load(lists.widths, b);
+    let left = left_bits(r.a, numbers::load(lists.widths, a), width, cut);
     let right = right_bits(r.b, width, cut);
-    put_join(table, widths, variables, left, right, out, n)
+    put_join(lists, left, right, out, n)
 }
 
 // Appends the normal form of what a cut of a join has of its parts.
-#[cycle(put_cut_put_form_put_join_put_part)]
-fn put_join(
-    table: &[u16],
-    widths: &[u16],
-    variables: &[u16],
-    left: Part,
-    right: Part,
-    out: &mut [u16],
-    n: usize,
-) -> usize
-    ensures { AppendsParts table.now widths.now variables.now left right n out.old result out.new }
+#[cycle(normalizing)]
+fn put_join(lists: Lists, left: Part, right: Part, out: &mut [u16], n: usize) -> usize
+    ensures { AppendsParts lists.entry.table.now lists.entry.widths.now lists.entry.variables.now left right n out.old result out.new }
 {
-    let m = put_part(table, widths, variables, left, out, n);
-    put_part(table, widths, variables, right, out, m)
+    let m = put_part(lists, left, out, n);
+    put_part(lists, right, out, m)
 }
 
 // Appends the normal form of what a cut has of one part: of the whole row, if that is all its bits, else of a cut of it.
-#[cycle(put_cut_put_form_put_join_put_part)]
-fn put_part(
-    table: &[u16],
-    widths: &[u16],
-    variables: &[u16],
-    part: Part,
-    out: &mut [u16],
-    n: usize,
-) -> usize
-    ensures { AppendsPart table.now widths.now variables.now part n out.old result out.new }
+#[cycle(normalizing)]
+fn put_part(lists: Lists, part: Part, out: &mut [u16], n: usize) -> usize
+    ensures { AppendsPart lists.entry.table.now lists.entry.widths.now lists.entry.variables.now part n out.old result out.new }
 {
     let width = part.width;
     if width == 0 {
         return n;
     }
-    if numbers::difference(part.high, part.low) == width - 1 {
-        let row = numbers::wide(part.row);
-        return put_form(table, widths, variables, row, out, n);
+    if part.high.saturating_sub(part.low) == width - 1 {
+        return put_row(lists, usize::from(part.row), out, n);
     }
-    let cut = cut_of(part.row, part.high, part.low);
-    put_cut(table, widths, variables, cut, out, n)
+    let cut = Cut {
+        row: part.row,
+        high: part.high,
+        low: part.low,
+    };
+    put_cut(lists, cut, out, n)
 }

@@ -59,6 +59,11 @@ rows_put table c answer answer' marks₀ marks after₀ after before₀ before n
     ws : List ℕ
     ws = variable_widths (rows_of table)
 
+-- no table has more sources than 4,098
+pub few_sources : (table c answer answer' : List ℕ) (pieces fresh : ℕ)
+    → (length c ≤ 4098 → PutsRows table c answer answer' pieces fresh) → PutsRows table c answer answer' pieces fresh
+few_sources table c answer answer' pieces fresh p seen f inv = p (omega (arith, table_bits table f, inv.len)) seen f inv
+
 -- the lists that help are all 0 at first, and of one length: one that no table exceeds is enough
 module _ (table c answer answer' : List ℕ) (room pieces fresh : ℕ) (p : PutsWith table c (replicate room 0) (replicate room 0) (replicate room 0) (length (replicate {A = ℕ} room 0)) answer answer' pieces fresh) where
   pub put-few : length c ≤ room → PutsRows table c answer answer' pieces fresh
@@ -67,4 +72,4 @@ module _ (table c answer answer' : List ℕ) (room pieces fresh : ℕ) (p : Puts
       p (zeros_at room) (zeros_at room) (zeros_at room) l l l l
 
   pub put-many : 4098 ≤ room → PutsRows table c answer answer' pieces fresh
-  put-many h seen f inv = put-few (omega (arith, table_bits table f, inv.len)) seen f inv
+  put-many h = few_sources table c answer answer' pieces fresh (λ l. put-few (omega arith))

@@ -1,5 +1,5 @@
 -- The pass of `put_places`: with i places passed, the buffer has their rows but the last, and the counts are those of these places.
-use mathlib.Core.Path.{◌≡◌, refl, sym, ap, ◌∙◌, subst}
+use mathlib.Core.Path.{◌≡◌, refl, sym, ap, ap₂, ◌∙◌, subst}
 use mathlib.Core.Logic.{◌⊎◌, inl, inr, ◌≢◌}
 use mathlib.Core.Bool.{Bool, true, false, ◌&&◌, cond, and-false, and-true}
 use mathlib.Core.List.{List, [], ◌∷◌, reverse}
@@ -207,6 +207,14 @@ pub record Putting (n : ℕ) (m c after before numbers₀ old numbers answer : L
 
 abbrev pub no_place : Progress
 no_place = record { begun = 0; rows = 0; fresh = 0; variable = 0; kind = 0; width = 0; number = 0 }
+
+pub first_place : (p : Progress)
+    → (p.begun ≡ 0) × ((p.rows ≡ 0) × ((p.fresh ≡ 0) × ((p.variable ≡ 0) × ((p.kind ≡ 0) × ((p.width ≡ 0) × (p.number ≡ 0)))))) → p ≡ no_place
+first_place p e =
+    ap₂ (λ (x y : ℕ). record { begun = x; rows = y; fresh = p.fresh; variable = p.variable; kind = p.kind; width = p.width; number = p.number }) e.0 e.1.0
+    ∙ ap₂ (λ (x y : ℕ). record { begun = 0; rows = 0; fresh = x; variable = y; kind = p.kind; width = p.width; number = p.number }) e.1.1.0 e.1.1.1.0
+    ∙ ap₂ (λ (x y : ℕ). record { begun = 0; rows = 0; fresh = 0; variable = 0; kind = x; width = y; number = p.number }) e.1.1.1.1.0 e.1.1.1.1.1.0
+    ∙ ap (λ (x : ℕ). record { begun = 0; rows = 0; fresh = 0; variable = 0; kind = 0; width = 0; number = x }) e.1.1.1.1.1.1
 
 pub putting_first : (n : ℕ) (m c after before numbers old : List ℕ) → Putting n m c after before numbers old numbers old no_place 0
 unfolding tally rows_to four_numbers overwrite

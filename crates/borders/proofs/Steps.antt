@@ -65,13 +65,9 @@ module _ (m c af be : List ℕ) (i at x : ℕ) (et : at ≡ i) (ex : x ≡ get_o
     read_b : rep c (suc (suc i)) ≡ b
     read_b = let e : suc (suc i) ≡ at + 2 = omega arith in ap (rep c) e ∙ sym eb
 
-    pub goes_alike : b < 2 → a ≡ b → true ≡ goes_in m c af be i
+    pub goes_fixed : b < 2 → eqb a b ≡ goes_in m c af be i
     unfolding goes_in
-    goes_alike l e = rw (read_mark, eq-eqb x 0 o, read_b, lt-ltb b 2 l, read_a, eq-eqb a b e)
-
-    pub goes_unlike : b < 2 → a ≢ b → false ≡ goes_in m c af be i
-    unfolding goes_in
-    goes_unlike l e = rw (read_mark, eq-eqb x 0 o, read_b, lt-ltb b 2 l, read_a, ne_eqb a b e)
+    goes_fixed l = rw (read_mark, eq-eqb x 0 o, read_b, lt-ltb b 2 l, read_a)
 
     pub goes_low : 2 ≤ b → a < 2 → false ≡ goes_in m c af be i
     unfolding goes_in
@@ -89,13 +85,9 @@ module _ (m c af be : List ℕ) (i at x : ℕ) (et : at ≡ i) (ex : x ≡ get_o
         read_z : get_or be b 0 ≡ z
         read_z = ap (λ (j : ℕ). get_or be j 0) (sym e3) ∙ sym ez
 
-        pub goes_before : z ≢ 0 → false ≡ goes_in m c af be i
+        pub goes_tied : eqb z 0 ≡ goes_in m c af be i
         unfolding goes_in
-        goes_before q = rw (read_mark, eq-eqb x 0 o, read_b, le-ltb b 2 l, read_a, le-ltb a 2 h, read_y, eq-eqb y 0 n, read_z, ne_eqb z 0 q)
-
-        pub goes_both : z ≡ 0 → true ≡ goes_in m c af be i
-        unfolding goes_in
-        goes_both q = rw (read_mark, eq-eqb x 0 o, read_b, le-ltb b 2 l, read_a, le-ltb a 2 h, read_y, eq-eqb y 0 n, read_z, eq-eqb z 0 q)
+        goes_tied = rw (read_mark, eq-eqb x 0 o, read_b, le-ltb b 2 l, read_a, le-ltb a 2 h, read_y, eq-eqb y 0 n, read_z)
 
 -- one place more
 module _ (m c numbers : List ℕ) (on : Bool) (p : Progress) (i at x begun : ℕ) (et : at ≡ i) (ex : x ≡ get_or m at 0) (eb : begun ≡ (p.begun + x) % 65536) where

@@ -16,7 +16,7 @@ pub struct Counts {
 }
 
 // The last row so far, and the counts of the places passed: variables that began, rows, and fresh pieces that appeared.
-#[derive(Clone, Copy)]
+#[derive(Clone, Copy, Default)]
 pub struct Progress {
     pub begun: u16,
     pub rows: u16,
@@ -32,15 +32,9 @@ pub fn mark_begins(table: &[u16], marks: &mut [u16]) -> u16
     ensures { MarksBegins table.now marks.old marks.new result }
 {
     let mut bits = 0;
-    let mut r = 0;
-    while r < terms::MAX_ROWS {
-        if table.len() / 4 <= r {
-            break;
-        }
+    for r in 0..terms::MAX_ROWS.min(table.len() / 4) {
         numbers::store(marks, bits, 1);
-        let row = rows::row_at(table, r);
-        bits = bits + (rules::row_bits(row) as usize);
-        r += 1;
+        bits += rules::row_bits(rows::row_at(table, r)) as usize;
     }
     numbers::store(marks, bits, 1);
     numbers::narrow(bits)
@@ -48,39 +42,35 @@ pub fn mark_begins(table: &[u16], marks: &mut [u16]) -> u16
 
 // The representative of the neighbour of place k: side 0 the place before it, side 1 the place after it; 0 where a variable begins
 // between the two.
+// Kept: the new form is no plainer, since the side is added to the place: an enum would be turned back to 0 or 1 first.
 fn beside(marks: &[u16], links: &[u16], side: u16, k: u16) -> u16
     ensures { result ≡ beside_in marks.now links.now side k }
 {
-    let at = numbers::wide(k) + numbers::wide(side);
+    let at = usize::from(k) + usize::from(side);
     if numbers::load(marks, at) == 0 {
-        return numbers::load(links, at + numbers::wide(side) + 1);
+        numbers::load(links, at + usize::from(side) + 1)
+    } else {
+        0
     }
-    0
 }
 
 // Marks the representative of place k if its lowest place has another neighbour than place k.
 pub fn mark_place(marks: &[u16], links: &[u16], side: u16, k: u16, uneven: &mut [u16])
     ensures { uneven.new ≡ uneven_with marks.now links.now side k uneven.old }
 {
-    let r = numbers::load(links, numbers::wide(k) + 2);
-    let low = numbers::difference(r, 2);
-    if low == k {
-        return;
+    let r = numbers::load(links, usize::from(k) + 2);
+    let low = r.saturating_sub(2);
+    if low != k && beside(marks, links, side, k) != beside(marks, links, side, low) {
+        numbers::store(uneven, usize::from(r), 1);
     }
-    if beside(marks, links, side, k) == beside(marks, links, side, low) {
-        return;
-    }
-    numbers::store(uneven, numbers::wide(r), 1);
 }
 
 // Marks each representative whose places have different neighbours on one side.
 fn mark_uneven(marks: &[u16], links: &[u16], side: u16, n: u16, uneven: &mut [u16])
     ensures { MarksUneven marks.now links.now side n uneven.old uneven.new }
 {
-    let mut k: u16 = 0;
-    while k < n {
+    for k in 0..n {
         mark_place(marks, links, side, k, uneven);
-        k += 1;
     }
 }
 
@@ -88,49 +78,25 @@ fn mark_uneven(marks: &[u16], links: &[u16], side: u16, n: u16, uneven: &mut [u1
 pub fn goes_on(marks: &[u16], links: &[u16], after: &[u16], before: &[u16], i: u16) -> bool
     ensures { result ≡ goes_in marks.now links.now after.now before.now i }
 {
-    let at = numbers::wide(i);
+    let at = usize::from(i);
     if numbers::load(marks, at) != 0 {
         return false;
     }
     let a = numbers::load(links, at + 1);
     let b = numbers::load(links, at + 2);
     if b < 2 {
-        if a == b {
-            return true;
-        }
-        return false;
+        return a == b;
     }
-    if a < 2 {
-        return false;
-    }
-    if numbers::load(after, numbers::wide(a)) != 0 {
-        return false;
-    }
-    if numbers::load(before, numbers::wide(b)) != 0 {
-        return false;
-    }
-    true
+    2 <= a
+        && numbers::load(after, usize::from(a)) == 0
+        && numbers::load(before, usize::from(b)) == 0
 }
 
 // 1 for a place that is its own representative.
 fn own(r: u16, i: u16) -> u16
     ensures { result ≡ cond (eqb r (suc (suc i))) 1 0 }
 {
-    let at = numbers::wide(r);
-    if at == numbers::wide(i) + 2 {
-        return 1;
-    }
-    0
-}
-
-// The kind of a row that begins at a place with representative r.
-fn kind_of(r: u16) -> u16
-    ensures { result ≡ min r 2 }
-{
-    if r < 2 {
-        return r;
-    }
-    2
+    u16::from(usize::from(r) == usize::from(i) + 2)
 }
 
 // The number of the fresh piece that begins at a place with representative r.
@@ -138,9 +104,10 @@ fn number_of(numbers: &[u16], r: u16) -> u16
     ensures { result ≡ number_in numbers.now r }
 {
     if r < 2 {
-        return 0;
+        0
+    } else {
+        numbers::load(numbers, usize::from(r - 2))
     }
-    numbers::load(numbers, numbers::wide(numbers::difference(r, 2)))
 }
 
 // One place more: the last row goes on, or a row begins.
@@ -154,26 +121,22 @@ pub fn step(
 ) -> Progress
     ensures { result ≡ step_in marks.now links.now numbers.now on p i }
 {
-    let at = numbers::wide(i);
-    let begun = numbers::plus(p.begun, numbers::load(marks, at));
+    let at = usize::from(i);
+    let begun = p.begun.wrapping_add(numbers::load(marks, at));
     if on {
         return Progress {
-            begun: begun,
-            rows: p.rows,
-            fresh: p.fresh,
-            variable: p.variable,
-            kind: p.kind,
-            width: numbers::plus(p.width, 1),
-            number: p.number,
+            begun,
+            width: p.width.wrapping_add(1),
+            ..p
         };
     }
     let r = numbers::load(links, at + 2);
     Progress {
-        begun: begun,
-        rows: numbers::plus(p.rows, 1),
-        fresh: numbers::plus(p.fresh, own(r, i)),
-        variable: numbers::difference(begun, 1),
-        kind: kind_of(r),
+        begun,
+        rows: p.rows.wrapping_add(1),
+        fresh: p.fresh.wrapping_add(own(r, i)),
+        variable: begun.saturating_sub(1),
+        kind: r.min(2),
         width: 1,
         number: number_of(numbers, r),
     }
@@ -192,17 +155,16 @@ pub fn put_row(answer: &mut [u16], p: Progress)
         width: p.width,
         fresh: p.number,
     };
-    answer_table::put_four(answer, numbers::difference(p.rows, 1), row);
+    answer_table::put_four(answer, p.rows - 1, row);
 }
 
 // Writes the last row, unless it goes on.
 pub fn end_row(answer: &mut [u16], on: bool, p: Progress)
     ensures { answer.new ≡ cond on answer.old (row_written answer.old p) }
 {
-    if on {
-        return;
+    if !on {
+        put_row(answer, p);
     }
-    put_row(answer, p);
 }
 
 // Writes the rows of n places. `numbers` has afterwards, for each place, how many fresh pieces appear before it.
@@ -217,27 +179,17 @@ fn put_places(
 ) -> Counts
     ensures { PutsPlaces n marks.now links.now after.now before.now numbers.old answer.old answer.new result.pieces result.fresh }
 {
-    let mut p = Progress {
-        begun: 0,
-        rows: 0,
-        fresh: 0,
-        variable: 0,
-        kind: 0,
-        width: 0,
-        number: 0,
-    };
-    let mut i: u16 = 0;
-    while i < n {
-        numbers::store(numbers, numbers::wide(i), p.fresh);
+    let mut p = Progress::default();
+    for i in 0..n {
+        numbers::store(numbers, usize::from(i), p.fresh);
         let on = goes_on(marks, links, after, before, i);
         end_row(answer, on, p);
         p = step(marks, links, numbers, on, p, i);
-        i += 1;
     }
     put_row(answer, p);
     Counts {
-        pieces: numbers::wide(p.rows),
-        fresh: numbers::wide(p.fresh),
+        pieces: usize::from(p.rows),
+        fresh: usize::from(p.fresh),
     }
 }
 
@@ -254,41 +206,26 @@ fn put_with(
     ensures { PutsWith table.now links.now marks.old after.old before.old (length numbers.old) answer.old answer.new result.pieces result.fresh }
 {
     let n = mark_begins(table, marks);
-    mark_uneven(&marks[..], links, 1, n, &mut after[..]);
-    mark_uneven(&marks[..], links, 0, n, &mut before[..]);
+    mark_uneven(marks, links, 1, n, after);
+    mark_uneven(marks, links, 0, n, before);
     put_places(marks, links, after, before, n, numbers, answer)
 }
 
 // The sources of a small table, at most: the two fixed bits and 128 places.
 const FEW: usize = 130;
 
-// Writes the rows of a small table: its lists are short, since each of their numbers is set to 0 first.
-fn put_few(table: &[u16], links: &[u16], answer: &mut [u16]) -> Counts
-    ensures { length links.now ≤ 130 → PutsRows table.now links.now answer.old answer.new result.pieces result.fresh }
-{
-    let mut marks = [0u16; FEW];
-    let mut after = [0u16; FEW];
-    let mut before = [0u16; FEW];
-    let mut numbers = [0u16; FEW];
-    put_with(
-        table,
-        links,
-        &mut marks[..],
-        &mut after[..],
-        &mut before[..],
-        &mut numbers[..],
-        answer,
-    )
-}
+// The sources of any table, at most.
+const ALL: usize = 4098;
 
-// Writes the rows of any table.
-fn put_many(table: &[u16], links: &[u16], answer: &mut [u16]) -> Counts
-    ensures { PutsRows table.now links.now answer.old answer.new result.pieces result.fresh }
+// Writes the rows of a table that has no more sources than this: a small one's lists are short, since each of their numbers is set to 0 first.
+fn put_within<const SOURCES: usize>(table: &[u16], links: &[u16], answer: &mut [u16]) -> Counts
+    requires { SOURCES ≤ 4098 }
+    ensures { length links.now ≤ SOURCES → PutsRows table.now links.now answer.old answer.new result.pieces result.fresh }
 {
-    let mut marks = [0u16; 4098];
-    let mut after = [0u16; 4098];
-    let mut before = [0u16; 4098];
-    let mut numbers = [0u16; 4098];
+    let mut marks = [0u16; SOURCES];
+    let mut after = [0u16; SOURCES];
+    let mut before = [0u16; SOURCES];
+    let mut numbers = [0u16; SOURCES];
     put_with(
         table,
         links,
@@ -305,7 +242,8 @@ pub fn put_rows(table: &[u16], links: &[u16], answer: &mut [u16]) -> Counts
     ensures { PutsRows table.now links.now answer.old answer.new result.pieces result.fresh }
 {
     if links.len() <= FEW {
-        return put_few(table, links, answer);
+        put_within::<FEW>(table, links, answer)
+    } else {
+        put_within::<ALL>(table, links, answer)
     }
-    put_many(table, links, answer)
 }

@@ -7,6 +7,7 @@ use mathlib.Core.Logic.{◌≢◌}
 use Prim.Native.Nat.{ℕ, suc, ◌≤◌}
 use native.Mathlib.Omega.{arith}
 use lib.Dec.{eqb, ltb}
+use Rattle.std.specs.Prelude.{Result, Ok, Err}
 use Rattle.terms.specs.declared.Record.{Record}
 use Rattle.terms.specs.declared.Row.{Row}
 use Rattle.terms.specs.Table.{rows_of, row_numbers}
@@ -16,8 +17,8 @@ use Rattle.terms.specs.Value.{value_record}
 use Rattle.terms.proofs.Acceptance.{fault_never_18}
 use Rattle.terms.proofs.AcceptedTable.{fault_none, fault_high}
 use Rattle.forms.specs.Call.{form_record}
-use Rattle.sheets.specs.declared.Sheet.{Sheet}
-use Rattle.sheets.specs.declared.Sheet.TheVariants.{TooLong, WrongNames, TooMany, WrongLine, Rows}
+use Rattle.sheets.specs.declared.SheetError.{SheetError}
+use Rattle.sheets.specs.declared.SheetError.TheVariants.{TooLong, WrongNames, TooMany, WrongLine}
 use Rattle.sheets.specs.Sheet.{sheet_found, sheet_rows}
 use Rattle.sheets.specs.Call.{sheet_number, sheet_row, sheet_record}
 use Rattle.sheets.specs.Program.{text_record, program_record}
@@ -132,12 +133,12 @@ module _ (P : Record → Type 0) (fine : (r : Record) → r.outcome ≤ 3 → P 
       (more (fault (first_fault table)) (more (refused 43 0 (omega arith) (omega arith)) (more (refused 44 0 (omega arith) (omega arith)) none))))
       (answer (up_to next (rows_of table)))
 
-  found : (sheet : Sheet) → P (refusal (sheet_number sheet) (sheet_row sheet))
-  found TooLong = refused 20 0 (omega arith) (omega arith)
-  found WrongNames = refused 21 0 (omega arith) (omega arith)
-  found TooMany = refused 23 512 (omega arith) (omega arith)
-  found (WrongLine k) = refused 22 k (omega arith) (omega arith)
-  found (Rows k) = fine _ (omega arith)
+  found : (sheet : Result ℕ SheetError) → P (refusal (sheet_number sheet) (sheet_row sheet))
+  found (Err TooLong) = refused 20 0 (omega arith) (omega arith)
+  found (Err WrongNames) = refused 21 0 (omega arith) (omega arith)
+  found (Err TooMany) = refused 23 512 (omega arith) (omega arith)
+  found (Err (WrongLine k)) = refused 22 k (omega arith) (omega arith)
+  found (Ok k) = fine _ (omega arith)
 
   sheet : (text : List ℕ) (room : ℕ) → P (sheet_record text room)
   unfolding sheet_record

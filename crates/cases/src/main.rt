@@ -25,21 +25,20 @@ fn print_table(stdout: Stdout, table: &[u16], out: &mut [u8]) {
     let mut answer = [0u16; solver::ANSWER];
     let mut work = [0u16; solver::MEMORY];
     let found = solver::solve(table, &mut answer[..], &mut work[..]);
-    let outcome = found.outcome;
-    if outcome > 2 {
+    if found.outcome > 2 {
         return;
     }
     details::print_forms(stdout, table, out);
-    if outcome == 1 {
+    if found.outcome == 1 {
         return;
     }
     let free = found.free as usize;
     details::print_values(stdout, table, free + found.ties as usize, out);
-    if outcome == 0 {
+    if found.outcome == 0 {
         return;
     }
     let _ = stdout.write_all(b"patterns\n");
-    let len = numbers::lesser(found.pieces as usize * answers::ROW, solver::ANSWER);
+    let len = (found.pieces as usize * answers::ROW).min(solver::ANSWER);
     details::print_pattern(stdout, table, &answer[..len], 0, free, out);
     details::print_pattern(stdout, table, &answer[..len], 1, free, out);
 }
@@ -53,20 +52,20 @@ fn print_sheet(stdout: Stdout, text: &[u8], out: &mut [u8]) {
     if read.outcome != 0 {
         return;
     }
-    let numbers = numbers::lesser(read.pieces as usize * 4, TABLE);
+    let numbers = (read.pieces as usize * 4).min(TABLE);
     print_table(stdout, &table[..numbers], out);
 }
 
 // Reads a file until the text is full, the file ends or a read fails; how many bytes were read.
+// Kept: a while, since each read steps by a length that it finds.
 fn read_full(mut file: File, text: &mut [u8]) -> usize
     ensures { result ≤ length text.new }
 {
     let mut len = 0;
     while len < text.len() {
         match file.read(&mut text[len..]) {
-            Ok(0) => break,
+            Ok(0) | Err(_) => break,
             Ok(got) => len += got,
-            Err(_) => break,
         }
     }
     len
@@ -91,7 +90,7 @@ fn print_case(rt: HostRuntime, name: &[u8], out: &mut [u8]) {
         }
         Some(file) => {
             let mut text = [0u8; MOST_READ];
-            let len = numbers::lesser(read_full(file, &mut text[..]), MOST_READ);
+            let len = read_full(file, &mut text[..]).min(MOST_READ);
             print_sheet(stdout, &text[..len], out);
         }
     }
@@ -113,7 +112,7 @@ fn main(rt: HostRuntime) {
         match argument(rt, i, &mut name[..]) {
             None => break,
             Some(found) => {
-                let len = numbers::lesser(found, MOST_NAME);
+                let len = found.min(MOST_NAME);
                 print_case(rt, &name[..len], &mut out[..]);
             }
         }

@@ -9,7 +9,6 @@ use lib.Seq.{ext_get_or}
 use Rattle.laws.specs.Lists.{count_up}
 use Rattle.answers.specs.inner.Classes.{rep, merge}
 use Rattle.laws.proofs.Numbers.{dec_eq}
-use Rattle.answers.proofs.Relabelling.{next}
 use Rattle.laws.proofs.Lists.{map_read}
 use Rattle.laws.proofs.CountUp.{count_at, count_past, count-up}
 use Rattle.laws.proofs.Numbers.{lt_or_le}

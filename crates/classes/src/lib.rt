@@ -9,25 +9,26 @@ ghost use Rattle.classes.specs.inner.Links.{number_of, Finds, Takes, Settles};
 pub fn find(links: &mut [u16], s: u16) -> u16
     ensures { Finds links.old links.new s result }
 {
-    let mut x = numbers::wide(s);
-    if links.len() <= x {
+    if links.len() <= usize::from(s) {
         return s;
     }
-    let mut p = links[x];
-    while numbers::wide(p) < x {
-        let g = links[numbers::wide(p)];
+    let mut x = s;
+    let mut p = links[usize::from(x)];
+    // Kept: the loop steps by links that it reads on its way.
+    while p < x {
+        let g = links[usize::from(p)];
         if p <= g {
             return p;
         }
-        numbers::store(links, x, g);
-        x = numbers::wide(g);
-        p = links[x];
+        links[usize::from(x)] = g;
+        x = g;
+        p = links[usize::from(x)];
     }
-    x as u16
+    x
 }
 
 // What a pair says: nothing new, a tie, or that two different fixed bits meet.
-#[derive(Clone, Copy)]
+#[derive(Clone, Copy, PartialEq, Eq)]
 pub enum Pairing {
     Nothing,
     Tie,
@@ -43,11 +44,11 @@ fn join(links: &mut [u16], s: u16, t: u16) -> Pairing
     if a == b {
         return Pairing::Nothing;
     }
-    let top = numbers::higher(a, b);
+    let top = a.max(b);
     if top == 1 {
         return Pairing::Conflict;
     }
-    numbers::store(links, numbers::wide(top), numbers::lower(a, b));
+    numbers::store(links, usize::from(top), a.min(b));
     Pairing::Tie
 }
 
@@ -55,8 +56,8 @@ fn join(links: &mut [u16], s: u16, t: u16) -> Pairing
 pub fn take_pair(links: &mut [u16], s: u16, t: u16) -> Pairing
     ensures { Takes links.old links.new s t (number_of result) }
 {
-    let p = numbers::load(links, numbers::wide(s));
-    let q = numbers::load(links, numbers::wide(t));
+    let p = numbers::load(links, usize::from(s));
+    let q = numbers::load(links, usize::from(t));
     if p == q {
         Pairing::Nothing
     } else {
@@ -68,14 +69,11 @@ pub fn take_pair(links: &mut [u16], s: u16, t: u16) -> Pairing
 pub fn settle(links: &mut [u16])
     ensures { Settles links.old links.new }
 {
-    let mut i = 0;
-    while i < links.len() {
-        let v = numbers::wide(links[i]);
+    for i in 0..links.len() {
+        let v = usize::from(links[i]);
         if links.len() <= v {
             return;
         }
-        let g = links[v];
-        numbers::store(links, i, g);
-        i += 1;
+        links[i] = links[v];
     }
 }

@@ -17,7 +17,6 @@ use Rattle.laws.proofs.Bools.{not_both}
 use Rattle.laws.proofs.Buffers.{overwrite-length, overwrite-fits}
 use Rattle.laws.proofs.Numbers.{lt_or_le}
 use Rattle.laws.proofs.Tallies.{below_fails}
-use Rattle.terms.specs.declared.Row.{Row}
 use Rattle.terms.specs.Faults.{Accepted, first_fault}
 use Rattle.terms.specs.Table.{rows_of, bits_of}
 use Rattle.terms.proofs.Rows.{rows_length}

@@ -1,16 +1,15 @@
 -- Each way in which a comparison ends gives the record and the work area of the definitions.
-use mathlib.Core.Path.{◌≡◌, refl, sym, ◌∙◌, ap}
+use mathlib.Core.Path.{◌≡◌, sym, ◌∙◌, ap}
 use mathlib.Core.Bool.{true, false}
-use mathlib.Core.List.{List, ◌++◌, append-nil}
-use Prim.Native.Nat.{ℕ, ◌≤◌, ◌<◌}
-use native.Mathlib.Omega.{arith}
-use lib.ListN.{length, take, drop, replicate, drop_of_length-le}
-use lib.Seq.{length-take-le}
+use mathlib.Core.List.{List}
+use Prim.Native.Nat.{ℕ, ◌≤◌}
+use lib.ListN.{length, replicate}
+use Rattle.std.specs.Prelude.{Ok, Err}
 use Rattle.terms.specs.declared.Record.{Record}
 use Rattle.terms.specs.Table.{rows_of, bits_of, same_word}
+use Rattle.terms.specs.declared.Fault.{Fault}
 use Rattle.terms.specs.Faults.{Accepted, is_accepted, first_fault}
-use Rattle.terms.specs.Calls.{refusal, fault_record}
-use Rattle.terms.proofs.AcceptedTable.{fault_high}
+use Rattle.records.specs.declared.Refusal.TheVariants.{Table, Variables}
 use Rattle.terms.proofs.Satisfies.{same-word}
 use Rattle.answers.specs.Answer.{variable_widths}
 use Rattle.inclusion.specs.Call.{comparison, compared_record, compare_record, compare_work}
@@ -25,12 +24,6 @@ Ends first second work r work' = (r ≡ compare_record first second (length work
 -- the call stops
 pub ends_stopped : (first second work : List ℕ) (found r : Record) → StoppedWith first second work found → r ≡ found → Ends first second work r work
 ends_stopped first second work found r s e = (e ∙ sym s.record_is, sym s.area_kept)
-
--- the whole area was cleared
-pub cleared : (w z : List ℕ) (n m : ℕ) → n ≡ length w → z ≡ replicate (length (take n w)) 0 → length w ≡ m → z ++ drop n w ≡ replicate m 0
-cleared w z n m e c l =
-    let a : length (take n w) ≡ m = length-take-le n w (omega arith) ∙ e ∙ l in
-    rw (drop_of_length-le w {i = n} (omega arith)) (append-nil z ∙ c ∙ ap (λ (k : ℕ). replicate k 0) a)
 
 -- two accepted tables with the same variables
 module _ (first second work : List ℕ) (af : first_fault first ≡ Accepted) (ag : first_fault second ≡ Accepted)
@@ -47,30 +40,13 @@ module _ (first second work : List ℕ) (af : first_fault first ≡ Accepted) (a
 
 -- where the second table is looked at: its fault, other variables, or none of both
 module _ (first second : List ℕ) where
-  pub stops_fault : (r : Record) → is_accepted (first_fault second) ≡ false → r ≡ fault_record (first_fault second) → SecondStop first second r
-  stops_fault r bad e =
-      let high : 3 < r.outcome = rw e (omega (arith, fault_high (first_fault second) bad)) in
-      record {
-        stopped = λ n a work room. rw e (stop_second first second work room a bad);
-        accepted = λ z. absurd (omega (arith, z, high));
-        same-variables = λ z. absurd (omega (arith, z, high));
-      }
+  pub stops_fault : (f : Fault) → first_fault second ≡ Err f → SecondStop first second (Err (Table f))
+  stops_fault f is = λ a work room. rw is at (stop_second first second work room a (ap is_accepted is))
 
-  pub stops_49 : (r : Record) → first_fault second ≡ Accepted → same_word (variable_widths (rows_of first)) (variable_widths (rows_of second)) ≡ false
-      → r ≡ refusal 49 0 → SecondStop first second r
-  stops_49 r ag other e =
-      let is : r.outcome ≡ 49 = rw e refl in
-      record {
-        stopped = λ n a work room. rw e (stop_49 first second work room a ag other);
-        accepted = λ z. absurd (omega (arith, z, is));
-        same-variables = λ z. absurd (omega (arith, z, is));
-      }
+  pub stops_49 : first_fault second ≡ Accepted → same_word (variable_widths (rows_of first)) (variable_widths (rows_of second)) ≡ false
+      → SecondStop first second (Err Variables)
+  stops_49 ag other = λ a work room. stop_49 first second work room a ag other
 
-  pub stops_nowhere : (r : Record) → first_fault second ≡ Accepted → same_word (variable_widths (rows_of first)) (variable_widths (rows_of second)) ≡ true
-      → r.outcome ≡ 0 → SecondStop first second r
-  stops_nowhere r ag same z =
-      record {
-        stopped = λ n a work room. absurd (n z);
-        accepted = λ _. ag;
-        same-variables = λ _. same-word (variable_widths (rows_of first)) (variable_widths (rows_of second)) same;
-      }
+  pub stops_nowhere : first_fault second ≡ Accepted → same_word (variable_widths (rows_of first)) (variable_widths (rows_of second)) ≡ true
+      → SecondStop first second (Ok tt)
+  stops_nowhere ag same = (ag, same-word (variable_widths (rows_of first)) (variable_widths (rows_of second)) same)

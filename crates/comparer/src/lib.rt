@@ -3,51 +3,48 @@
 // h[g[s]] = h[s] for every source. A table whose equations led to a conflict has no patterns.
 #![tactic(auto)]
 
-ghost use Rattle.std.specs.Prelude.{◌≡◌, ◌≤◌, length};
+ghost use Rattle.std.specs.Prelude.{◌≡◌, ◌+◌, ◌≤◌, length};
 ghost use Rattle.terms.specs.Table.{rows_of, same_word};
 ghost use Rattle.terms.specs.inner.Placed.{Placed};
 ghost use Rattle.answers.specs.Answer.{variable_widths};
+ghost use Rattle.records.specs.Refusals.{record_of};
 ghost use Rattle.inclusion.specs.Call.{outcome_of, compare_record, compare_work};
 ghost use Rattle.comparer.specs.inner.Variables.{NextVariable};
 ghost use Rattle.comparer.specs.inner.Comparing.{included, among_links, links_outcome, Links, Compares, SecondStop};
 
+use records::Refusal;
 use terms::Record;
 
-// The row of the next variable from a row on, or the number of rows.
-fn next_variable(table: &[u16], from: usize) -> usize
+// The row of the next variable from a row on.
+fn next_variable(table: &[u16], from: usize) -> Option<usize>
     ensures { NextVariable (rows_of table.now) from result }
 {
-    let mut r = from;
-    while r < table.len() / 4 {
-        let row = rows::row_at(table, r);
-        let kind = row.kind;
-        if kind == terms::VARIABLE {
-            return r;
+    for r in from..table.len() / 4 {
+        if rows::row_at(table, r).kind == terms::VARIABLE {
+            return Some(r);
         }
-        r += 1;
     }
-    r
+    None
 }
 
 // Whether the variables of two tables are as many and have the same widths in the same order.
 fn same_variables(first: &[u16], second: &[u16]) -> bool
     ensures { result ≡ same_word (variable_widths (rows_of first.now)) (variable_widths (rows_of second.now)) }
 {
-    let mut r = next_variable(first, 0);
-    let mut q = next_variable(second, 0);
-    while r < first.len() / 4 {
-        if second.len() / 4 <= q {
-            return false;
-        }
+    let mut q = 0;
+    for r in 0..first.len() / 4 {
         let row = rows::row_at(first, r);
-        let other = rows::row_at(second, q);
-        if row.a != other.a {
-            return false;
+        if row.kind == terms::VARIABLE {
+            let Some(at) = next_variable(second, q) else {
+                return false;
+            };
+            if rows::row_at(second, at).a != row.a {
+                return false;
+            }
+            q = at + 1;
         }
-        r = next_variable(first, r + 1);
-        q = next_variable(second, q + 1);
     }
-    second.len() / 4 <= q
+    next_variable(second, q).is_none()
 }
 
 // Whether each source of so many bits and its representative in g are of one class of h.
@@ -55,13 +52,11 @@ fn included(h: &[u16], g: &[u16], bits: usize) -> bool
     requires { bits ≤ 4096 }
     ensures { result ≡ included h.now g.now bits }
 {
-    let mut s = 0;
-    while s < bits + 2 {
-        let other = numbers::wide(numbers::load(g, s));
+    for s in 0..bits + 2 {
+        let other = usize::from(numbers::load(g, s));
         if numbers::load(h, other) != numbers::load(h, s) {
             return false;
         }
-        s += 1;
     }
     true
 }
@@ -71,29 +66,19 @@ fn among(never: bool, none: bool, h: &[u16], g: &[u16], bits: usize) -> bool
     requires { bits ≤ 4096 }
     ensures { result ≡ among_links never none h.now g.now bits }
 {
-    if never {
-        return true;
-    }
-    if none {
-        return false;
-    }
-    included(h, g, bits)
+    never || (!none && included(h, g, bits))
 }
 
 // The outcome, from both directions.
 fn outcome(to: bool, back: bool) -> u32
     ensures { result ≡ outcome_of to back }
 {
-    if to {
-        if back {
-            return 0;
-        }
-        return 1;
+    match (to, back) {
+        (true, true) => 0,
+        (true, false) => 1,
+        (false, true) => 2,
+        (false, false) => 3,
     }
-    if back {
-        return 2;
-    }
-    3
 }
 
 // Links each source of a table to its representative; whether its equations led to a conflict.
@@ -114,9 +99,10 @@ fn compare_links(never: bool, none: bool, h: &[u16], g: &[u16], bits: usize) -> 
     outcome(to, back)
 }
 
-// The outcome for two accepted tables of at most 128 variable bits, of which the first was placed: the links are few, since each is set to 0
-// first. The first's are copied to the work area, so that one list is enough. The second is placed where the first was.
-fn compare_few(
+// The outcome for two accepted tables of which the first was placed, with room for so many links: each of them is set to 0 first, so small
+// tables have few. The form of a side stands in the work area, and the first's links are copied to its front, so that one list is enough, and
+// the stack that is needed is that of a solve. The second is placed where the first was.
+fn compare_in<const LINKS: usize>(
     first: &[u16],
     second: &[u16],
     widths: &mut [u16],
@@ -124,15 +110,16 @@ fn compare_few(
     bits: usize,
     work: &mut [u16],
 ) -> u32
-    requires bits_bound { bits ≤ 128 }
+    requires few { LINKS ≤ 4098 }
+    requires bits_bound { bits + 2 ≤ LINKS }
     requires in_bounds { 16384 ≤ length work.old }
     ensures { Compares first.now second.now widths.old places.old bits result }
 {
-    let mut list = [0u16; 130];
+    let mut list = [0u16; LINKS];
     let sources = bits + 2;
     let never = link(first, widths, places, work, &mut list[..sources]);
     numbers::copy(&list[..], sources, work);
-    checker::check_and_place(second, widths, places);
+    let _ = checker::check_and_place(second, widths, places);
     let none = link(
         second,
         widths,
@@ -143,35 +130,7 @@ fn compare_few(
     compare_links(never, none, &work[..sources], &list[..sources], bits)
 }
 
-// The same for tables of any size. In the one list stands the form of a side while the first is linked, whose links are written to the work
-// area, and then the second's links: so the stack that is needed is that of a solve.
-fn compare_many(
-    first: &[u16],
-    second: &[u16],
-    widths: &mut [u16],
-    places: &mut [u16],
-    bits: usize,
-    work: &mut [u16],
-) -> u32
-    requires bits_bound { bits ≤ 4096 }
-    requires in_bounds { 16384 ≤ length work.old }
-    ensures { Compares first.now second.now widths.old places.old bits result }
-{
-    let mut list = [0u16; 4098];
-    let sources = bits + 2;
-    let never = link(first, widths, places, &mut list[..], &mut work[..sources]);
-    checker::check_and_place(second, widths, places);
-    let none = link(
-        second,
-        widths,
-        places,
-        &mut work[sources..],
-        &mut list[..sources],
-    );
-    compare_links(never, none, &work[..sources], &list[..sources], bits)
-}
-
-// The same.
+// The same: tables of at most 128 variable bits are small.
 fn compare_placed(
     first: &[u16],
     second: &[u16],
@@ -185,76 +144,71 @@ fn compare_placed(
     ensures { Compares first.now second.now widths.old places.old bits result }
 {
     if bits <= 128 {
-        return compare_few(first, second, widths, places, bits, work);
+        compare_in::<130>(first, second, widths, places, bits, work)
+    } else {
+        compare_in::<4098>(first, second, widths, places, bits, work)
     }
-    compare_many(first, second, widths, places, bits, work)
 }
 
-// Where a comparison with a first table that is accepted stops: at the second's fault, or at 49. If it does not, the outcome is 0. The second
+// Whether a comparison with a first table that is accepted goes on, or stops: at the second's fault, or at 49. The second
 // is checked here and placed later, so that its widths and places need no room of their own while its equations are taken.
-fn stop_at(first: &[u16], second: &[u16]) -> Record
+fn stop_at(first: &[u16], second: &[u16]) -> Result<(), Refusal>
     ensures { SecondStop first.now second.now result }
 {
     let mut widths = [0u16; 512];
     let mut places = [0u16; 1];
-    let fault = checker::check_and_place(second, &mut widths[..], &mut places[..]);
-    if !records::accepted(fault) {
-        return records::fault_record(fault);
-    }
+    checker::check_and_place(second, &mut widths, &mut places)?;
     if !same_variables(first, second) {
-        return records::refuse(49, 0);
+        return Err(Refusal::Variables);
     }
-    records::complete(0, 0)
+    Ok(())
 }
 
 // How many numbers the work area has at least.
 pub const MEMORY: usize = 16384;
 
-// Compares a table that was checked and placed with another: its record, and a work area of which each number is 0.
+// Compares a table that was checked and placed with another: its record or why the call stops, and a work area of which each number is 0.
 fn compare_with(
     first: &[u16],
     second: &[u16],
     widths: &mut [u16],
     places: &mut [u16],
     work: &mut [u16],
-) -> Record
+) -> Result<Record, Refusal>
     requires placed { Placed first.now widths.old places.old }
     requires in_bounds { 512 ≤ length widths.old }
     requires in_bounds_2 { 16384 ≤ length work.old }
-    ensures record { result ≡ compare_record first.now second.now (length work.old) }
+    ensures record { record_of result ≡ compare_record first.now second.now (length work.old) }
     ensures work { work.new ≡ compare_work first.now second.now work.old }
 {
-    let stop = stop_at(first, second);
-    if stop.outcome != 0 {
-        return stop;
-    }
-    let bits = numbers::wide(numbers::load(places, checker::BITS));
+    stop_at(first, second)?;
+    let bits = usize::from(numbers::load(places, checker::BITS));
     let found = compare_placed(first, second, widths, places, bits, work);
-    let room = work.len();
-    numbers::clear(&mut work[..room]);
-    Record {
+    work.fill(0);
+    Ok(Record {
         outcome: found,
-        pieces: 0,
-        fresh: 0,
-        free: 0,
-        ties: 0,
-        row: 0,
-    }
+        ..records::complete(0, 0)
+    })
 }
 
-// Compares two tables: the record, and a work area of which each number is 0 if the call does not stop.
+// Compares two tables: the record or why the call stops, and a work area of which each number is 0 if it does not stop.
+fn try_compare(first: &[u16], second: &[u16], work: &mut [u16]) -> Result<Record, Refusal>
+    ensures record { record_of result ≡ compare_record first.now second.now (length work.old) }
+    ensures work { work.new ≡ compare_work first.now second.now work.old }
+{
+    if work.len() < MEMORY {
+        return Err(Refusal::Room);
+    }
+    let mut widths = [0u16; 512];
+    let mut places = [0u16; 578];
+    checker::check_and_place(first, &mut widths, &mut places)?;
+    compare_with(first, second, &mut widths, &mut places, work)
+}
+
+// The same, with the record of where it stops.
 pub fn compare_tables(first: &[u16], second: &[u16], work: &mut [u16]) -> Record
     ensures record { result ≡ compare_record first.now second.now (length work.old) }
     ensures work { work.new ≡ compare_work first.now second.now work.old }
 {
-    if work.len() < MEMORY {
-        return records::refuse(10, 0);
-    }
-    let mut widths = [0u16; 512];
-    let mut places = [0u16; 578];
-    let fault = checker::check_and_place(first, &mut widths[..], &mut places[..]);
-    if !records::accepted(fault) {
-        return records::fault_record(fault);
-    }
-    compare_with(first, second, &mut widths[..], &mut places[..], work)
+    try_compare(first, second, work).unwrap_or_else(Refusal::record)
 }

@@ -2,16 +2,15 @@
 use mathlib.Core.Path.{◌≡◌, refl, sym, ◌∙◌, ap, ap₂}
 use mathlib.Core.Bool.{Bool, true, false}
 use mathlib.Core.List.{List, []}
-use Prim.Native.Nat.{ℕ, zero, suc, ◌+◌, ◌%◌, ◌<◌, ◌≤◌}
+use Prim.Native.Nat.{ℕ, ◌+◌, ◌<◌}
 use native.Mathlib.Omega.{arith}
 use lib.Dec.{eqb}
 use lib.ListN.{length, get_or, take}
 use lib.Seq.{ext_get_or}
-use borrow.Author.Tests.{eqb-true, eqb-false, eq-eqb, le-ltb}
+use borrow.Author.Tests.{eqb-true, eqb-false}
 use Rattle.terms.specs.declared.Row.{Row}
-use Rattle.terms.specs.Table.{rows_of, row_at, width_in, widths_of, width_of, bits_of, extract, values_of, value_of, sources_of, counting}
+use Rattle.terms.specs.Table.{row_at, width_in, widths_of, width_of, bits_of, extract, values_of, value_of, sources_of, counting}
 use Rattle.laws.specs.Lists.{count_up}
-use Rattle.terms.specs.Faults.{Accepted, breaks11, breaks12, breaks13, breaks14, breaks15, breaks40, breaks16, breaks17, not_term, misnamed, fault_at, is_accepted, lowest_fault, first_fault}
 use Rattle.laws.proofs.Numbers.{by_strong}
 use Rattle.terms.proofs.Widths.{width_row, width_early, width_same, widths_count}
 use Rattle.terms.proofs.Faults.{Kept, kept, unbroken, kept_names, concat_names, cut_keeps_13, cut_keeps_14, cut_keeps_15, cut_keeps_40, cut_keeps_16}

@@ -2,7 +2,6 @@
 use mathlib.Core.Path.{◌≡◌, refl, sym, ◌∙◌, ap, ap₂}
 use mathlib.Core.Bool.{Bool, true, false}
 use mathlib.Core.List.{List, [], ◌∷◌, ◌++◌}
-use mathlib.Core.Logic.{◌⊎◌, ⊎_elim}
 use Prim.Native.Nat.{ℕ, suc, ◌+◌, ◌*◌, ◌%◌, ◌<◌, ◌≤◌, min}
 use native.Mathlib.Omega.{arith}
 use native.Mathlib.Numerals.{add-one}
@@ -153,8 +152,8 @@ module _ (table short₀ short : List ℕ) (r : ℕ) (k : Shortening table short
             ∙ sym (short_more t r l);
       })
 
-  pub shortening_done : r ≤ 512 → (512 ≤ r) ⊎ (length t ≤ r) → Shortens table (length short₀) short (r * 4)
-  shortening_done h c f room =
+  pub shortening_done : min (length t) 512 ≤ r → Shortens table (length short₀) short (r * 4)
+  shortening_done l f room =
       let it = accepted_table table f in
-      let all : length t ≤ r = ⊎_elim (λ l. omega (arith, it.few)) (λ l. l) c in
+      let all : length t ≤ r = omega (arith, l, it.few) in
       (omega (arith, rows_length table, k.within, it.whole), k.rows_are f room ∙ ap shortened (take_all r t all))

@@ -14,19 +14,17 @@ use terms::Row;
 fn short_row(row: Row, named: Row) -> Row
     ensures { result ≡ short_in row named }
 {
-    let kind = row.kind;
-    if kind != terms::EXTRACT {
+    if row.kind != terms::EXTRACT {
         return row;
     }
-    let inner = named.kind;
-    if inner != terms::EXTRACT {
+    if named.kind != terms::EXTRACT {
         return row;
     }
     Row {
         kind: terms::EXTRACT,
         a: named.a,
-        b: numbers::plus(row.b, named.c),
-        c: numbers::plus(row.c, named.c),
+        b: row.b.wrapping_add(named.c),
+        c: row.c.wrapping_add(named.c),
     }
 }
 
@@ -34,7 +32,7 @@ fn short_row(row: Row, named: Row) -> Row
 fn store_row(table: &mut [u16], r: usize, row: Row)
     ensures { table.new ≡ stored_row table.old (min r 512) row }
 {
-    let at = numbers::lesser(r, terms::MAX_ROWS) * 4;
+    let at = r.min(terms::MAX_ROWS) * 4;
     numbers::store_four(table, at, row.kind, row.a, row.b, row.c);
 }
 
@@ -43,42 +41,30 @@ fn shorten(table: &[u16], short: &mut [u16]) -> usize
     ensures few { result ≤ 2048 }
     ensures rows { Shortens table.now (length short.old) short.new result }
 {
-    let mut r: usize = 0;
-    while r < terms::MAX_ROWS {
-        if table.len() / 4 <= r {
-            break;
-        }
+    let rows = (table.len() / 4).min(terms::MAX_ROWS);
+    for r in 0..rows {
         let row = rows::row_at(table, r);
-        let named = rows::row_at(short, numbers::wide(row.a));
+        let named = rows::row_at(short, usize::from(row.a));
         store_row(short, r, short_row(row, named));
-        r += 1;
     }
-    r * 4
+    rows * 4
 }
 
 // Whether a row is an equation of a line.
 fn of_line(row: Row, line: u16) -> bool
     ensures { result ≡ of_line line row }
 {
-    let kind = row.kind;
-    let c = row.c;
-    if kind != terms::EQUATION {
-        return false;
-    }
-    c == line
+    row.kind == terms::EQUATION && row.c == line
 }
 
 // Whether an equation of a line stands at row `from` or behind it.
 fn has_line(table: &[u16], from: usize, line: u16) -> bool
     ensures { result ≡ some_row (of_line line) (drop from (rows_of table.now)) }
 {
-    let rows = table.len() / 4;
-    let mut i = from;
-    while i < rows {
+    for i in from..table.len() / 4 {
         if of_line(rows::row_at(table, i), line) {
             return true;
         }
-        i += 1;
     }
     false
 }
@@ -88,15 +74,10 @@ fn is_revised(table: &[u16], r: usize) -> bool
     ensures { result ≡ revised (row_at (rows_of table.now) r) (drop (suc r) (rows_of table.now)) }
 {
     let row = rows::row_at(table, r);
-    let kind = row.kind;
-    let line = row.c;
-    if kind != terms::EQUATION {
+    if row.kind != terms::EQUATION {
         return false;
     }
-    if line == 0 {
-        return false;
-    }
-    has_line(table, r + 1, line)
+    row.c != 0 && has_line(table, r + 1, row.c)
 }
 
 // Leaves off row r, if it is a revised equation: the row that says nothing is stored over it.
@@ -121,11 +102,9 @@ fn leave_off(table: &mut [u16], r: usize)
 fn leave_off_revised(table: &mut [u16])
     ensures { LeavesOffRevised table.old table.new }
 {
-    let rows = numbers::lesser(table.len() / 4, terms::MAX_ROWS);
-    let mut r: usize = 0;
-    while r < rows {
+    let rows = (table.len() / 4).min(terms::MAX_ROWS);
+    for r in 0..rows {
         leave_off(table, r);
-        r += 1;
     }
 }
 
@@ -134,7 +113,7 @@ pub fn copy(table: &[u16], short: &mut [u16]) -> usize
     ensures within { result ≤ length short.old }
     ensures rows { Copies table.now (length short.old) short.new result }
 {
-    let len = numbers::lesser(shorten(table, short), short.len());
+    let len = shorten(table, short).min(short.len());
     leave_off_revised(&mut short[..len]);
     len
 }

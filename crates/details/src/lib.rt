@@ -14,7 +14,7 @@ const FORM: usize = 4096;
 
 // Writes the first n bytes of a buffer, or all of it, to standard output.
 pub fn write_first(stdout: Stdout, out: &[u8], n: usize) {
-    let len = numbers::lesser(n, out.len());
+    let len = n.min(out.len());
     let _ = stdout.write_all(&out[..len]);
 }
 
@@ -22,23 +22,15 @@ pub fn write_first(stdout: Stdout, out: &[u8], n: usize) {
 fn mark(i: usize, first: usize, step: usize) -> u8
     ensures { result ≡ mark_at first step i }
 {
-    if step == 0 {
-        return 0;
-    }
-    if i % step == first {
-        return 1;
-    }
-    0
+    if step != 0 && i % step == first { 1 } else { 0 }
 }
 
 // Sets each byte to its mark.
 fn mark_every(bits: &mut [u8], first: usize, step: usize)
     ensures { bits.new ≡ marks first step (length bits.old) }
 {
-    let mut i = 0;
-    while i < bits.len() {
-        bits[i] = mark(i, first, step);
-        i += 1;
+    for (i, bit) in bits.iter_mut().enumerate() {
+        *bit = mark(i, first, step);
     }
 }
 
@@ -46,20 +38,15 @@ fn mark_every(bits: &mut [u8], first: usize, step: usize)
 fn digit(bit: u8) -> u8
     ensures { result ≡ cond (eqb bit 1) 49 48 }
 {
-    if bit == 1 {
-        return b'1';
-    }
-    b'0'
+    if bit == 1 { b'1' } else { b'0' }
 }
 
 // Writes a record's values as a line, and behind them up to 4,096 bits as a line of digits.
 fn print_bits(stdout: Stdout, found: Record, bits: &[u8], out: &mut [u8]) {
     let mut line = [10u8; 4097];
-    let len = numbers::lesser(bits.len(), 4096);
-    let mut i = 0;
-    while i < len {
-        line[i] = digit(bits[i]);
-        i += 1;
+    let len = bits.len().min(4096);
+    for (place, bit) in line.iter_mut().zip(&bits[..len]) {
+        *place = digit(*bit);
     }
     let at = writer::put_line(lines::record_values(found), out, 0);
     let end = writer::put_bytes(&line[..len + 1], out, at);
@@ -75,10 +62,7 @@ fn print_record(stdout: Stdout, found: Record, out: &mut [u8]) {
 fn four_values(a: u16, b: u16, c: u16, d: u16) -> Text
     ensures { result ≡ four_line a b c d }
 {
-    let t1 = lines::put_number(lines::empty(), a as u32, sheets::SPACE);
-    let t2 = lines::put_number(t1, b as u32, sheets::SPACE);
-    let t3 = lines::put_number(t2, c as u32, sheets::SPACE);
-    lines::put_number(t3, d as u32, sheets::NEWLINE)
+    lines::values(&[u32::from(a), u32::from(b), u32::from(c), u32::from(d)])
 }
 
 // Writes a line for each of the first n pieces of a form, from a place on where they fit, and gives the place behind them.
@@ -87,12 +71,10 @@ fn put_pieces(form: &[u16], n: usize, out: &mut [u8], at: usize) -> usize
     ensures bytes { out.new ≡ pieces_put out.old at form.now n }
 {
     let mut behind = at;
-    let mut i = 0;
-    while i < n {
+    for i in 0..n {
         let p = pieces::piece_at(form, i);
         let line = four_values(p.kind, p.variable, p.high, p.low);
         behind = writer::put_line(line, out, behind);
-        i += 1;
     }
     behind
 }
@@ -108,10 +90,8 @@ fn print_form(stdout: Stdout, table: &[u16], row: usize, out: &mut [u8]) {
 
 pub fn print_forms(stdout: Stdout, table: &[u16], out: &mut [u8]) {
     let _ = stdout.write_all(b"forms\n");
-    let mut row = 0;
-    while row < table.len() / 4 {
+    for row in 0..table.len() / 4 {
         print_form(stdout, table, row, out);
-        row += 1;
     }
 }
 
@@ -123,7 +103,7 @@ fn print_value(stdout: Stdout, table: &[u16], row: usize, pattern: &[u8], out: &
         print_record(stdout, found, out);
         return;
     }
-    let len = numbers::lesser(found.free as usize, terms::MAX_WIDTH);
+    let len = (found.free as usize).min(terms::MAX_WIDTH);
     print_bits(stdout, found, &value[..len], out);
 }
 
@@ -131,11 +111,9 @@ pub fn print_values(stdout: Stdout, table: &[u16], bits: usize, out: &mut [u8]) 
     let _ = stdout.write_all(b"values\n");
     let mut pattern = [0u8; terms::MAX_BITS];
     mark_every(&mut pattern[..], 0, 3);
-    let len = numbers::lesser(bits, terms::MAX_BITS);
-    let mut row = 0;
-    while row < table.len() / 4 {
+    let len = bits.min(terms::MAX_BITS);
+    for row in 0..table.len() / 4 {
         print_value(stdout, table, row, &pattern[..len], out);
-        row += 1;
     }
 }
 
@@ -150,7 +128,7 @@ pub fn print_pattern(
 ) {
     let mut fresh = [0u8; terms::MAX_BITS];
     mark_every(&mut fresh[..], first, 2);
-    let len = numbers::lesser(free, terms::MAX_BITS);
+    let len = free.min(terms::MAX_BITS);
     let mut pattern = [0u8; terms::MAX_BITS];
     let mut work = [0u16; solver::MEMORY];
     let found = matcher::make_pattern(
@@ -160,6 +138,6 @@ pub fn print_pattern(
         &mut pattern[..],
         &mut work[..],
     );
-    let bits = numbers::lesser(found.free as usize, terms::MAX_BITS);
+    let bits = (found.free as usize).min(terms::MAX_BITS);
     print_bits(stdout, found, &pattern[..bits], out);
 }

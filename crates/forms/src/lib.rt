@@ -2,7 +2,7 @@
 #![tactic(auto)]
 
 // A piece of a normal form: kind 0 or 1 for a fill of that bit, 2 for bits high to low of a variable.
-#[derive(Clone, Copy)]
+#[derive(Clone, Copy, Default)]
 pub struct Piece {
     pub kind: u16,
     pub variable: u16,

@@ -3,7 +3,8 @@
 use mathlib.Core.Path.{◌≡◌, refl, sym, ◌∙◌, ap, ap₂}
 use mathlib.Core.Bool.{Bool, true, false, not, ◌&&◌, cond, and-false, and-true}
 use mathlib.Core.List.{List}
-use mathlib.Core.Logic.{◌⊎◌, inl, inr, ◌≢◌}
+use Rattle.std.specs.Prelude.{Some, None}
+use mathlib.Core.Logic.{◌≢◌}
 use Prim.Native.Nat.{ℕ, zero, suc, ◌+◌, ◌-◌, ◌*◌, ◌/◌, ◌%◌, ◌≤◌, ◌<◌}
 use native.Mathlib.Omega.{arith}
 use lib.Dec.{eqb, leb, ltb}
@@ -70,72 +71,61 @@ module _ (plan : List ℕ) (x y shift g w : ℕ) (e : w ≡ g) where
 
 -- ---- the last row
 
-module _ (plan : List ℕ) (x y shift from none : ℕ) where
+module _ (plan : List ℕ) (x y shift from : ℕ) where
   abbrev one : ℕ → Bool
   one g = leb from g && is_row_of plan x y shift g
 
   -- a step down, and nothing below `from`
-  step : (g : ℕ) → last_row plan x y shift from none (suc g) ≡ cond (one g) g (last_row plan x y shift from none g)
+  step : (g : ℕ) → last_row plan x y shift from (suc g) ≡ cond (one g) (Some g) (last_row plan x y shift from g)
   unfolding last_row
   step g = refl
 
-  pub last_here : (g : ℕ) → from < g → true ≡ is_row_of plan x y shift (g - 1) → g - 1 ≡ last_row plan x y shift from none g
+  pub last_here : (g : ℕ) → from < g → true ≡ is_row_of plan x y shift (g - 1) → Some (g - 1) ≡ last_row plan x y shift from g
   last_here g l h =
       let e : suc (g - 1) ≡ g = omega arith in
-      sym (ap (last_row plan x y shift from none) (sym e) ∙ step (g - 1) ∙ rw (le-leb from (g - 1) (omega arith), ← h))
+      sym (ap (last_row plan x y shift from) (sym e) ∙ step (g - 1) ∙ rw (le-leb from (g - 1) (omega arith), ← h))
 
-  pub last_below : (g : ℕ) → from < g → false ≡ is_row_of plan x y shift (g - 1) → last_row plan x y shift from none g ≡ last_row plan x y shift from none (g - 1)
+  pub last_below : (g : ℕ) → from < g → false ≡ is_row_of plan x y shift (g - 1) → last_row plan x y shift from g ≡ last_row plan x y shift from (g - 1)
   last_below g l h =
       let e : suc (g - 1) ≡ g = omega arith in
-      ap (last_row plan x y shift from none) (sym e) ∙ step (g - 1) ∙ rw (← h, and-false (leb from (g - 1)))
+      ap (last_row plan x y shift from) (sym e) ∙ step (g - 1) ∙ rw (← h, and-false (leb from (g - 1)))
 
-  pub last_none : (g : ℕ) → g ≤ from → last_row plan x y shift from none g ≡ none
+  pub last_none : (g : ℕ) → g ≤ from → last_row plan x y shift from g ≡ None
   unfolding last_row
   last_none zero l = refl
   last_none (suc g) l = rw (lt-leb from g (omega arith)) (last_none g (omega arith))
 
-  -- it is one, unless there is none
-  pub record Found (n : ℕ) : Type 0 where
-    pub low : last_row plan x y shift from none n < n
-    pub past : from ≤ last_row plan x y shift from none n
-    pub row : is_row_of plan x y shift (last_row plan x y shift from none n) ≡ true
+  -- what is found below n: a row, or that there is none
+  pub record Found (n g : ℕ) : Type 0 where
+    pub low : g < n
+    pub past : from ≤ g
+    pub row : is_row_of plan x y shift g ≡ true
 
-  pub last_is : (n : ℕ) → ((last_row plan x y shift from none n ≡ none) × (no_row plan from n x y shift ≡ true)) ⊎ Found n
-  unfolding last_row no_row below
-  last_is zero = inl (refl, refl)
-  last_is (suc g) = go (one g) refl (last_is g)
+  pub found_row : (n g : ℕ) → Some g ≡ last_row plan x y shift from n → Found n g
+  unfolding last_row
+  found_row zero g e = cc
+  found_row (suc m) g e = go (one m) refl (found_row m g)
     where
-      go : (t : Bool) → one g ≡ t → ((last_row plan x y shift from none g ≡ none) × (no_row plan from g x y shift ≡ true)) ⊎ Found g
-          → ((last_row plan x y shift from none (suc g) ≡ none) × (no_row plan from (suc g) x y shift ≡ true)) ⊎ Found (suc g)
-      go true h r =
-          let e : last_row plan x y shift from none (suc g) ≡ g = rw h in
-          inr (record {
+      go : (t : Bool) → one m ≡ t → (Some g ≡ last_row plan x y shift from m → Found m g) → Found (suc m) g
+      go true h f =
+          let i : g ≡ m = cc (e, h) in
+          record {
             low = omega arith;
-            past = omega (arith, leb-true from g (and_first (leb from g) (is_row_of plan x y shift g) h));
-            row = rw e (and_second (leb from g) (is_row_of plan x y shift g) h);
-          })
-      go false h (inl r) = inl (rw h r.0, rw h r.1)
-      go false h (inr f) =
-          let e : last_row plan x y shift from none (suc g) ≡ last_row plan x y shift from none g = rw h in
-          inr (record { low = omega (arith, f.low); past = omega (arith, f.past); row = rw e f.row })
+            past = omega (arith, i, leb-true from m (and_first (leb from m) (is_row_of plan x y shift m) h));
+            row = rw i (and_second (leb from m) (is_row_of plan x y shift m) h);
+          }
+      go false h f =
+          let r = f (e ∙ rw h) in
+          record { low = omega (arith, r.low); past = r.past; row = r.row }
 
--- what was found: a row, or that there is none
-module _ (plan : List ℕ) (x y shift from count g : ℕ) (e : g ≡ last_row plan x y shift from count count) where
-  pub found_row : g < count → (from ≤ g) × (is_row_of plan x y shift g ≡ true)
-  found_row l = go (last_is plan x y shift from count count)
+  pub found_none : (n : ℕ) → None ≡ last_row plan x y shift from n → no_row plan from n x y shift ≡ true
+  unfolding last_row no_row below
+  found_none zero e = refl
+  found_none (suc m) e = go (one m) refl (found_none m)
     where
-      go : ((last_row plan x y shift from count count ≡ count) × (no_row plan from count x y shift ≡ true)) ⊎ Found plan x y shift from count count
-          → (from ≤ g) × (is_row_of plan x y shift g ≡ true)
-      go (inl h) = absurd (omega (arith, h.0))
-      go (inr f) = (omega (arith, f.past), rw e f.row)
-
-  pub found_none : count ≤ g → (g ≡ count) × (no_row plan from count x y shift ≡ true)
-  found_none l = go (last_is plan x y shift from count count)
-    where
-      go : ((last_row plan x y shift from count count ≡ count) × (no_row plan from count x y shift ≡ true)) ⊎ Found plan x y shift from count count
-          → (g ≡ count) × (no_row plan from count x y shift ≡ true)
-      go (inl h) = (e ∙ h.0, h.1)
-      go (inr f) = absurd (omega (arith, f.low))
+      go : (t : Bool) → one m ≡ t → (None ≡ last_row plan x y shift from m → no_row plan from m x y shift ≡ true) → no_row plan from (suc m) x y shift ≡ true
+      go true h f = cc (e, h)
+      go false h f = rw h (f (e ∙ rw h))
 
 -- a row that is there
 pub row_there : (plan : List ℕ) (x y shift from count g : ℕ) → from ≤ g → g < count → is_row_of plan x y shift g ≡ true → no_row plan from count x y shift ≡ false

@@ -22,9 +22,9 @@ fn upward(x: u16, y: u16, shift: u16, q: u16) -> Group
     ensures { (result.x ≡ x) × (result.y ≡ y) × (result.shift ≡ shift) × (result.mask ≡ 2 ^ (15 - q)) }
 {
     Group {
-        x: x,
-        y: y,
-        shift: shift,
+        x,
+        y,
+        shift,
         mask: 1u16 << (15 - q),
     }
 }
@@ -48,29 +48,21 @@ fn row_of(plan: &[u16], g: u16, x: u16, y: u16, shift: u16) -> bool
     requires { 4 * g + 263 < length plan.now }
     ensures { result ≡ is_row_of plan.now x y shift g }
 {
-    let at = 4 * numbers::wide(g) + 260;
-    if plan[at + 2] != shift {
-        return false;
-    }
-    if plan[at + 1] != y {
-        return false;
-    }
-    plan[at] == x
+    let at = 4 * usize::from(g) + 260;
+    plan[at + 2] == shift && plan[at + 1] == y && plan[at] == x
 }
 
-// The last equal row of words x and y at a shift, of rows from .. count; count if there is none.
-fn find_group(plan: &[u16], from: u16, count: u16, x: u16, y: u16, shift: u16) -> u16
+// The last equal row of words x and y at a shift, of rows from .. count.
+fn find_group(plan: &[u16], from: u16, count: u16, x: u16, y: u16, shift: u16) -> Option<u16>
     requires { 4 * count + 263 < length plan.now }
-    ensures { result ≡ last_row plan.now x y shift from count count }
+    ensures { result ≡ last_row plan.now x y shift from count }
 {
-    let mut g = count;
-    while from < g {
-        g -= 1;
+    for g in (from..count).rev() {
         if row_of(plan, g, x, y, shift) {
-            return g;
+            return Some(g);
         }
     }
-    count
+    None
 }
 
 // Adds an equal row of one bit to count rows, of which those from `from` on are looked through: its bit goes to the row of the same words
@@ -80,15 +72,17 @@ fn add_group(plan: &mut [u16], from: u16, count: u16, group: Group) -> u16
     requires in_bounds { 4352 ≤ length plan.old }
     ensures { Added group.x group.y group.shift group.mask plan.old from count plan.new result }
 {
-    let g = find_group(plan, from, count, group.x, group.y, group.shift);
-    let at = 4 * numbers::wide(g) + 260;
-    if g < count {
-        let mask = plan[at + 3];
-        plan[at + 3] = group.mask | mask;
-        return count;
+    match find_group(plan, from, count, group.x, group.y, group.shift) {
+        Some(g) => {
+            plan[4 * usize::from(g) + 263] |= group.mask;
+            count
+        }
+        None => {
+            let at = 4 * usize::from(count) + 260;
+            numbers::store_four(plan, at, group.x, group.y, group.shift, group.mask);
+            count + 1
+        }
     }
-    numbers::store_four(plan, at, group.x, group.y, group.shift, group.mask);
-    count + 1
 }
 
 // Puts the equal row of place i, if it has one: a fixed place has none, nor one that is its own representative.
@@ -99,11 +93,8 @@ fn put_place(links: &[u16], i: u16, from: u16, count: u16, plan: &mut [u16]) -> 
     ensures upper_bound { (result ≤ i) × Covers links.now i (i + 1) plan.old count plan.new result }
     ensures rows { PutsPlace (linked links.now) i plan.old from count plan.new result }
 {
-    let r = numbers::load(links, numbers::wide(i) + 2);
-    if r < 2 {
-        return count;
-    }
-    if i + 2 <= r {
+    let r = numbers::load(links, usize::from(i) + 2);
+    if r < 2 || i + 2 <= r {
         return count;
     }
     add_group(plan, from, count, group_of(i, r))
@@ -117,12 +108,9 @@ fn put_word(links: &[u16], v: u16, count: u16, plan: &mut [u16]) -> u16
     ensures upper_bound { (result ≤ 16 * v + 15) × Covers links.now (16 * v) (16 * v + 16) plan.old count plan.new result }
     ensures rows { Counts (linked links.now) (16 * v) (16 * v + 16) count result }
 {
-    let end = 16 * v + 16;
     let mut n = count;
-    let mut i = 16 * v;
-    while i < end {
+    for i in 16 * v..16 * v + 16 {
         n = put_place(links, i, count, n, plan);
-        i += 1;
     }
     n
 }
@@ -131,17 +119,12 @@ fn put_word(links: &[u16], v: u16, count: u16, plan: &mut [u16]) -> u16
 pub fn put_equal(links: &[u16], k: usize, plan: &mut [u16]) -> u16
     ensures { PutsEqual links.now k plan.old plan.new result }
 {
-    if plan.len() < 4352 {
+    if plan.len() < 4352 || 64 < k {
         return 0;
     }
-    if 64 < k {
-        return 0;
-    }
-    let mut count: u16 = 0;
-    let mut v: u16 = 0;
-    while numbers::wide(v) < k {
+    let mut count = 0;
+    for v in 0..k as u16 {
         count = put_word(links, v, count, plan);
-        v += 1;
     }
     count
 }

@@ -81,13 +81,6 @@ module _ (rows : List AnswerRow) where
     first_here : is_fresh (answer_row_at rows j) ≡ true → (answer_row_at rows j).fresh ≡ seen → First rows seen j
     first_here f e = record { is_row = and_both (is_fresh (at j)) (eqb (at j).fresh seen) f (eq-eqb (at j).fresh seen e); none_before = unseen }
 
-    -- a row whose piece appeared before, and one where it first appears
-    pub home_later : is_fresh (answer_row_at rows j) ≡ true → (answer_row_at rows j).fresh ≢ seen → home_row rows j ≡ get_or firsts (answer_row_at rows j).fresh 0
-    home_later f e = home_first j (get_or firsts (at j).fresh 0) f (k.marked (at j).fresh (omega (arith, number_most f)))
-
-    pub home_here : is_fresh (answer_row_at rows j) ≡ true → (answer_row_at rows j).fresh ≡ seen → home_row rows j ≡ j
-    home_here f e = home_first j j f (rw e (first_here f e))
-
     -- with a row that adds no fresh piece
     same_seen : (is_fresh (answer_row_at rows j) ≡ true → (answer_row_at rows j).fresh ≢ seen) → Seen rows (set firsts seen j) seen (suc j)
     same_seen h =

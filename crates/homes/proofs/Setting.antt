@@ -1,24 +1,22 @@
 -- Home and high bit set row by row: rows before row i have those of their home row, the others their own.
 use mathlib.Core.Path.{◌≡◌, refl, sym, ◌∙◌, ap}
 use mathlib.Core.Logic.{◌⊎◌, inl, inr, ◌≢◌}
-use mathlib.Core.Bool.{true, false}
 use mathlib.Core.List.{List}
-use Prim.Native.Nat.{ℕ, suc, ◌+◌, ◌*◌, ◌%◌, ◌≤◌, ◌<◌}
+use Prim.Native.Nat.{ℕ, suc, ◌+◌, ◌*◌, ◌≤◌, ◌<◌}
 use native.Mathlib.Omega.{arith}
 use native.Mathlib.Numerals.{add-one}
-use lib.ListN.{length, get_or, set}
+use lib.ListN.{length, get_or}
 use borrow.Author.Tests.{lt-ltb, le-ltb}
-use Rattle.laws.proofs.Bools.{clash}
 use Rattle.laws.proofs.Numbers.{dec_eq, lt_or_le}
 use Rattle.answers.specs.declared.AnswerRow.{AnswerRow}
-use Rattle.answers.specs.Answer.{answer_row_at, answer_rows_of, is_fresh, high_bit, home_row}
+use Rattle.answers.specs.Answer.{answer_row_at, answer_rows_of, high_bit, home_row}
 use Rattle.answers.proofs.AnswerNumbers.{answer-columns}
 use Rattle.answers.specs.inner.Orderly.{Orderly}
 use Rattle.answers.specs.inner.FourNumbers.{answer_columns}
-use Rattle.homes.specs.inner.Homes.{Standing, home_copied, homed_to, Homed, SetsHome, SetsHomes}
+use Rattle.homes.specs.inner.Homes.{Standing, home_in, home_copied, homed_to, Homed, MarksFirst, SetsHome, SetsHomes}
 use Rattle.homes.proofs.Stores.{kept_columns, copy-length, copy_kept, copy-home, copy_high}
-use Rattle.answers.proofs.Homes.{home_fill, home_le}
-use Rattle.homes.proofs.Firsts.{none_seen, kind_fresh, kind_fill, home_later, home_here, seen_kept, more_seen, home_home}
+use Rattle.answers.proofs.Homes.{home_le}
+use Rattle.homes.proofs.Firsts.{none_seen, home_known, home_home}
 
 module _ (rows : List AnswerRow) (i j : ℕ) where
   homed_low : j < i → homed_to rows i j ≡ home_row rows j
@@ -135,51 +133,13 @@ module _ (rows : List AnswerRow) (o : Orderly rows) (old t : List ℕ) (i : ℕ)
       highs_at j q (inl e) = rw (e, now_home) (copy_high t h i fits ∙ s.highs_are h home_there ∙ ap (high_bit rows) (homed_home rows i))
       highs_at j q (inr n) = kept_at j (j * 6 + 5) n (omega arith) (omega arith) ∙ s.highs_are j q ∙ ap (high_bit rows) (homed_same rows i j n)
 
--- each way to set the home of row i
-module _ (r : AnswerRow) (i seen : ℕ) (t firsts : List ℕ) where
-  -- a row that is its own home
-  own_home : (rows : List AnswerRow) (old : List ℕ) → home_row rows i ≡ i → Standing rows (homed_to rows i) old t → Standing rows (homed_to rows (suc i)) old t
-  own_home rows old h s = standing_as rows (homed_to rows i) (homed_to rows (suc i)) old t (λ j l. go j (dec_eq j i)) s
-    where
-      go : (j : ℕ) → (j ≡ i) ⊎ (j ≢ i) → homed_to rows i j ≡ homed_to rows (suc i) j
-      go j (inl e) = rw e (homed_high rows i i (omega arith) ∙ sym (homed_low rows (suc i) i (omega arith) ∙ h))
-      go j (inr e) = homed_same rows i j e
-
-  pub home_of_fill : r.kind < 2 → SetsHome r i seen t t firsts firsts seen
-  home_of_fill f rows old o e l room space g =
-      let fill : is_fresh (answer_row_at rows i) ≡ false = ap is_fresh (sym e) ∙ kind_fill rows r f in
-      rw add-one
-      (record {
-        seen_are = seen_kept rows o firsts seen i g.seen_are l space (λ h. clash (is_fresh (answer_row_at rows i)) h fill);
-        standing = own_home rows old (home_fill rows i fill) g.standing;
-      })
-
-  module _ (f : 2 ≤ r.kind) where
-    pub home_of_first : r.fresh ≡ seen → (w : ℕ) → w ≡ seen → (firsts' : List ℕ) → firsts' ≡ set firsts w i → (seen' : ℕ) → seen' ≡ (seen + 1) % 65536
-        → SetsHome r i seen t t firsts firsts' seen'
-    home_of_first q w ew firsts' ef seen' es rows old o e l room space g =
-        let fresh : is_fresh (answer_row_at rows i) ≡ true = ap is_fresh (sym e) ∙ kind_fresh rows r f in
-        let number : (answer_row_at rows i).fresh ≡ seen = ap (λ (x : AnswerRow). x.fresh) (sym e) ∙ q in
-        let d : seen' ≡ suc seen = es ∙ omega (arith, g.seen_are.most, o.few) in
-        rw (add-one, ef, ew, d)
-        (record {
-          seen_are = more_seen rows o firsts seen i g.seen_are l space fresh number;
-          standing = own_home rows old (home_here rows o firsts seen i g.seen_are l space fresh number) g.standing;
-        })
-
-    pub home_of_later : r.fresh ≢ seen → (w : ℕ) → w ≡ r.fresh → (from : ℕ) → from ≡ get_or firsts w 0 → (t' : List ℕ)
-        → (from * 6 + 6 ≤ length t → i * 6 + 6 ≤ length t → t' ≡ home_copied t from i) → SetsHome r i seen t t' firsts firsts seen
-    home_of_later q w ew from eh t' et rows old o e l room space g =
-        let fresh : is_fresh (answer_row_at rows i) ≡ true = ap is_fresh (sym e) ∙ kind_fresh rows r f in
-        let same : r.fresh ≡ (answer_row_at rows i).fresh = ap (λ (x : AnswerRow). x.fresh) e in
-        let other : (answer_row_at rows i).fresh ≢ seen = λ d. q (same ∙ d) in
-        let home : from ≡ home_row rows i = eh ∙ ap (λ (x : ℕ). get_or firsts x 0) (ew ∙ same) ∙ sym (home_later rows o firsts seen i g.seen_are l space fresh other) in
-        let fits : from * 6 + 6 ≤ length t = omega (arith, home, home_le rows i) in
-        rw (add-one, et fits (omega arith), home)
-        (record {
-          seen_are = seen_kept rows o firsts seen i g.seen_are l space (λ h. other);
-          standing = standing_more rows o old t i g.standing l room;
-        })
+-- row i marked as far as its piece first appears there, and its home read
+pub home_set : (r : AnswerRow) (i seen : ℕ) (t firsts firsts' : List ℕ) (seen' : ℕ) → length firsts' ≡ length firsts → MarksFirst r i seen firsts firsts' seen'
+    → (from : ℕ) → from ≡ home_in firsts' r i → (t' : List ℕ) → t' ≡ home_copied t from i → SetsHome r i seen t t' firsts firsts' seen'
+home_set r i seen t firsts firsts' seen' lf m from eh t' et rows old o e l room space g =
+    let s = m rows o e l space g.seen_are in
+    let home : from ≡ home_row rows i = eh ∙ ap (λ (x : AnswerRow). home_in firsts' x i) e ∙ home_known rows firsts' seen' (i + 1) i s (omega arith) in
+    rw (et, home) (record { seen_are = s; standing = rw add-one (standing_more rows o old t i g.standing l room) })
 
 module _ (n : ℕ) (t₀ t firsts₀ firsts : List ℕ) (seen i : ℕ) (k : Setting n t₀ t firsts₀ firsts seen i) where
   pub setting_more : i < n → (w : ℕ) → w ≡ i → (r : AnswerRow) → r ≡ answer_row_at (answer_rows_of t) w → (t' firsts' : List ℕ) → length t' ≡ length t → length firsts' ≡ length firsts

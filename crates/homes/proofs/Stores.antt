@@ -1,7 +1,6 @@
 -- Stores to one row of an answer table: its numbers afterwards, and that all others stay.
 use mathlib.Core.Path.{◌≡◌, sym, ◌∙◌, ap}
 use mathlib.Core.Logic.{◌⊎◌, inl, inr, ◌≢◌}
-use mathlib.Core.Bool.{false}
 use mathlib.Core.List.{List}
 use Prim.Native.Nat.{ℕ, ◌+◌, ◌*◌, ◌≤◌, ◌<◌}
 use native.Mathlib.Omega.{arith}
@@ -144,23 +143,6 @@ module _ (t : List ℕ) (from to : ℕ) where
   unfolding home_copied
   copy_high l = get_or-set_same one (to * 6 + 5) (get_or t (from * 6 + 5) 0) 0 (omega (arith, length-set t (to * 6 + 4) (get_or t (from * 6 + 4) 0)))
 
--- stores one after the other, at places that are read as numbers
-pub row_stored : (t : List ℕ) (w i : ℕ) (r : AnswerRow) (high : ℕ) → w ≡ i
-    → set (set (set (set (set (set t (w * 6) r.variable) (w * 6 + 1) r.kind) (w * 6 + 2) r.width) (w * 6 + 3) r.fresh) (w * 6 + 4) r.variable) (w * 6 + 5) high
-    ≡ row_put t i r high
-unfolding row_put set_four
-row_stored t w i r high e = rw e
-
-pub home_stored : (t : List ℕ) (w i u j : ℕ) → w ≡ i → u ≡ j
-    → set (set t (u * 6 + 4) (get_or t (w * 6 + 4) 0)) (u * 6 + 5) (get_or t (w * 6 + 5) 0) ≡ home_copied t i j
-unfolding home_copied
-home_stored t w i u j e d = rw (e, d)
-
--- four numbers read side by side
-pub columns_loaded : (t : List ℕ) (w i v k wd f : ℕ) → w ≡ i → v ≡ get_or t (w * 4) 0 → k ≡ get_or t (w * 4 + 1) 0 → wd ≡ get_or t (w * 4 + 2) 0 → f ≡ get_or t (w * 4 + 3) 0
-    → ◌≡◌ {A = AnswerRow} (record { variable = v; kind = k; width = wd; fresh = f }) (answer_columns t (i * 4))
-columns_loaded t w i v k wd f e a b c d = rw (a, b, c, d, e)
-
 -- home and high bit compared, with their own or with those of another row
 module _ (t : List ℕ) (w i u from home bit variable high : ℕ) (ew : w ≡ i) (eu : u ≡ from) (eh : home ≡ get_or t (w * 6 + 4) 0) (eb : bit ≡ get_or t (w * 6 + 5) 0) where
   home_here : get_or t (i * 6 + 4) 0 ≡ home
@@ -173,7 +155,7 @@ module _ (t : List ℕ) (w i u from home bit variable high : ℕ) (ew : w ≡ i)
   unfolding home_fine
   own_fine e h = rw (eq-eqb from i e, home_here, bit_here, eq-eqb home variable h)
 
-  pub own_wrong : from ≡ i → home ≢ variable → false ≡ home_fine t variable high from i
+  pub own_wrong : from ≡ i → home ≢ variable → eqb home variable ≡ home_fine t variable high from i
   unfolding home_fine
   own_wrong e h = rw (eq-eqb from i e, home_here, bit_here, ne_eqb home variable h)
 
@@ -182,6 +164,6 @@ module _ (t : List ℕ) (w i u from home bit variable high : ℕ) (ew : w ≡ i)
   other_fine e home' bit' a b h =
       rw (ne_eqb from i e, home_here, bit_here, ← eu, ← a, ← b, eq-eqb home home' h)
 
-  pub other_wrong : from ≢ i → (home' : ℕ) → home' ≡ get_or t (u * 6 + 4) 0 → home ≢ home' → false ≡ home_fine t variable high from i
+  pub other_wrong : from ≢ i → (home' : ℕ) → home' ≡ get_or t (u * 6 + 4) 0 → home ≢ home' → eqb home home' ≡ home_fine t variable high from i
   unfolding home_fine
   other_wrong e home' a h = rw (ne_eqb from i e, home_here, bit_here, ← eu, ← a, ne_eqb home home' h)

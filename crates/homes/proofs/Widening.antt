@@ -91,8 +91,8 @@ module _ (rows : List AnswerRow) (o : Orderly rows) (t₀ t : List ℕ) (passed 
       highs_at j h (inr q) = put_kept t i r high (j * 6 + 5) (inr (omega arith)) ∙ k.highs_are j q h
 
 module _ (n : ℕ) (t₀ t : List ℕ) (passed variable i : ℕ) (k : Widening n t₀ t passed variable i) where
-  pub widening_more : 0 < i → (r : AnswerRow) → ((i - 1) * 4 + 4 ≤ length t → r ≡ answer_columns t ((i - 1) * 4)) → (passed' : ℕ) → passed' ≡ width_on passed variable r
-      → (high : ℕ) → high ≡ passed' - 1 → (t' : List ℕ) → length t' ≡ length t → ((i - 1) * 6 + 6 ≤ length t → t' ≡ row_put t (i - 1) r high)
+  pub widening_more : 0 < i → (r : AnswerRow) → r ≡ answer_columns t ((i - 1) * 4) → (passed' : ℕ) → passed' ≡ width_on passed variable r
+      → (high : ℕ) → high ≡ passed' - 1 → (t' : List ℕ) → length t' ≡ length t → t' ≡ row_put t (i - 1) r high
       → Widening n t₀ t' passed' r.variable (i - 1)
   widening_more pos r er passed' ep high eh t' lt et =
       record {
@@ -100,10 +100,9 @@ module _ (n : ℕ) (t₀ t : List ℕ) (passed variable i : ℕ) (k : Widening n
         len = lt ∙ k.len;
         going = λ rows e o room four.
             let s : i ≡ suc (i - 1) = omega arith in
-            let fits : (i - 1) * 6 + 6 ≤ length t = omega (arith, k.within, k.len) in
             let w : Wide rows t₀ t passed variable (suc (i - 1)) = subst (λ (x : ℕ). Wide rows t₀ t passed variable x) s (k.going rows e o room four) in
-            rw (et fits)
-            (wide_more rows o t₀ t passed variable (i - 1) w (omega (arith, k.within)) (omega (arith, k.len)) (four (i - 1) (omega (arith, k.within))) r (er (omega arith)) passed' ep high eh);
+            rw et
+            (wide_more rows o t₀ t passed variable (i - 1) w (omega (arith, k.within)) (omega (arith, k.len)) (four (i - 1) (omega (arith, k.within))) r er passed' ep high eh);
       }
 
   pub widening_done : i ≤ 0 → Widens n t₀ t

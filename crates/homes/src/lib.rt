@@ -3,7 +3,7 @@
 // The test of a table goes the same way and writes nothing.
 #![tactic(auto)]
 
-ghost use Rattle.std.specs.Prelude.{◌≡◌, ◌+◌, ◌*◌, ◌≤◌, length};
+ghost use Rattle.std.specs.Prelude.{◌≡◌, ◌*◌, length};
 ghost use Rattle.answers.specs.inner.FourNumbers.{answer_columns};
 ghost use Rattle.homes.specs.inner.Homes.{width_on, row_put, Widens, home_in, home_copied, SetsHome, SetsHomes, PutsHomes, MarksFirst, MarksFirsts, home_fine, TestsRows, TestsHomes};
 
@@ -12,52 +12,38 @@ use answers::AnswerRow;
 // The kind of a row with a fresh piece; a lower kind is a fill of that bit.
 const FRESH: u16 = 2;
 
-// Row i of a table whose rows have four numbers, if it is there.
+// Row i of a table whose rows have four numbers.
 fn four_at(answer: &[u16], i: u16) -> AnswerRow
-    ensures { i * 4 + 4 ≤ length answer.now → result ≡ answer_columns answer.now (i * 4) }
+    ensures { result ≡ answer_columns answer.now (i * 4) }
 {
-    let at = numbers::wide(i) * answers::FOUR;
-    if answer.len() < at + 4 {
-        return AnswerRow {
-            variable: 0,
-            kind: 0,
-            width: 0,
-            fresh: 0,
-        };
-    }
+    let at = usize::from(i) * answers::FOUR;
     AnswerRow {
-        variable: answer[at],
-        kind: answer[at + 1],
-        width: answer[at + 2],
-        fresh: answer[at + 3],
+        variable: numbers::load(answer, at),
+        kind: numbers::load(answer, at + 1),
+        width: numbers::load(answer, at + 2),
+        fresh: numbers::load(answer, at + 3),
     }
 }
 
-// Writes row i with its own place, its variable and its highest bit, if there is room.
+// Writes row i with its own place, its variable and its highest bit, as far as there is room.
 fn put_row(answer: &mut [u16], i: u16, row: AnswerRow, high: u16)
-    ensures { i * 6 + 6 ≤ length answer.old → answer.new ≡ row_put answer.old i row high }
+    ensures { answer.new ≡ row_put answer.old i row high }
 {
-    let at = numbers::wide(i) * answers::ROW;
-    if answer.len() < at + 6 {
-        return;
-    }
-    answer[at] = row.variable;
-    answer[at + 1] = row.kind;
-    answer[at + 2] = row.width;
-    answer[at + 3] = row.fresh;
-    answer[at + 4] = row.variable;
-    answer[at + 5] = high;
+    let at = usize::from(i) * answers::ROW;
+    numbers::store_four(answer, at, row.variable, row.kind, row.width, row.fresh);
+    numbers::store(answer, at + 4, row.variable);
+    numbers::store(answer, at + 5, high);
 }
 
 // The width of a row's variable from the row on, from that of the last row's variable behind it.
 fn width_on(passed: u16, variable: u16, row: AnswerRow) -> u16
     ensures { result ≡ width_on passed variable row }
 {
-    let own = row.variable;
-    if own == variable {
-        return numbers::plus(passed, row.width);
+    if row.variable == variable {
+        passed.wrapping_add(row.width)
+    } else {
+        row.width
     }
-    row.width
 }
 
 // Widens rows of four numbers to six, from the last one back: row i moves from 4 i to 6 i, never onto a row that is still to be read.
@@ -66,13 +52,11 @@ fn widen(answer: &mut [u16], rows: u16)
 {
     let mut passed: u16 = 0;
     let mut variable: u16 = 0;
-    let mut i = rows;
-    while 0 < i {
-        i -= 1;
+    for i in (0..rows).rev() {
         let row = four_at(answer, i);
         passed = width_on(passed, variable, row);
         variable = row.variable;
-        put_row(answer, i, row, numbers::difference(passed, 1));
+        put_row(answer, i, row, passed.saturating_sub(1));
     }
 }
 
@@ -80,48 +64,44 @@ fn widen(answer: &mut [u16], rows: u16)
 fn home_row(firsts: &[u16], row: AnswerRow, i: u16) -> u16
     ensures { result ≡ home_in firsts.now row i }
 {
-    let kind = row.kind;
-    if kind < FRESH {
-        return i;
+    if row.kind < FRESH {
+        i
+    } else {
+        numbers::load(firsts, usize::from(row.fresh))
     }
-    numbers::load(firsts, numbers::wide(row.fresh))
 }
 
-// Copies home and high bit of one row to another, if both are there.
+// Copies home and high bit of one row to another, as far as there is room.
 fn copy_home(answer: &mut [u16], from: u16, to: u16)
-    ensures { from * 6 + 6 ≤ length answer.old → to * 6 + 6 ≤ length answer.old → answer.new ≡ home_copied answer.old from to }
+    ensures { answer.new ≡ home_copied answer.old from to }
 {
-    let source = numbers::wide(from) * answers::ROW;
-    let target = numbers::wide(to) * answers::ROW;
-    if answer.len() < source + 6 {
-        return;
-    }
-    if answer.len() < target + 6 {
-        return;
-    }
-    let home = answer[source + 4];
-    let high = answer[source + 5];
-    answer[target + 4] = home;
-    answer[target + 5] = high;
+    let source = usize::from(from) * answers::ROW;
+    let target = usize::from(to) * answers::ROW;
+    let home = numbers::load(answer, source + 4);
+    let high = numbers::load(answer, source + 5);
+    numbers::store(answer, target + 4, home);
+    numbers::store(answer, target + 5, high);
 }
 
-// Row i has its own place. It stays if its piece first appears there, and the row is marked; else home and high bit are those of the marked
-// row. How many fresh pieces have appeared then.
+// Marks row i if its piece first appears there. How many fresh pieces have appeared then.
+fn mark_first(firsts: &mut [u16], row: AnswerRow, seen: u16, i: u16) -> u16
+    ensures { MarksFirst row i seen firsts.old firsts.new result }
+{
+    if row.kind < FRESH || row.fresh != seen {
+        return seen;
+    }
+    numbers::store(firsts, usize::from(seen), i);
+    seen.wrapping_add(1)
+}
+
+// Row i has its own place. It is marked if its piece first appears there, and gets home and high bit of the row where it does.
 fn set_home(answer: &mut [u16], firsts: &mut [u16], row: AnswerRow, seen: u16, i: u16) -> u16
     ensures { SetsHome row i seen answer.old answer.new firsts.old firsts.new result }
 {
-    let kind = row.kind;
-    let number = row.fresh;
-    if kind < FRESH {
-        return seen;
-    }
-    if number == seen {
-        numbers::store(firsts, numbers::wide(seen), i);
-        return numbers::plus(seen, 1);
-    }
-    let from = numbers::load(firsts, numbers::wide(number));
+    let more = mark_first(firsts, row, seen, i);
+    let from = home_row(firsts, row, i);
     copy_home(answer, from, i);
-    seen
+    more
 }
 
 // Sets home and high bit of each row, where each has its own place. `firsts` gets the first row of each fresh piece.
@@ -129,11 +109,9 @@ fn set_homes(answer: &mut [u16], rows: u16, firsts: &mut [u16])
     ensures { SetsHomes rows answer.old answer.new (length firsts.old) }
 {
     let mut seen: u16 = 0;
-    let mut i: u16 = 0;
-    while i < rows {
-        let row = answer_table::row_at(answer, numbers::wide(i));
+    for i in 0..rows {
+        let row = answer_table::row_at(answer, usize::from(i));
         seen = set_home(answer, firsts, row, seen, i);
-        i += 1;
     }
 }
 
@@ -146,32 +124,14 @@ pub fn put_homes(answer: &mut [u16], rows: usize, firsts: &mut [u16])
     set_homes(answer, count, firsts);
 }
 
-// Marks row i if its piece first appears there. How many fresh pieces have appeared then.
-fn mark_first(firsts: &mut [u16], row: AnswerRow, seen: u16, i: u16) -> u16
-    ensures { MarksFirst row i seen firsts.old firsts.new result }
-{
-    let kind = row.kind;
-    let number = row.fresh;
-    if kind < FRESH {
-        return seen;
-    }
-    if number != seen {
-        return seen;
-    }
-    numbers::store(firsts, numbers::wide(seen), i);
-    numbers::plus(seen, 1)
-}
-
 // Marks the first row of each fresh piece.
 fn mark_firsts(answer: &[u16], rows: u16, firsts: &mut [u16])
     ensures { MarksFirsts rows answer.now (length firsts.old) firsts.new }
 {
     let mut seen: u16 = 0;
-    let mut i: u16 = 0;
-    while i < rows {
-        let row = answer_table::row_at(answer, numbers::wide(i));
+    for i in 0..rows {
+        let row = answer_table::row_at(answer, usize::from(i));
         seen = mark_first(firsts, row, seen, i);
-        i += 1;
     }
 }
 
@@ -179,20 +139,14 @@ fn mark_firsts(answer: &[u16], rows: u16, firsts: &mut [u16])
 fn home_fine(answer: &[u16], variable: u16, high: u16, from: u16, i: u16) -> bool
     ensures { result ≡ home_fine answer.now variable high from i }
 {
-    let at = numbers::wide(i) * answers::ROW;
-    let source = numbers::wide(from) * answers::ROW;
+    let at = usize::from(i) * answers::ROW;
+    let source = usize::from(from) * answers::ROW;
     let home = numbers::load(answer, at + 4);
     let bit = numbers::load(answer, at + 5);
     if from == i {
-        if home == variable {
-            return bit == high;
-        }
-        return false;
+        return home == variable && bit == high;
     }
-    if home == numbers::load(answer, source + 4) {
-        return bit == numbers::load(answer, source + 5);
-    }
-    false
+    home == numbers::load(answer, source + 4) && bit == numbers::load(answer, source + 5)
 }
 
 // Tests home and high bit of each row, from the last one back.
@@ -201,14 +155,12 @@ fn rows_fine(answer: &[u16], rows: u16, firsts: &[u16]) -> bool
 {
     let mut passed: u16 = 0;
     let mut variable: u16 = 0;
-    let mut i = rows;
-    while 0 < i {
-        i -= 1;
-        let row = answer_table::row_at(answer, numbers::wide(i));
+    for i in (0..rows).rev() {
+        let row = answer_table::row_at(answer, usize::from(i));
         passed = width_on(passed, variable, row);
         variable = row.variable;
         let from = home_row(firsts, row, i);
-        if !home_fine(answer, variable, numbers::difference(passed, 1), from, i) {
+        if !home_fine(answer, variable, passed.saturating_sub(1), from, i) {
             return false;
         }
     }

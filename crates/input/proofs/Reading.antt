@@ -1,47 +1,21 @@
--- What a read's answer makes of a text, by the tests on it; that a text goes on by it; that reading ends, and is whole where no read has
--- failed; and what was read then of an input. Assumes nothing.
+-- That a text goes on by what a read's answer makes of it; that reading ends, and is whole where no read has failed; and what was read then of
+-- an input. Assumes nothing.
 use mathlib.Core.Path.{◌≡◌, refl, sym, ◌∙◌, ap}
 use mathlib.Core.Logic.{◌⊎◌, inl, inr}
 use mathlib.Core.Bool.{Bool, true, false, cond}
 use mathlib.Core.List.{List}
-use Prim.Native.Nat.{ℕ, zero, suc, ◌+◌, ◌-◌, ◌≤◌, ◌<◌}
+use Prim.Native.Nat.{ℕ, zero, suc, ◌-◌, ◌≤◌, ◌<◌}
 use native.Mathlib.Omega.{arith}
-use lib.Dec.{T, ltb}
-use lib.IntN.{ℤ, pos, negsuc, nat_abs}
+use lib.Dec.{ltb}
 use lib.ListN.{length, take, length-take}
 use lib.Seq.{length-take-le}
-use lib.Signed.{lt_z, non_neg}
 use borrow.Author.Tests.{ltb-true, ltb-false, lt-ltb, le-ltb}
+use Rattle.std.specs.Prelude.{Option, Some, None}
 use Rattle.laws.proofs.Bools.{and_parts, and_first}
 use Rattle.input.specs.declared.State.{State}
 use Rattle.input.specs.declared.State.TheVariants.{Open, Ended, Failed}
 use Rattle.input.specs.declared.Input.{Input}
 use Rattle.input.specs.Reading.{Moved, text_of, may_come, has_failed, is_open, after_read, InBounds, GoesOn, Whole, ReadFrom}
-
--- below 0
-pub read_failed : (bytes : List ℕ) (len : ℕ) (got : ℤ) → lt_z got (pos 0) ≡ true
-    → record { bytes = bytes; len = len; state = Failed } ≡ after_read bytes len got
-read_failed bytes len (pos k) e = absurd (omega (arith, ltb-true k 0 e))
-read_failed bytes len (negsuc k) e = refl
-
--- 0
-pub read_ended : (bytes : List ℕ) (len : ℕ) (got : ℤ) → lt_z got (pos 0) ≡ false → lt_z got (pos 1) ≡ true
-    → record { bytes = bytes; len = len; state = Ended } ≡ after_read bytes len got
-read_ended bytes len (pos zero) e f = refl
-read_ended bytes len (pos (suc k)) e f = absurd (omega (arith, ltb-true (suc k) 1 f))
-read_ended bytes len (negsuc k) e f = let z : ◌≡◌ {A = ℕ} 0 1 = cc in absurd (omega arith)
-
--- above 0
-pub read_came : (bytes : List ℕ) (len : ℕ) (got : ℤ) → lt_z got (pos 1) ≡ false
-    → record { bytes = bytes; len = len + nat_abs got; state = Open } ≡ after_read bytes len got
-read_came bytes len (pos zero) e = absurd (omega (arith, ltb-false 0 1 e))
-read_came bytes len (pos (suc k)) e = refl
-read_came bytes len (negsuc k) e = let z : ◌≡◌ {A = ℕ} 0 1 = cc in absurd (omega arith)
-
--- not below 0
-pub came_within : (room : ℕ) (got : ℤ) → lt_z got (pos 0) ≡ false → Moved room got → T (non_neg got) × (nat_abs got ≤ room)
-came_within room (pos k) e m = (tt, m)
-came_within room (negsuc k) e m = let z : ◌≡◌ {A = ℕ} 0 1 = cc in absurd (omega arith)
 
 -- whether there is more to read, by the tests on it
 pub room_full : (i : Input) → 16385 ≤ i.len → false ≡ is_open i
@@ -60,10 +34,10 @@ module _ (i : Input) (bytes : List ℕ) (b : InBounds i) (room : length bytes �
     come = λ e. let z : ◌≡◌ {A = ℕ} 0 1 = cc in absurd (omega arith);
   }
 
-  pub goes-on : (got : ℤ) → Moved (16385 - i.len) got → GoesOn i (after_read bytes i.len got)
-  goes-on (pos zero) m = stays Ended refl
-  goes-on (pos (suc n)) m = record { bounds = record { room = room; within = omega (arith, b.within, m) }; kept = kept; longer = omega arith; come = λ e. omega arith }
-  goes-on (negsuc n) m = stays Failed refl
+  pub goes-on : (got : Option ℕ) → Moved (16385 - i.len) got → GoesOn i (after_read bytes i.len got)
+  goes-on (Some zero) m = stays Ended refl
+  goes-on (Some (suc n)) m = record { bounds = record { room = room; within = omega (arith, b.within, m) }; kept = kept; longer = omega arith; come = λ e. omega arith }
+  goes-on None m = stays Failed refl
 
 -- how much may still come, and one for the end: less with every read
 abbrev pub left : Input → ℕ

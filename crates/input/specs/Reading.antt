@@ -1,5 +1,5 @@
 -- What was read of standard input.
-use Rattle.std.specs.Prelude.{◌≡◌, Bool, true, false, ◌&&◌, List, ℕ, zero, suc, ◌+◌, ◌≤◌, ◌<◌, ltb, ℤ, pos, negsuc, length, take, Result, Ok, Err}
+use Rattle.std.specs.Prelude.{◌≡◌, ⊤, Bool, true, false, ◌&&◌, List, ℕ, zero, suc, ◌+◌, ◌≤◌, ◌<◌, ltb, length, take, Option, Some, None, Result, Ok, Err}
 use Rattle.input.specs.declared.State.{State}
 use Rattle.input.specs.declared.State.TheVariants.{Open, Ended, Failed}
 use Rattle.input.specs.declared.Input.{Input}
@@ -8,21 +8,21 @@ use Rattle.input.specs.declared.Input.{Input}
 abbrev pub text_of : Input → List ℕ
 text_of i = take i.len i.bytes
 
--- A read's answer as a number: how many bytes have come, or -1 where it failed.
-abbrev pub moved : {E : Type 0} → Result ℕ E → ℤ
-moved (Ok n) = pos n
-moved (Err e) = negsuc 0
+-- A read's answer: how many bytes have come, or none where it failed.
+abbrev pub moved : {E : Type 0} → Result ℕ E → Option ℕ
+moved (Ok n) = Some n
+moved (Err e) = None
 
--- What a read that has room for n bytes may answer: -1, or how many bytes have come, at most n.
-abbrev pub Moved : ℕ → ℤ → Type 0
-Moved n (pos k) = k ≤ n
-Moved n (negsuc k) = k ≡ 0
+-- What a read that has room for n bytes may answer: a failure, or how many bytes have come, at most n.
+abbrev pub Moved : ℕ → Option ℕ → Type 0
+Moved n (Some k) = k ≤ n
+Moved n None = ⊤
 
--- What a read's answer makes of a text of so many bytes: -1 is a failure, 0 the input's end, any other how many bytes have come.
-abbrev pub after_read : List ℕ → ℕ → ℤ → Input
-after_read bytes len (negsuc k) = record { bytes = bytes; len = len; state = Failed }
-after_read bytes len (pos zero) = record { bytes = bytes; len = len; state = Ended }
-after_read bytes len (pos (suc k)) = record { bytes = bytes; len = len + suc k; state = Open }
+-- What a read's answer makes of a text of so many bytes: none is a failure, 0 the input's end, any other how many bytes have come.
+abbrev pub after_read : List ℕ → ℕ → Option ℕ → Input
+after_read bytes len None = record { bytes = bytes; len = len; state = Failed }
+after_read bytes len (Some zero) = record { bytes = bytes; len = len; state = Ended }
+after_read bytes len (Some (suc k)) = record { bytes = bytes; len = len + suc k; state = Open }
 
 -- Whether more may come.
 abbrev pub may_come : State → Bool

@@ -2,8 +2,8 @@
 // here alone: no program can make one up, so whoever has one has read it.
 #![tactic(auto)]
 
-ghost use Rattle.std.specs.Prelude.{◌≡◌, false, ◌-◌, ◌≤◌, IfOk};
-ghost use Rattle.input.specs.Reading.{moved, Moved, has_failed, is_open, after_read, InBounds, GoesOn, Whole};
+ghost use Rattle.std.specs.Prelude.{◌≡◌, false, ℕ, ◌-◌, ◌≤◌, IfOk};
+ghost use Rattle.input.specs.Reading.{text_of, moved, Moved, has_failed, is_open, after_read, InBounds, GoesOn, Whole};
 
 use std::io;
 use std::io::{Read, Stdin};
@@ -27,43 +27,29 @@ pub struct Input {
     state: State,
 }
 
-// A read's answer as a number: how many bytes have come, or -1 where it failed. A read has no room for more bytes than a sheet may have and one.
-fn moved_by(got: io::Result<usize>, room: usize) -> isize
-    requires room_bound { room ≤ 16385 }
-    requires within { IfOk got (λ n. n ≤ room) }
+// A read's answer: how many bytes have come, or nothing where it failed.
+fn moved_by(got: io::Result<usize>) -> Option<usize>
     ensures number { result ≡ moved got }
-    ensures moved { Moved room result }
+    ensures moved { (room : ℕ) → IfOk got (λ n. n ≤ room) → Moved room result }
 {
-    match got {
-        Ok(n) => n as isize,
-        Err(_) => -1,
-    }
+    got.ok()
 }
 
-// What a read's answer makes of a text of so many bytes: below 0 it failed, at 0 the input has ended, else so many bytes have come.
-fn after(bytes: [u8; MOST_READ], len: usize, got: isize) -> Input
+// What a read's answer makes of a text of so many bytes: a failure, the input's end where no byte has come, else so many bytes more.
+fn after(bytes: [u8; MOST_READ], len: usize, got: Option<usize>) -> Input
     requires len_bound { len ≤ 16385 }
     requires moved { Moved (16385 - len) got }
     ensures { result ≡ after_read bytes len got }
 {
-    if got < 0 {
-        return Input {
-            bytes: bytes,
-            len: len,
-            state: State::Failed,
-        };
-    }
-    if got < 1 {
-        return Input {
-            bytes: bytes,
-            len: len,
-            state: State::Ended,
-        };
-    }
+    let (state, come) = match got {
+        None => (State::Failed, 0),
+        Some(0) => (State::Ended, 0),
+        Some(n) => (State::Open, n),
+    };
     Input {
-        bytes: bytes,
-        len: len + got as usize,
-        state: State::Open,
+        bytes,
+        len: len + come,
+        state,
     }
 }
 
@@ -72,15 +58,7 @@ impl Input {
     fn open(self) -> bool
         ensures { result ≡ is_open self }
     {
-        if MOST_READ <= self.len {
-            return false;
-        }
-        let state = self.state;
-        match state {
-            State::Open => true,
-            State::Ended => false,
-            State::Failed => false,
-        }
+        matches!(self.state, State::Open) && self.len < MOST_READ
     }
 
     // One read more: what was read stays where it is, and what comes stands behind it. No contract says what a read gives, so nothing proves
@@ -92,10 +70,11 @@ impl Input {
         let mut bytes = self.bytes;
         let len = self.len;
         let got = stdin.read(&mut bytes[len..]);
-        after(bytes, len, moved_by(got, MOST_READ - len))
+        after(bytes, len, moved_by(got))
     }
 
     // Reads until the input has ended or there are more bytes than a sheet may have.
+    // Kept: the new form is no plainer: how far the text is read, and when it ends, is what each read says.
     pub fn read(stdin: Stdin) -> Input
         ensures { has_failed result.state ≡ false → Whole result }
     {
@@ -114,25 +93,13 @@ impl Input {
     pub fn failed(self) -> bool
         ensures { result ≡ has_failed self.state }
     {
-        let state = self.state;
-        match state {
-            State::Open => false,
-            State::Ended => false,
-            State::Failed => true,
-        }
+        matches!(self.state, State::Failed)
     }
 
-    // The bytes, of which the first so many were read.
-    pub fn bytes(self) -> [u8; MOST_READ]
-        ensures { result ≡ self.bytes }
+    // What was read.
+    pub fn text(&self) -> &[u8]
+        ensures { result.now ≡ text_of self.now }
     {
-        self.bytes
-    }
-
-    // How many bytes were read.
-    pub fn len(self) -> usize
-        ensures { result ≡ self.len }
-    {
-        self.len
+        &self.bytes[..self.len.min(MOST_READ)]
     }
 }

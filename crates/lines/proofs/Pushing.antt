@@ -3,12 +3,12 @@ use mathlib.Core.Path.{◌≡◌, refl, sym, ◌∙◌, ap}
 use mathlib.Core.List.{List, [], ◌∷◌, ◌++◌, append_assoc}
 use Prim.Native.Nat.{ℕ, zero, suc, ◌+◌, ◌-◌, ◌/◌, ◌%◌, ◌<◌, ◌≤◌}
 use native.Mathlib.Omega.{arith}
-use lib.ListN.{length, length-append, get_or, drop, drop_of_length-le}
+use lib.ListN.{length, length-append, length-drop, get_or, drop, drop_of_length-le}
 use Rattle.sheets.proofs.Numbers.{at_byte}
 use borrow.Author.Tests.{lt-ltb, le-ltb}
 use Rattle.laws.proofs.Buffers.{overwrite_more}
 use Rattle.sheets.specs.declared.Text.{Text}
-use Rattle.lines.specs.inner.Push.{pushed, push_all}
+use Rattle.lines.specs.inner.Push.{pushed, push_all, fields}
 use Rattle.sheets.specs.Print.{line_of, field}
 use Rattle.sheets.specs.Writing.{digits}
 
@@ -67,6 +67,25 @@ push_next t r bytes i h e = rw (at_byte bytes i h) (ap (λ (x : Text). push_all 
 pub push_none : (t : Text) (bytes : List ℕ) (i : ℕ) → length bytes ≤ i → t ≡ push_all t (drop i bytes)
 unfolding push_all
 push_none t bytes i h = rw (drop_of_length-le bytes h) refl
+
+-- a number before others, or the last
+fields_cons : (n end : ℕ) (rest : List ℕ) → (length rest ≡ 0 → end ≡ 10) → ((length rest ≡ 0 → ⊥) → end ≡ 32) → fields (n ∷ rest) ≡ field n end ++ fields rest
+unfolding fields
+fields_cons n end [] is other = rw (is refl) (sym (mathlib.Core.List.append-nil (field n 10)))
+fields_cons n end (m ∷ rest) is other = rw (other (λ e. omega (arith, e)))
+
+-- one number more of the rest, which is the last or not
+pub values_next : (t r : Text) (numbers : List ℕ) (i end : ℕ) → i < length numbers → (i + 1 ≡ length numbers → end ≡ 10) → ((i + 1 ≡ length numbers → ⊥) → end ≡ 32)
+    → r ≡ push_all t (field (get_or numbers i 0) end) → push_all r (fields (drop (i + 1) numbers)) ≡ push_all t (fields (drop i numbers))
+values_next t r numbers i end h is other e =
+    let rest = drop (i + 1) numbers in
+    let d = length-drop (i + 1) numbers in
+    rw (at_byte numbers i h, fields_cons (get_or numbers i 0) end rest (λ z. is (omega (arith, d, z))) (λ n. other (λ z. n (omega (arith, d, z)))))
+    (ap (λ (x : Text). push_all x (fields rest)) e ∙ sym (push_append t (field (get_or numbers i 0) end) (fields rest)))
+
+pub values_none : (t : Text) (numbers : List ℕ) (i : ℕ) → length numbers ≤ i → t ≡ push_all t (fields (drop i numbers))
+unfolding push_all fields
+values_none t numbers i h = rw (drop_of_length-le numbers h) refl
 
 -- a line of names
 pub whole_line : (e r : Text) (bytes : List ℕ) → length bytes ≤ 80 → e ≡ line_of [] → r ≡ push_all e bytes → r ≡ line_of bytes

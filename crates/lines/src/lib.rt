@@ -2,7 +2,7 @@
 #![tactic(auto)]
 
 ghost use Rattle.std.specs.Prelude.{◌≡◌, []};
-ghost use Rattle.lines.specs.inner.Push.{pushed, push_all};
+ghost use Rattle.lines.specs.inner.Push.{pushed, push_all, fields};
 ghost use Rattle.sheets.specs.Print.{field, line_of, record_names, record_values, answer_names, answer_values};
 ghost use Rattle.sheets.specs.Writing.{digits};
 
@@ -10,17 +10,15 @@ use sheets::Text;
 use terms::Record;
 
 // One byte more, if there is room.
-fn push(t: Text, byte: u8) -> Text
+// Kept: functions: Text is a type of crate sheets, so fmt::Write may not be given to it here, and a trait of our own is no plainer.
+fn push(mut t: Text, byte: u8) -> Text
     ensures { result ≡ pushed t byte }
 {
-    let at = t.len;
-    if 80 <= at {
-        return t;
+    if t.len < t.bytes.len() {
+        t.bytes[t.len] = byte;
+        t.len += 1;
     }
-    let mut next = t;
-    next.bytes[at] = byte;
-    next.len = at + 1;
-    next
+    t
 }
 
 // The digits of n, at most so many.
@@ -31,10 +29,10 @@ fn put_digits(t: Text, n: u32, most: usize) -> Text
         return t;
     }
     if n < 10 {
-        return push(t, (48 + n) as u8);
+        return push(t, b'0' + n as u8);
     }
     let rest = put_digits(t, n / 10, most - 1);
-    push(rest, (48 + n % 10) as u8)
+    push(rest, b'0' + (n % 10) as u8)
 }
 
 // A number and the byte behind it.
@@ -44,14 +42,13 @@ pub fn put_number(t: Text, n: u32, end: u8) -> Text
     push(put_digits(t, n, 10), end)
 }
 
+// These bytes more, as far as there is room.
 fn put_bytes(t: Text, bytes: &[u8]) -> Text
     ensures { result ≡ push_all t bytes.now }
 {
     let mut line = t;
-    let mut i = 0;
-    while i < bytes.len() {
-        line = push(line, bytes[i]);
-        i += 1;
+    for byte in bytes {
+        line = push(line, *byte);
     }
     line
 }
@@ -66,6 +63,22 @@ pub fn empty() -> Text
     }
 }
 
+// The line of some numbers: a space behind each but the last, and behind that the line's end.
+pub fn values(numbers: &[u32]) -> Text
+    ensures { result ≡ push_all (line_of []) (fields numbers.now) }
+{
+    let mut line = empty();
+    for (i, n) in numbers.iter().enumerate() {
+        let end = if i + 1 == numbers.len() {
+            sheets::NEWLINE
+        } else {
+            sheets::SPACE
+        };
+        line = put_number(line, *n, end);
+    }
+    line
+}
+
 // The line of the record's names.
 pub fn record_names() -> Text
     ensures { result ≡ line_of record_names }
@@ -77,12 +90,7 @@ pub fn record_names() -> Text
 pub fn record_values(r: Record) -> Text
     ensures { result ≡ line_of (record_values r) }
 {
-    let t1 = put_number(empty(), r.outcome, sheets::SPACE);
-    let t2 = put_number(t1, r.pieces, sheets::SPACE);
-    let t3 = put_number(t2, r.fresh, sheets::SPACE);
-    let t4 = put_number(t3, r.free, sheets::SPACE);
-    let t5 = put_number(t4, r.ties, sheets::SPACE);
-    put_number(t5, r.row, sheets::NEWLINE)
+    values(&[r.outcome, r.pieces, r.fresh, r.free, r.ties, r.row])
 }
 
 // The line of the answer table's names.
@@ -96,10 +104,12 @@ pub fn answer_names() -> Text
 pub fn answer_values(variable: u16, kind: u16, width: u16, fresh: u16, home: u16, high: u16) -> Text
     ensures { result ≡ line_of (answer_values variable kind width fresh home high) }
 {
-    let t1 = put_number(empty(), variable as u32, sheets::SPACE);
-    let t2 = put_number(t1, kind as u32, sheets::SPACE);
-    let t3 = put_number(t2, width as u32, sheets::SPACE);
-    let t4 = put_number(t3, fresh as u32, sheets::SPACE);
-    let t5 = put_number(t4, home as u32, sheets::SPACE);
-    put_number(t5, high as u32, sheets::NEWLINE)
+    values(&[
+        u32::from(variable),
+        u32::from(kind),
+        u32::from(width),
+        u32::from(fresh),
+        u32::from(home),
+        u32::from(high),
+    ])
 }

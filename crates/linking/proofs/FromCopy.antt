@@ -1,7 +1,7 @@
 -- The equations taken from a copy of an accepted table, from unlinked sources, are those of the table that count.
 use mathlib.Core.Path.{◌≡◌, sym, ◌∙◌, ap, subst}
 use mathlib.Core.List.{List}
-use Prim.Native.Nat.{ℕ, suc, ◌≤◌}
+use Prim.Native.Nat.{ℕ, suc}
 use native.Mathlib.Omega.{arith}
 use lib.ListN.{length, take, drop}
 use lib.Seq.{take_all}
@@ -10,7 +10,7 @@ use Rattle.terms.specs.Table.{rows_of, bits_of}
 use Rattle.terms.specs.Faults.{Accepted, first_fault}
 use Rattle.laws.specs.Lists.{count_up}
 use Rattle.laws.proofs.CountUp.{count_at, count-up}
-use Rattle.answers.specs.Pairs.{Pair, pairs_in, equation_pairs}
+use Rattle.answers.specs.Pairs.{pairs_in, equation_pairs}
 use Rattle.answers.specs.inner.Classes.{rep}
 use Rattle.answers.proofs.Agreement.{base}
 use Rattle.answers.proofs.Tables.{pairs_length}
@@ -18,7 +18,7 @@ use Rattle.classes.specs.inner.Links.{roots_of}
 use Rattle.classes.proofs.Links.{Canon}
 use Rattle.classes.proofs.Roots.{roots_settled}
 use Rattle.copies.specs.inner.Copies.{Copied}
-use Rattle.copies.proofs.Copying.{copy-count, copy_bits, copy_pairs}
+use Rattle.copies.proofs.Copying.{copy_bits, copy_pairs}
 use Rattle.taking.specs.inner.Equations.{Holding, EquationsTaken}
 use Rattle.linking.specs.inner.Classes.{unlinked}
 

@@ -11,10 +11,8 @@ use taking::Taken;
 pub fn unlink(links: &mut [u16])
     ensures { Unlinks links.old links.new }
 {
-    let mut i = 0;
-    while i < links.len() {
-        numbers::store(links, i, (i % 65536) as u16);
-        i += 1;
+    for (i, link) in links.iter_mut().enumerate() {
+        *link = (i % 65536) as u16;
     }
 }
 
@@ -22,10 +20,8 @@ pub fn unlink(links: &mut [u16])
 fn settle_ties(table: &[u16], row: usize, ties: usize, links: &mut [u16])
     ensures { SettlesTies table.now row ties links.old links.new }
 {
-    if table.len() / 4 <= row {
-        if 0 < ties {
-            classes::settle(links);
-        }
+    if table.len() / 4 <= row && 0 < ties {
+        classes::settle(links);
     }
 }
 
@@ -42,7 +38,7 @@ fn classes_with(
     ensures { ClassesWith table.now widths.now places.now (length short.old) (length form.old) links.old links.new result.row result.ties }
 {
     let len = copies::copy(table, short);
-    let lows = numbers::lesser(terms::MAX_ROWS + 1, places.len());
+    let lows = places.len().min(terms::MAX_ROWS + 1);
     let mut right = [0u16; 4096];
     unlink(links);
     let taken = taking::take_equations(
@@ -60,35 +56,22 @@ fn classes_with(
     taken
 }
 
-// The same for a table of at most 32 rows: its copy is short, since each of its numbers is set to 0 first.
-fn classes_few(
+// The same with a copy of room for so many numbers: each of them is set to 0 first, so a small table has a short copy.
+fn classes_in<const COPY: usize>(
     table: &[u16],
     widths: &[u16],
     places: &[u16],
     form: &mut [u16],
     links: &mut [u16],
 ) -> Taken
-    ensures { length table.now ≤ 128 → TableClasses table.now widths.now places.now (length form.old) links.old links.new result.row result.ties }
+    requires in_bounds { COPY ≤ 2048 }
+    ensures { ClassesWith table.now widths.now places.now COPY (length form.old) links.old links.new result.row result.ties }
 {
-    let mut short = [0u16; 128];
+    let mut short = [0u16; COPY];
     classes_with(table, widths, places, &mut short[..], form, links)
 }
 
-// The same for any table.
-fn classes_many(
-    table: &[u16],
-    widths: &[u16],
-    places: &[u16],
-    form: &mut [u16],
-    links: &mut [u16],
-) -> Taken
-    ensures { TableClasses table.now widths.now places.now (length form.old) links.old links.new result.row result.ties }
-{
-    let mut short = [0u16; 2048];
-    classes_with(table, widths, places, &mut short[..], form, links)
-}
-
-// The classes of a table's bits.
+// The classes of a table's bits: at most 32 rows have a copy of their own.
 pub fn table_classes(
     table: &[u16],
     widths: &[u16],
@@ -99,7 +82,8 @@ pub fn table_classes(
     ensures { TableClasses table.now widths.now places.now (length form.old) links.old links.new result.row result.ties }
 {
     if table.len() <= 128 {
-        return classes_few(table, widths, places, form, links);
+        classes_in::<128>(table, widths, places, form, links)
+    } else {
+        classes_in::<2048>(table, widths, places, form, links)
     }
-    classes_many(table, widths, places, form, links)
 }

@@ -13,16 +13,11 @@ use terms::Record;
 fn byte_of(fresh: &[u8], kind: u16, i: usize) -> u8
     ensures { result ≡ byte_in fresh.now kind i }
 {
-    if kind == 0 {
-        return 0;
+    match kind {
+        0 => 0,
+        1 => 1,
+        _ => fresh.get(i).copied().unwrap_or(0),
     }
-    if kind == 1 {
-        return 1;
-    }
-    if i < fresh.len() {
-        return fresh[i];
-    }
-    0
 }
 
 // Writes the bits of a row behind the bytes that are there, the fresh bits from a start on. How many bytes there are then.
@@ -30,14 +25,12 @@ fn put_bits(fresh: &[u8], start: u16, kind: u16, width: u16, out: &mut [u8], fro
     ensures { Behind (bytes_in fresh.now kind start width) from out.old result out.new }
 {
     let mut at = from;
-    let mut j: u16 = 0;
-    while j < width {
+    for j in 0..width {
         if out.len() <= at {
             return at;
         }
-        out[at] = byte_of(fresh, kind, numbers::wide(start) + numbers::wide(j));
+        out[at] = byte_of(fresh, kind, usize::from(start) + usize::from(j));
         at += 1;
-        j += 1;
     }
     at
 }
@@ -47,12 +40,10 @@ fn put_rows(answer: &[u16], fresh: &[u8], starts: &[u16], out: &mut [u8])
     ensures { WritesRows answer.now fresh.now starts.now out.old out.new }
 {
     let mut at = 0;
-    let mut i = 0;
-    while i < answer.len() / answers::ROW {
+    for i in 0..answer.len() / answers::ROW {
         let r = answer_table::row_at(answer, i);
-        let start = numbers::load(starts, numbers::wide(r.fresh));
+        let start = numbers::load(starts, usize::from(r.fresh));
         at = put_bits(fresh, start, r.kind, r.width, out, at);
-        i += 1;
     }
 }
 
@@ -66,16 +57,12 @@ pub fn fill(
 ) -> Record
     ensures { Fills answer.now found fresh.now starts.now pattern.old pattern.new result }
 {
-    let bits = numbers::wide(found.bits);
-    if fresh.len() != numbers::wide(found.free) {
+    if fresh.len() != usize::from(found.free) || !numbers::all_bits(fresh) {
         return records::refuse(34, 0);
     }
-    if !numbers::all_bits(fresh) {
-        return records::refuse(34, 0);
-    }
-    if pattern.len() < bits {
+    if pattern.len() < usize::from(found.bits) {
         return records::refuse(32, 0);
     }
     put_rows(answer, fresh, starts, pattern);
-    records::complete(0, bits as u32)
+    records::complete(0, u32::from(found.bits))
 }

@@ -13,12 +13,9 @@ use terms::Record;
 fn differ(a: &[u16], b: &[u16]) -> u16
     ensures { eqb result 0 ≡ agree a.now b.now }
 {
-    let n = numbers::lesser(a.len(), b.len());
     let mut bits: u16 = 0;
-    let mut i: usize = 0;
-    while i < n {
-        bits = bits | (b[i] ^ a[i]);
-        i += 1;
+    for i in 0..a.len().min(b.len()) {
+        bits |= b[i] ^ a[i];
     }
     bits
 }
@@ -37,18 +34,13 @@ fn is_not(
     ensures { bits * 6 ≤ length own.old → ComparesPlaced table.now widths.now places.now bits answer.now (length work.old) result }
 {
     let found = solver::solve_placed(table, widths, places, bits, work, own);
-    let outcome = found.outcome;
-    if outcome != 2 {
-        return true;
-    }
-    if answer.len() != (found.pieces as usize) * answers::ROW {
-        return true;
-    }
-    differ(answer, own) != 0
+    found.outcome != 2
+        || answer.len() != (found.pieces as usize) * answers::ROW
+        || differ(answer, own) != 0
 }
 
-// The same for a small table, of at most 128 variable bits: its answer is short, since each number is set to 0 first.
-fn is_not_few(
+// The same with room for so many numbers of the answer: each of them is set to 0 first, so a small table has a short one.
+fn is_not_in<const OWN: usize>(
     table: &[u16],
     widths: &[u16],
     places: &[u16],
@@ -56,28 +48,14 @@ fn is_not_few(
     answer: &[u16],
     work: &mut [u16],
 ) -> bool
-    ensures { bits ≤ 128 → ComparesPlaced table.now widths.now places.now bits answer.now (length work.old) result }
+    requires in_bounds { OWN ≤ 24576 }
+    ensures { bits * 6 ≤ OWN → ComparesPlaced table.now widths.now places.now bits answer.now (length work.old) result }
 {
-    let mut own = [0u16; 768];
+    let mut own = [0u16; OWN];
     is_not(table, widths, places, bits, answer, &mut own[..], work)
 }
 
-// The same for any table.
-fn is_not_many(
-    table: &[u16],
-    widths: &[u16],
-    places: &[u16],
-    bits: usize,
-    answer: &[u16],
-    work: &mut [u16],
-) -> bool
-    ensures { ComparesPlaced table.now widths.now places.now bits answer.now (length work.old) result }
-{
-    let mut own = [0u16; solver::ANSWER];
-    is_not(table, widths, places, bits, answer, &mut own[..], work)
-}
-
-// Whether an answer is another than the one solved from a table that was checked and placed.
+// Whether an answer is another than the one solved from a table that was checked and placed: one of at most 128 variable bits is small.
 fn is_other(
     table: &[u16],
     widths: &[u16],
@@ -89,9 +67,10 @@ fn is_other(
     ensures { ComparesPlaced table.now widths.now places.now bits answer.now (length work.old) result }
 {
     if bits <= 128 {
-        return is_not_few(table, widths, places, bits, answer, work);
+        is_not_in::<768>(table, widths, places, bits, answer, work)
+    } else {
+        is_not_in::<{ solver::ANSWER }>(table, widths, places, bits, answer, work)
     }
-    is_not_many(table, widths, places, bits, answer, work)
 }
 
 // The pattern that the answer solved from a table gives at fresh bits, as bytes 0 and 1, high bit first.
@@ -121,9 +100,9 @@ pub fn make_pattern(
     if !fine {
         return records::refuse(33, 0);
     }
-    let bits = numbers::wide(places[checker::BITS]);
+    let bits = usize::from(places[checker::BITS]);
     let other = is_other(table, &widths[..], &places[..], bits, answer, work);
-    numbers::clear(work);
+    work.fill(0);
     if other {
         return records::refuse(46, 0);
     }

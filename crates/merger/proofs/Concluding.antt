@@ -8,13 +8,13 @@ use native.Mathlib.Omega.{arith}
 use native.Mathlib.Numerals.{add-one}
 use lib.Dec.{eqb}
 use lib.ListN.{length, length-append}
-use borrow.Author.Tests.{eq-eqb, ne_eqb, eqb-false}
+use borrow.Author.Tests.{eq-eqb, eqb-false}
 use Rattle.terms.specs.declared.Record.{Record}
 use Rattle.terms.specs.declared.Row.{Row}
 use Rattle.terms.specs.Calls.{refusal, stop_at, fault_record}
 use Rattle.terms.specs.Faults.{is_accepted, first_fault}
 use Rattle.terms.specs.Table.{rows_of, count_kind, satisfies}
-use Rattle.laws.proofs.Bools.{cond_most, and_first, and_second}
+use Rattle.laws.proofs.Bools.{cond_most, and_first, and_second, or_first, or_second}
 use Rattle.laws.proofs.Numbers.{dec_eq}
 use Rattle.answers.specs.Answer.{variable_widths}
 use Rattle.windows.specs.Words.{words_bits, sixteens}
@@ -27,13 +27,13 @@ use Rattle.recordings.proofs.Counted.{numbered}
 use Rattle.recordings.proofs.Each.{Wide, EachPair, none, more, pairs_wide}
 use Rattle.recordings.proofs.Frames.{frames_number}
 use Rattle.merger.specs.declared.Pass.{Pass}
-use Rattle.merger.specs.inner.Passing.{Comparable, failing, Merges, stop_number, concluded}
+use Rattle.merger.specs.inner.Passing.{Comparable, failing, Merges, stops, concluded}
 use Rattle.merger.proofs.Stops.{not-wrong}
 
 -- ---- the stops, by their tests
 pick : (a b c d e f : Bool) (x : Record)
     → cond (a || b) (refusal 47 0) (cond c (refusal 47 0) (cond d (refusal 47 0) (cond (not e) (refusal 48 0) (cond (not f) (refusal 48 0) x))))
-    ≡ cond (eqb (cond {A = ℕ} a 47 (cond b 47 (cond c 47 (cond d 47 0)))) 0) (cond (e && f) x (refusal 48 0)) (refusal (cond a 47 (cond b 47 (cond c 47 (cond d 47 0)))) 0)
+    ≡ cond (a || (b || (c || d))) (refusal 47 0) (cond (e && f) x (refusal 48 0))
 pick true b c d e f x = refl
 pick false true c d e f x = refl
 pick false false true d e f x = refl
@@ -43,12 +43,11 @@ pick false false false false true false x = refl
 pick false false false false true true x = refl
 
 -- no test was met
-unmet : (a b c d : Bool) → 0 ≡ cond {A = ℕ} a 47 (cond b 47 (cond c 47 (cond d 47 0))) → (a ≡ false) × (b ≡ false) × (c ≡ false) × (d ≡ false)
-unmet true b c d h = absurd (omega arith)
-unmet false true c d h = absurd (omega arith)
-unmet false false true d h = absurd (omega arith)
-unmet false false false true h = absurd (omega arith)
-unmet false false false false h = (refl, refl, refl, refl)
+unmet : (a b c d : Bool) → a || (b || (c || d)) ≡ false → (a ≡ false) × (b ≡ false) × (c ≡ false) × (d ≡ false)
+unmet a b c d h =
+    let t = or_second a (b || (c || d)) h in
+    let u = or_second b (c || d) t in
+    (or_first a (b || (c || d)) h, or_first b (c || d) t, or_first c d u, or_second c d u)
 
 -- What is known where the call does not stop.
 pub record Unstopped (n : ℕ) (sent received : List ℕ) : Type 0 where
@@ -57,8 +56,8 @@ pub record Unstopped (n : ℕ) (sent received : List ℕ) : Type 0 where
   pub sent_good : Comparable (n / 2) sent
   pub received_good : Comparable (n / 2) received
 
-pub unstopped : (n : ℕ) (sent received : List ℕ) → 0 ≡ stop_number n sent received → Unstopped n sent received
-unfolding stop_number
+pub unstopped : (n : ℕ) (sent received : List ℕ) → stops n sent received ≡ false → Unstopped n sent received
+unfolding stops
 unstopped n sent received h =
     let u = unmet (eqb n 0) (eqb (n % 2) 1) (wrong_recording (n / 2) sent) (wrong_recording (n / 2) received) h in
     let s = not-wrong (n / 2) sent u.2 in
@@ -102,11 +101,11 @@ module _ (table sent received : List ℕ) (good : is_accepted (first_fault table
   abbrev rise : Bool
   rise = rising (frames_of (n / 2) sent) && rising (frames_of (n / 2) received)
 
-  told : recordings_record table sent received ≡ cond (eqb (stop_number n sent received) 0) (cond rise accepted (refusal 48 0)) (refusal (stop_number n sent received) 0)
-  unfolding recordings_record stop_at stop_number words_of not_rising
+  told : recordings_record table sent received ≡ cond (stops n sent received) (refusal 47 0) (cond rise accepted (refusal 48 0))
+  unfolding recordings_record stop_at stops words_of not_rising
   told = go (dec_eq n 0)
     where
-      go : (n ≡ 0) ⊎ (n ≢ 0) → recordings_record table sent received ≡ cond (eqb (stop_number n sent received) 0) (cond rise accepted (refusal 48 0)) (refusal (stop_number n sent received) 0)
+      go : (n ≡ 0) ⊎ (n ≢ 0) → recordings_record table sent received ≡ cond (stops n sent received) (refusal 47 0) (cond rise accepted (refusal 48 0))
       go (inl z) = rw (good, rule_none (rows_of table) (sym z ∙ is), eq-eqb n 0 z) refl
       go (inr some) =
           let w = window_there (rows_of table) n is some in
@@ -114,15 +113,15 @@ module _ (table sent received : List ℕ) (good : is_accepted (first_fault table
           (pick (eqb n 0) (eqb (n % 2) 1) (wrong_recording (n / 2) sent) (wrong_recording (n / 2) received) (rising (frames_of (n / 2) sent)) (rising (frames_of (n / 2) received)) accepted)
 
   -- a stop
-  pub stopped_at : (stop : ℕ) → stop ≡ stop_number n sent received → stop ≢ 0 → (r : Record) → r ≡ refusal stop 0 → r ≡ recordings_record table sent received
-  stopped_at stop e some r is-r = is-r ∙ sym (told ∙ rw (← e, ne_eqb stop 0 some))
+  pub stopped_at : stops n sent received ≡ true → (r : Record) → r ≡ refusal 47 0 → r ≡ recordings_record table sent received
+  stopped_at h r is-r = is-r ∙ sym (told ∙ rw h)
 
   -- a counter that is not above the one before it
-  pub stopped_falls : 0 ≡ stop_number n sent received → rise ≡ false → (r : Record) → r ≡ refusal 48 0 → r ≡ recordings_record table sent received
-  stopped_falls u f r is-r = is-r ∙ sym (told ∙ rw (← u, f))
+  pub stopped_falls : stops n sent received ≡ false → rise ≡ false → (r : Record) → r ≡ refusal 48 0 → r ≡ recordings_record table sent received
+  stopped_falls u f r is-r = is-r ∙ sym (told ∙ rw (u, f))
 
   -- ---- a whole pass
-  module _ (u : 0 ≡ stop_number n sent received) (up : rise ≡ true) (plan : List ℕ) where
+  module _ (u : stops n sent received ≡ false) (up : rise ≡ true) (plan : List ℕ) where
     abbrev ms : List Match
     ms = matched (frames_of (n / 2) sent) (frames_of (n / 2) received)
 
@@ -163,5 +162,5 @@ module _ (table sent received : List ℕ) (good : is_accepted (first_fault table
             let left : length sent / (n / 2 + 1) + length received / (n / 2 + 1) - 2 * s.pairs
             ≡ length (alone (frames_of (n / 2) sent) (frames_of (n / 2) received)) + length (alone (frames_of (n / 2) received) (frames_of (n / 2) sent)) =
             omega (arith, counts.0, counts.1, found.pairs_are) in
-            let accepts : recordings_record table sent received ≡ accepted = told ∙ rw (← u, up) in
+            let accepts : recordings_record table sent received ≡ accepted = told ∙ rw (u, up) in
             e ∙ rw (left, found.pairs_are, found.broken_are, found.first_is, found.ties_are, same_pairs) (sym accepts)

@@ -5,6 +5,7 @@ use mathlib.Core.Bool.{Bool, true, false, ◌&&◌, cond, and-false}
 use mathlib.Core.List.{List, [], ◌∷◌, ◌++◌}
 use mathlib.Core.Logic.{◌⊎◌, inl, inr}
 use Prim.Native.Nat.{ℕ, ◌+◌, ◌-◌, ◌*◌, ◌<◌, ◌≤◌}
+use Rattle.std.specs.Prelude.{Option}
 use native.Mathlib.Omega.{arith}
 use lib.Dec.{eqb}
 use lib.ListN.{length, get_or, take, drop, length-drop}
@@ -18,7 +19,7 @@ use Rattle.recordings.proofs.Merging.{received_lower, sent_lower, pair_of, both_
 use Rattle.recordings.proofs.Rising.{rising_parts, above-all}
 use Rattle.recordings.proofs.Differing.{words_most, one_most}
 use Rattle.merger.specs.declared.Pass.{Pass}
-use Rattle.merger.specs.inner.Passing.{pair_taken, words_at, pair_at, moved_to, climbs_at, Tested, Rise, Falls, left_of, Passed, Stands, Sought, Stepping, Comparable, failing, Merges, Merged}
+use Rattle.merger.specs.inner.Passing.{pair_taken, words_at, pair_at, moved_to, climbs_at, Tested, Rise, Falls, left_of, Passed, Stands, Sought, Seeks, Stepping, Comparable, failing, Merges, Merged}
 use Rattle.merger.proofs.Rests.{frame_at, rest_room, rest_whole, rest_frames, rest_none, rise_falls, rise_goes, rise_last}
 
 -- What was found and what the pairs ms will give is what all pairs give.
@@ -176,26 +177,17 @@ module _ (k : ℕ) (sent received : List ℕ) (s : Pass) (i j a b : ℕ) (g : Se
     sent_passed : Tested k sent (i + (k + 1)) → Passed k sent received s (moved_to s (i + (k + 1)) j)
     sent_passed x = record { sent_tested = x; received_tested = g.passed.received_tested; same_found = refl; same_left = sent_same }
 
-    pub sent_ends : s.fell ≡ false → length sent ≤ i + (k + 1) → (r : Pass) → r ≡ moved_to s (i + (k + 1)) j → Sought k sent received s r
-    sent_ends f e r is =
-        subst (λ (x : Pass). Sought k sent received s x) (sym is)
-        (record {
+    pub sent_ends : length sent ≤ i + (k + 1) → Sought k sent received s (moved_to s (i + (k + 1)) j)
+    sent_ends e =
+        record {
           on = omega (arith, g.on);
           received_on = g.received_on;
-          fell = λ t. absurd (not_both t f);
-          passed = λ z. sent_passed (tested_last k sent i g.passed.sent_tested g.sent_more e);
-          stands = λ z. inl e;
-        })
-
-    pub sent_falls : i + (k + 1) < length sent → get_or sent (i + (k + 1)) 0 ≤ a → (x r : Pass) → x ≡ moved_to s (i + (k + 1)) j → r.fell ≡ true → (r.i ≡ x.i) × (r.j ≡ x.j) → Sought k sent received s r
-    sent_falls m h x r is t e =
-        record {
-          on = omega (arith, g.on, e.0, ap (λ (y : Pass). y.i) is);
-          received_on = omega (arith, g.received_on, e.1, ap (λ (y : Pass). y.j) is);
-          fell = λ z. inl (falls_next k sent i g.passed.sent_tested g.sent_more m (omega (arith, g.sent_here)));
-          passed = λ z. absurd (not_both t z);
-          stands = λ z. absurd (not_both t z);
+          passed = sent_passed (tested_last k sent i g.passed.sent_tested g.sent_more e);
+          stands = inl e;
         }
+
+    pub sent_falls : i + (k + 1) < length sent → get_or sent (i + (k + 1)) 0 ≤ a → Falls k sent received
+    sent_falls m h = inl (falls_next k sent i g.passed.sent_tested g.sent_more m (omega (arith, g.sent_here)))
 
     pub sent_goes : i + (k + 1) < length sent → a < get_or sent (i + (k + 1)) 0 → Seeking k sent received s (i + (k + 1)) j (get_or sent (i + (k + 1)) 0) b
     sent_goes m h =
@@ -219,26 +211,17 @@ module _ (k : ℕ) (sent received : List ℕ) (s : Pass) (i j a b : ℕ) (g : Se
     received_passed : Tested k received (j + (k + 1)) → Passed k sent received s (moved_to s i (j + (k + 1)))
     received_passed y = record { sent_tested = g.passed.sent_tested; received_tested = y; same_found = refl; same_left = received_same }
 
-    pub received_ends : s.fell ≡ false → length received ≤ j + (k + 1) → (r : Pass) → r ≡ moved_to s i (j + (k + 1)) → Sought k sent received s r
-    received_ends f e r is =
-        subst (λ (x : Pass). Sought k sent received s x) (sym is)
-        (record {
+    pub received_ends : length received ≤ j + (k + 1) → Sought k sent received s (moved_to s i (j + (k + 1)))
+    received_ends e =
+        record {
           on = g.on;
           received_on = omega (arith, g.received_on);
-          fell = λ t. absurd (not_both t f);
-          passed = λ z. received_passed (tested_last k received j g.passed.received_tested g.received_more e);
-          stands = λ z. inr (inl e);
-        })
-
-    pub received_falls : j + (k + 1) < length received → get_or received (j + (k + 1)) 0 ≤ b → (x r : Pass) → x ≡ moved_to s i (j + (k + 1)) → r.fell ≡ true → (r.i ≡ x.i) × (r.j ≡ x.j) → Sought k sent received s r
-    received_falls m h x r is t e =
-        record {
-          on = omega (arith, g.on, e.0, ap (λ (y : Pass). y.i) is);
-          received_on = omega (arith, g.received_on, e.1, ap (λ (y : Pass). y.j) is);
-          fell = λ z. inr (falls_next k received j g.passed.received_tested g.received_more m (omega (arith, g.received_here)));
-          passed = λ z. absurd (not_both t z);
-          stands = λ z. absurd (not_both t z);
+          passed = received_passed (tested_last k received j g.passed.received_tested g.received_more e);
+          stands = inr (inl e);
         }
+
+    pub received_falls : j + (k + 1) < length received → get_or received (j + (k + 1)) 0 ≤ b → Falls k sent received
+    received_falls m h = inr (falls_next k received j g.passed.received_tested g.received_more m (omega (arith, g.received_here)))
 
     pub received_goes : j + (k + 1) < length received → b < get_or received (j + (k + 1)) 0 → Seeking k sent received s i (j + (k + 1)) a (get_or received (j + (k + 1)) 0)
     received_goes m h =
@@ -253,16 +236,14 @@ module _ (k : ℕ) (sent received : List ℕ) (s : Pass) (i j a b : ℕ) (g : Se
         }
 
   -- the two are a pair
-  pub pair_stands : s.fell ≡ false → a ≡ b → (r : Pass) → r ≡ moved_to s i j → Sought k sent received s r
-  pair_stands f e r is =
-      subst (λ (x : Pass). Sought k sent received s x) (sym is)
-      (record {
+  pub pair_stands : a ≡ b → Sought k sent received s (moved_to s i j)
+  pair_stands e =
+      record {
         on = g.on;
         received_on = g.received_on;
-        fell = λ t. absurd (not_both t f);
-        passed = λ z. g.passed;
-        stands = λ z. inr (inr (sym g.received_here ∙ sym e ∙ g.sent_here));
-      })
+        passed = g.passed;
+        stands = inr (inr (sym g.received_here ∙ sym e ∙ g.sent_here));
+      }
 
 -- where a search begins
 pub seeking_first : (k : ℕ) (sent received : List ℕ) (s : Pass) → Tested k sent s.i → Tested k received s.j → s.i < length sent → s.j < length received
@@ -271,10 +252,10 @@ seeking_first k sent received s x y li lj =
     record { passed = passed_none k sent received s x y; on = omega arith; received_on = omega arith; sent_more = li; received_more = lj; sent_here = refl; received_here = refl }
 
 -- or does not: one recording has ended
-pub sought_none : (k : ℕ) (sent received : List ℕ) (s : Pass) → Tested k sent s.i → Tested k received s.j → s.fell ≡ false → (length sent ≤ s.i) ⊎ (length received ≤ s.j)
+pub sought_none : (k : ℕ) (sent received : List ℕ) (s : Pass) → Tested k sent s.i → Tested k received s.j → (length sent ≤ s.i) ⊎ (length received ≤ s.j)
     → Sought k sent received s s
-sought_none k sent received s x y f e =
-    record { on = omega arith; received_on = omega arith; fell = λ t. absurd (not_both t f); passed = λ z. passed_none k sent received s x y; stands = λ z. end e }
+sought_none k sent received s x y e =
+    record { on = omega arith; received_on = omega arith; passed = passed_none k sent received s x y; stands = end e }
   where
     end : (length sent ≤ s.i) ⊎ (length received ≤ s.j) → Stands sent received s
     end (inl l) = inl l
@@ -307,10 +288,6 @@ module _ (k : ℕ) (sent received : List ℕ) (s : Pass) (st : Stepping k sent r
     taken_few =
         (omega (arith, taken_i, st.sent_short, rest_room k sent s.i st.sent_tested.whole st.sent_more), omega (arith, taken_j, st.received_short, rest_room k received s.j st.received_tested.whole st.received_more))
 
-    pub taken_rose : taken.fell ≡ false
-    unfolding pair_taken
-    taken_rose = ap (λ (x : Pass). x.fell) taken_is ∙ st.rose
-
     pub taken_sent : climbs_at sent taken.i (get_or sent s.i 0) ≡ true → Tested k sent taken.i
     taken_sent h = rw taken_i (climbs_tested k sent s.i st.sent_tested st.sent_more _ refl (rw taken_i at h))
 
@@ -318,27 +295,14 @@ module _ (k : ℕ) (sent received : List ℕ) (s : Pass) (st : Stepping k sent r
     taken_received h = rw taken_j (climbs_tested k received s.j st.received_tested st.received_more _ st.equal (rw taken_j at h))
 
     -- a counter that is not above that of the pair
-    falls_sought : (r : Pass) → r.fell ≡ true → (r.i ≡ taken.i) × (r.j ≡ taken.j) → Falls k sent received → Sought k sent received (pair_at plan k sent received s) r
-    falls_sought r t is f =
-        subst (λ (x : Pass). Sought k sent received x r) taken_is
-        (record {
-          on = omega (arith, is.0);
-          received_on = omega (arith, is.1);
-          fell = λ z. f;
-          passed = λ z. absurd (not_both t z);
-          stands = λ z. absurd (not_both t z);
-        })
+    pub sent_down : climbs_at sent taken.i (get_or sent s.i 0) ≡ false → Falls k sent received
+    sent_down h = inl (climbs_falls k sent s.i st.sent_tested st.sent_more _ refl (rw taken_i at h))
 
-    pub sent_down : climbs_at sent taken.i (get_or sent s.i 0) ≡ false → (r : Pass) → r.fell ≡ true → (r.i ≡ taken.i) × (r.j ≡ taken.j)
-        → Sought k sent received (pair_at plan k sent received s) r
-    sent_down h r t is = falls_sought r t is (inl (climbs_falls k sent s.i st.sent_tested st.sent_more _ refl (rw taken_i at h)))
+    pub received_down : climbs_at received taken.j (get_or sent s.i 0) ≡ false → Falls k sent received
+    received_down h = inr (climbs_falls k received s.j st.received_tested st.received_more _ st.equal (rw taken_j at h))
 
-    pub received_down : climbs_at received taken.j (get_or sent s.i 0) ≡ false → (r : Pass) → r.fell ≡ true → (r.i ≡ taken.i) × (r.j ≡ taken.j)
-        → Sought k sent received (pair_at plan k sent received s) r
-    received_down h r t is = falls_sought r t is (inr (climbs_falls k received s.j st.received_tested st.received_more _ st.equal (rw taken_j at h)))
-
-    pub taken_sought : (r : Pass) → Sought k sent received taken r → Sought k sent received (pair_at plan k sent received s) r
-    taken_sought r p = subst (λ (x : Pass). Sought k sent received x r) taken_is p
+    pub taken_sought : (r : Option Pass) → Seeks k sent received taken r → Seeks k sent received (pair_at plan k sent received s) r
+    taken_sought r p = subst (λ (x : Pass). Seeks k sent received x r) taken_is p
 
 -- ---- the pass
 module _ (plan : List ℕ) (k : ℕ) (sent received : List ℕ) where
@@ -353,15 +317,14 @@ module _ (plan : List ℕ) (k : ℕ) (sent received : List ℕ) where
     pub bits : s.ties ≤ 512 * s.pairs
     pub adds : Rise k sent received → Adds plan s (left_of k sent received s) all
 
-  -- A state of the pass: a counter fell, or what is known of it.
+  -- A state of the pass.
   pub record Reached (s : Pass) : Type 0 where
-    pub fell : s.fell ≡ true → Falls k sent received
-    pub going : s.fell ≡ false → Going s
-    pub stands : s.fell ≡ false → Stands sent received s
-    pub inside : s.fell ≡ false → (s.i ≤ length sent) × (s.j ≤ length received)
+    pub going : Going s
+    pub stands : Stands sent received s
+    pub inside : (s.i ≤ length sent) × (s.j ≤ length received)
 
   abbrev pub start : Pass
-  start = record { i = 0; j = 0; pairs = 0; broken = 0; first = 0; ties = 0; fell = false }
+  start = record { i = 0; j = 0; pairs = 0; broken = 0; first = 0; ties = 0 }
 
   pub going_first : Comparable k sent → Comparable k received → Going start
   going_first a b =
@@ -393,10 +356,9 @@ module _ (plan : List ℕ) (k : ℕ) (sent received : List ℕ) where
   pub reached : (s r : Pass) → Going s → Sought k sent received s r → Reached r
   reached s r g p =
       record {
-        fell = p.fell;
-        going = λ z. going_passed s r g p.on (p.passed z);
+        going = going_passed s r g p.on p.passed;
         stands = p.stands;
-        inside = λ z. ((p.passed z).sent_tested.inside, (p.passed z).received_tested.inside);
+        inside = (p.passed.sent_tested.inside, p.passed.received_tested.inside);
       }
 
   -- the end of one recording: no pair is left
@@ -423,25 +385,15 @@ module _ (plan : List ℕ) (k : ℕ) (sent received : List ℕ) where
   pub merged_last : (s : Pass) → Reached s → (length sent ≤ s.i) ⊎ (length received ≤ s.j) → Merged plan k sent received s
   merged_last s g e =
       record {
-        fell = g.fell;
-        sent_tested = λ z. (g.going z).sent_tested;
-        received_tested = λ z. (g.going z).received_tested;
-        found = λ z h. going_last h s (g.going z) e;
-      }
-
-  pub merged_fell : (s : Pass) → Reached s → s.fell ≡ true → Merged plan k sent received s
-  merged_fell s g t =
-      record {
-        fell = g.fell;
-        sent_tested = λ z. absurd (not_both t z);
-        received_tested = λ z. absurd (not_both t z);
-        found = λ z. absurd (not_both t z);
+        sent_tested = g.going.sent_tested;
+        received_tested = g.going.received_tested;
+        found = λ h. going_last h s g.going e;
       }
 
   -- a pair taken
-  module _ (one : 1 ≤ k) (most : k ≤ 32) (a : Comparable k sent) (b : Comparable k received) (s : Pass) (r₀ : Reached s) (rose : s.fell ≡ false) (li : s.i < length sent) (lj : s.j < length received) where
+  module _ (one : 1 ≤ k) (most : k ≤ 32) (a : Comparable k sent) (b : Comparable k received) (s : Pass) (r₀ : Reached s) (li : s.i < length sent) (lj : s.j < length received) where
     g : Going s
-    g = r₀.going rose
+    g = r₀.going
 
     at_pair : Stands sent received s → get_or received s.j 0 ≡ get_or sent s.i 0
     at_pair (inl l) = absurd (omega arith)
@@ -459,7 +411,6 @@ module _ (plan : List ℕ) (k : ℕ) (sent received : List ℕ) where
                 lost = g.lost;
                 bits = g.bits;
               };
-          rose = rose;
           few_words = most;
           sent_short = a.short;
           received_short = b.short;
@@ -467,7 +418,7 @@ module _ (plan : List ℕ) (k : ℕ) (sent received : List ℕ) where
           received_tested = g.received_tested;
           sent_more = li;
           received_more = lj;
-          equal = at_pair (r₀.stands rose);
+          equal = at_pair r₀.stands;
         }
 
     abbrev next : Pass
@@ -478,16 +429,16 @@ module _ (plan : List ℕ) (k : ℕ) (sent received : List ℕ) where
     unfolding pair_taken
     adds_next h =
         adds_pair plan s (pair_of (frame_at k sent s.i) (frame_at k received s.j)) (left_of k sent received next) all
-        (subst (λ (ms : List Match). Adds plan s ms all) (left_pair k sent received s g.sent_tested g.received_tested li lj plan h (at_pair (r₀.stands rose))) (g.adds h))
+        (subst (λ (ms : List Match). Adds plan s ms all) (left_pair k sent received s g.sent_tested g.received_tested li lj plan h (at_pair r₀.stands)) (g.adds h))
 
     module _ (r : Pass) (p : Sought k sent received (pair_at plan k sent received s) r) where
       wide : length (words_at k sent s.i) ≡ k
       wide = sent_wide k sent received s g.sent_tested g.received_tested li lj
 
-      going_next : r.fell ≡ false → Going r
+      going_next : Going r
       unfolding pair_taken
-      going_next z =
-          let q = p.passed z in
+      going_next =
+          let q = p.passed in
           let moved : Going (moved_to next r.i r.j) =
           record {
             sent_tested = q.sent_tested;
@@ -504,10 +455,9 @@ module _ (plan : List ℕ) (k : ℕ) (sent received : List ℕ) where
       pub reached_on : Reached r
       reached_on =
           record {
-            fell = p.fell;
             going = going_next;
             stands = p.stands;
-            inside = λ z. ((p.passed z).sent_tested.inside, (p.passed z).received_tested.inside);
+            inside = (p.passed.sent_tested.inside, p.passed.received_tested.inside);
           }
 
       pub less_left : (length sent - r.i) + (length received - r.j) < (length sent - s.i) + (length received - s.j)
@@ -526,8 +476,4 @@ module _ (k : ℕ) (sent received : List ℕ) where
   -- a pass over two recordings that rise has found all
   pub merged_found : (plan : List ℕ) (s : Pass) → Merged plan k sent received s → rising (frames_of k sent) && rising (frames_of k received) ≡ true
       → Merges plan (matched (frames_of k sent) (frames_of k received)) s
-  merged_found plan s m up = go s.fell refl
-    where
-      go : (b : Bool) → s.fell ≡ b → Merges plan (matched (frames_of k sent) (frames_of k received)) s
-      go true e = absurd (not_both up (sym (falls_both (m.fell e))))
-      go false e = m.found e (and_parts (rising (frames_of k sent)) (rising (frames_of k received)) up)
+  merged_found plan s m up = m.found (and_parts (rising (frames_of k sent)) (rising (frames_of k received)) up)

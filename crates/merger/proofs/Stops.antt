@@ -1,16 +1,17 @@
 -- Where the call stops, and what is known where it does not. Assumes nothing.
-use mathlib.Core.Path.{◌≡◌, sym}
+use mathlib.Core.Path.{◌≡◌, refl, sym}
 use mathlib.Core.Bool.{true, false, not, not-not}
 use mathlib.Core.List.{List}
 use mathlib.Core.Logic.{◌≢◌}
 use Prim.Native.Nat.{ℕ, suc, ◌+◌, ◌/◌, ◌%◌, ◌<◌, ◌≤◌}
+use native.Mathlib.Omega.{arith}
 use native.Mathlib.Numerals.{add-one}
 use lib.Dec.{eqb, ltb}
 use lib.ListN.{length}
 use borrow.Author.Tests.{eq-eqb, ne_eqb, lt-ltb, le-ltb, ltb-false, eqb-true, not-true, not-false}
 use Rattle.laws.proofs.Bools.{or_first, or_second}
 use Rattle.recordings.specs.Call.{wrong_recording}
-use Rattle.merger.specs.inner.Passing.{stop_number}
+use Rattle.merger.specs.inner.Passing.{stops}
 
 module _ (k : ℕ) (numbers : List ℕ) where
   pub too_long : 65535 < length numbers → false ≡ not (wrong_recording k numbers)
@@ -35,30 +36,28 @@ module _ (k : ℕ) (numbers : List ℕ) where
   pub wrong_there : not (wrong_recording k numbers) ≡ false → wrong_recording k numbers ≡ true
   wrong_there h = not-false (wrong_recording k numbers) h
 
--- ---- the number of a stop, for each way
+-- ---- whether a call stops, for each way
 module _ (n : ℕ) (sent received : List ℕ) where
-  abbrev Stop : ℕ → Type 0
-  Stop number = number ≡ stop_number n sent received
+  pub none_stops : n ≡ 0 → stops n sent received ≡ true
+  unfolding stops
+  none_stops z = rw (eq-eqb n 0 z)
 
-  pub no_variable : n ≡ 0 → Stop 47
-  unfolding stop_number
-  no_variable z = rw (eq-eqb n 0 z)
+  module _ (some : 1 ≤ n) where
+    some_is : eqb n 0 ≡ false
+    some_is = ne_eqb n 0 (λ z. omega arith)
 
-  module _ (some : n ≢ 0) where
-    pub odd_variables : n % 2 ≡ 1 → Stop 47
-    unfolding stop_number
-    odd_variables o = rw (ne_eqb n 0 some, eq-eqb (n % 2) 1 o)
+    pub odd_stops : n % 2 ≢ 0 → false ≡ not (stops n sent received)
+    unfolding stops
+    odd_stops o = let e : n % 2 ≡ 1 = omega arith in rw (some_is, eq-eqb (n % 2) 1 e)
 
-    module _ (even : n % 2 ≢ 1) where
-      pub sent_wrong : wrong_recording (n / 2) sent ≡ true → Stop 47
-      unfolding stop_number
-      sent_wrong w = rw (ne_eqb n 0 some, ne_eqb (n % 2) 1 even, w)
+    module _ (even : n % 2 ≡ 0) where
+      even_is : eqb (n % 2) 1 ≡ false
+      even_is = ne_eqb (n % 2) 1 (λ z. omega arith)
 
-      module _ (good : wrong_recording (n / 2) sent ≡ false) where
-        pub received_wrong : wrong_recording (n / 2) received ≡ true → Stop 47
-        unfolding stop_number
-        received_wrong w = rw (ne_eqb n 0 some, ne_eqb (n % 2) 1 even, good, w)
+      pub sent_stops : not (wrong_recording (n / 2) sent) ≡ false → false ≡ not (stops n sent received)
+      unfolding stops
+      sent_stops w = rw (some_is, even_is, wrong_there (n / 2) sent w)
 
-        pub no_stop : wrong_recording (n / 2) received ≡ false → Stop 0
-        unfolding stop_number
-        no_stop fine = rw (ne_eqb n 0 some, ne_eqb (n % 2) 1 even, good, fine)
+      pub received_tells : not (wrong_recording (n / 2) sent) ≡ true → not (wrong_recording (n / 2) received) ≡ not (stops n sent received)
+      unfolding stops
+      received_tells w = rw (some_is, even_is, wrong_whole (n / 2) sent w) refl

@@ -72,7 +72,7 @@ side_by_side window a b l =
 pub pair_made : (plan a b window : List ℕ) (counter : ℕ) (s : Pass) (meets : Bool) (broken first bits : ℕ)
     → window ≡ a ++ b → meets ≡ meets_plan plan window
     → bits ≡ differing_words a b → broken ≡ s.broken + cond meets 0 1 → first ≡ cond meets s.first (cond (eqb s.broken 0) counter s.first)
-    → record { i = s.i + (length a + 1); j = s.j + (length b + 1); pairs = s.pairs + 1; broken = broken; first = first; ties = s.ties + bits; fell = s.fell } ≡ pair_taken plan a b counter s
+    → record { i = s.i + (length a + 1); j = s.j + (length b + 1); pairs = s.pairs + 1; broken = broken; first = first; ties = s.ties + bits } ≡ pair_taken plan a b counter s
 unfolding pair_taken
 pair_made plan a b window counter s meets broken first bits laid m d n f =
     let met : meets ≡ meets_plan plan (a ++ b) = m ∙ ap (meets_plan plan) laid in

@@ -4,15 +4,17 @@
 // pairs leave.
 #![tactic(auto)]
 
-ghost use Rattle.std.specs.Prelude.{◌≡◌, true, false, not, ◌&&◌, cond, ◌++◌, ◌+◌, ◌≤◌, eqb, length};
+ghost use Rattle.std.specs.Prelude.{◌≡◌, not, ◌&&◌, cond, ◌++◌, ◌+◌, ◌≤◌, eqb, length};
 ghost use Rattle.std.specs.Int.Bits.{bit_xor};
 ghost use Rattle.std.specs.Int.Count.{ones};
+ghost use Rattle.records.specs.Refusals.{record_of};
 ghost use Rattle.terms.specs.Table.{rows_of, bits_of};
 ghost use Rattle.terms.specs.inner.Placed.{Placed};
 ghost use Rattle.recordings.specs.Recordings.{frames_of, matched, rising, differing_words};
 ghost use Rattle.recordings.specs.Call.{wrong_recording, recordings_record};
-ghost use Rattle.merger.specs.inner.Passing.{Countable, pair_taken, moved_to, climbs_at, Tested, Falls, Sought, Stepping, pair_at, Comparable, Merged, stop_number, concluded};
+ghost use Rattle.merger.specs.inner.Passing.{Countable, pair_taken, climbs_at, Tested, Seeks, Stepping, pair_at, Comparable, MergesAll, stops, concluded};
 
+use records::Refusal;
 use terms::Record;
 
 // How many numbers a recording has at most.
@@ -32,10 +34,8 @@ fn differing_words(sent: &[u16], received: &[u16]) -> u32
     ensures { result ≡ differing_words sent.now received.now }
 {
     let mut bits = 0;
-    let mut i = 0;
-    while i < sent.len() {
+    for i in 0..sent.len() {
         bits += differing(sent[i], received[i]);
-        i += 1;
     }
     bits
 }
@@ -47,16 +47,12 @@ fn lay(sent: &[u16], received: &[u16], window: &mut [u16])
     ensures { window.new ≡ sent.now ++ received.now }
 {
     let k = sent.len();
-    let mut i = 0;
-    while i < k {
-        window[i] = sent[i];
-        window[k + i] = received[i];
-        i += 1;
-    }
+    window[..k].copy_from_slice(sent);
+    window[k..].copy_from_slice(received);
 }
 
 // How far a pass has come in either recording, and what it has found: pairs, those that break the sheet and the counter of the first of these,
-// and the bits that differ; or that a counter is not above the one before it.
+// and the bits that differ.
 #[derive(Clone, Copy)]
 struct Pass {
     i: usize,
@@ -65,7 +61,6 @@ struct Pass {
     broken: u32,
     first: u32,
     ties: u32,
-    fell: bool,
 }
 
 // One more, if a pair breaks the sheet.
@@ -73,23 +68,18 @@ fn one_more(broken: u32, meets: bool) -> u32
     requires { broken ≤ 65535 }
     ensures { result ≡ broken + cond meets 0 1 }
 {
-    if meets {
-        return broken;
-    }
-    broken + 1
+    if meets { broken } else { broken + 1 }
 }
 
 // The counter of the first pair that breaks the sheet, after a pair.
 fn first_of(old: u32, broken: u32, counter: u16, meets: bool) -> u32
     ensures { result ≡ cond meets old (cond (eqb broken 0) counter old) }
 {
-    if meets {
-        return old;
+    if !meets && broken == 0 {
+        u32::from(counter)
+    } else {
+        old
     }
-    if broken == 0 {
-        return counter as u32;
-    }
-    old
 }
 
 // A pair: its words, its counter.
@@ -109,94 +99,58 @@ fn take_pair(
 {
     lay(sent, received, window);
     let meets = words::meets(plan, window);
-    let bits = differing_words(sent, received);
-    let i = s.i + (sent.len() + 1);
-    let j = s.j + (received.len() + 1);
-    let pairs = s.pairs + 1;
-    let broken = one_more(s.broken, meets);
-    let first = first_of(s.first, s.broken, counter, meets);
-    let ties = s.ties + bits;
+    let ties = s.ties + differing_words(sent, received);
     Pass {
-        i: i,
-        j: j,
-        pairs: pairs,
-        broken: broken,
-        first: first,
-        ties: ties,
-        fell: s.fell,
+        i: s.i + (sent.len() + 1),
+        j: s.j + (received.len() + 1),
+        pairs: s.pairs + 1,
+        broken: one_more(s.broken, meets),
+        first: first_of(s.first, s.broken, counter, meets),
+        ties,
     }
 }
 
-// A state with other offsets.
-fn moved(s: Pass, i: usize, j: usize) -> Pass
-    ensures { result ≡ moved_to s i j }
-{
-    Pass {
-        i: i,
-        j: j,
-        pairs: s.pairs,
-        broken: s.broken,
-        first: s.first,
-        ties: s.ties,
-        fell: s.fell,
-    }
-}
-
-// A state in which a counter is not above the one before it.
-fn fallen(mut s: Pass) -> Pass
-    ensures fell { result.fell ≡ true }
-    ensures stays { (result.i ≡ s.i) × (result.j ≡ s.j) }
-{
-    s.fell = true;
-    s
-}
-
-// Goes on to the next pair, past records that are in none; or to the end of one recording, or to a counter that is not above the one before it.
-fn seek(sent: &[u16], received: &[u16], k: usize, s: Pass) -> Pass
+// Goes on to the next pair, past records that are in none; or to the end of one recording. None: a counter is not above the one before it.
+fn seek(sent: &[u16], received: &[u16], k: usize, s: Pass) -> Option<Pass>
     requires k_bound { k ≤ 32 }
     requires sent_len_bound { length sent.now ≤ 65535 }
     requires received_len_bound { length received.now ≤ 65535 }
     requires tested { Tested k sent.now s.i }
     requires tested_2 { Tested k received.now s.j }
-    requires fell_value { s.fell ≡ false }
-    ensures { Sought k sent.now received.now s result }
+    ensures { Seeks k sent.now received.now s result }
 {
-    if sent.len() <= s.i {
-        return s;
-    }
-    if received.len() <= s.j {
-        return s;
+    if sent.len() <= s.i || received.len() <= s.j {
+        return Some(s);
     }
     let mut i = s.i;
     let mut j = s.j;
     let mut a = sent[i];
     let mut b = received[j];
+    // Kept: goes by two cursors, and which one moves is found on the way.
     while a != b {
-        let over_i = i + (k + 1);
-        let over_j = j + (k + 1);
         if a < b {
-            i = over_i;
+            i += k + 1;
             if sent.len() <= i {
-                return moved(s, i, j);
+                return Some(Pass { i, j, ..s });
             }
             let next = sent[i];
             if next <= a {
-                return fallen(moved(s, i, j));
+                return None;
             }
             a = next;
             continue;
         }
-        j = over_j;
+        j += k + 1;
         if received.len() <= j {
-            return moved(s, i, j);
+            return Some(Pass { i, j, ..s });
         }
         let next = received[j];
         if next <= b {
-            return fallen(moved(s, i, j));
+            return None;
         }
         b = next;
     }
-    moved(s, i, j)
+    Some(Pass { i, j, ..s })
 }
 
 // Whether the counter at an offset is above c, where there is one.
@@ -204,17 +158,21 @@ fn climbs(numbers: &[u16], i: usize, c: u16) -> bool
     requires { i ≤ 65535 }
     ensures { result ≡ climbs_at numbers.now i c }
 {
-    if numbers.len() <= i {
-        return true;
-    }
-    c < numbers[i]
+    numbers.len() <= i || c < numbers[i]
 }
 
 // Takes the pair at the offsets and goes on to the next.
-fn step(plan: &[u16], sent: &[u16], received: &[u16], k: usize, window: &mut [u16], s: Pass) -> Pass
+fn step(
+    plan: &[u16],
+    sent: &[u16],
+    received: &[u16],
+    k: usize,
+    window: &mut [u16],
+    s: Pass,
+) -> Option<Pass>
     requires stepping { Stepping k sent.now received.now s }
     requires window_len { length window.old ≡ k + k }
-    ensures { Sought k sent.now received.now (pair_at plan.now k sent.now received.now s) result }
+    ensures { Seeks k sent.now received.now (pair_at plan.now k sent.now received.now s) result }
 {
     let i = s.i;
     let j = s.j;
@@ -227,23 +185,20 @@ fn step(plan: &[u16], sent: &[u16], received: &[u16], k: usize, window: &mut [u1
         window,
         s,
     );
-    if !climbs(sent, taken.i, counter) {
-        return fallen(taken);
-    }
-    if !climbs(received, taken.j, counter) {
-        return fallen(taken);
+    if !climbs(sent, taken.i, counter) || !climbs(received, taken.j, counter) {
+        return None;
     }
     seek(sent, received, k, taken)
 }
 
-// The pass, to the end of one recording: what stands behind it in the other is in no pair. Or to a counter that is not above the one before it.
-fn merge(plan: &[u16], sent: &[u16], received: &[u16], k: usize, window: &mut [u16]) -> Pass
+// The pass, to the end of one recording: what stands behind it in the other is in no pair. None: a counter is not above the one before it.
+fn merge(plan: &[u16], sent: &[u16], received: &[u16], k: usize, window: &mut [u16]) -> Option<Pass>
     requires le_k { 1 ≤ k }
     requires k_bound { k ≤ 32 }
     requires window_len { length window.old ≡ k + k }
     requires comparable { Comparable k sent.now }
     requires comparable_2 { Comparable k received.now }
-    ensures { Merged plan.now k sent.now received.now result }
+    ensures { MergesAll plan.now k sent.now received.now result }
 {
     let start = Pass {
         i: 0,
@@ -252,19 +207,12 @@ fn merge(plan: &[u16], sent: &[u16], received: &[u16], k: usize, window: &mut [u
         broken: 0,
         first: 0,
         ties: 0,
-        fell: false,
     };
-    let mut s = seek(sent, received, k, start);
-    while s.i < sent.len() {
-        if received.len() <= s.j {
-            return s;
-        }
-        if s.fell {
-            return s;
-        }
-        s = step(plan, sent, received, k, window, s);
+    let mut s = seek(sent, received, k, start)?;
+    while s.i < sent.len() && s.j < received.len() {
+        s = step(plan, sent, received, k, window, s)?;
     }
-    s
+    Some(s)
 }
 
 // Whether the counters of a recording strictly rise, each above the one before it, where they do so up to an offset.
@@ -275,6 +223,7 @@ fn rises(numbers: &[u16], k: usize, from: usize) -> bool
     ensures { result ≡ rising (frames_of k numbers.now) }
 {
     let mut i = from;
+    // Kept: goes by records, of each of which it reads the counter and that of the next: no plainer by step_by or chunks.
     while i + (k + 1) < numbers.len() {
         if numbers[i + (k + 1)] <= numbers[i] {
             return false;
@@ -289,18 +238,11 @@ fn both_rise(s: Pass, sent: &[u16], received: &[u16], k: usize) -> bool
     requires k_bound { k ≤ 32 }
     requires sent_len_bound { length sent.now ≤ 65535 }
     requires received_len_bound { length received.now ≤ 65535 }
-    requires falls { s.fell ≡ true → Falls k sent.now received.now }
-    requires tested { s.fell ≡ false → Tested k sent.now s.i }
-    requires tested_2 { s.fell ≡ false → Tested k received.now s.j }
+    requires tested { Tested k sent.now s.i }
+    requires tested_2 { Tested k received.now s.j }
     ensures { result ≡ rising (frames_of k sent.now) && rising (frames_of k received.now) }
 {
-    if s.fell {
-        return false;
-    }
-    if !rises(sent, k, s.i) {
-        return false;
-    }
-    rises(received, k, s.j)
+    rises(sent, k, s.i) && rises(received, k, s.j)
 }
 
 // Whether a recording is not too long, and whole records of a counter and k words.
@@ -309,31 +251,16 @@ fn whole(numbers: &[u16], k: usize) -> bool
     requires k_bound { k ≤ 32 }
     ensures { result ≡ not (wrong_recording k numbers.now) }
 {
-    if MAX_RECORDING < numbers.len() {
-        return false;
-    }
-    numbers.len() % (k + 1) == 0
+    numbers.len() <= MAX_RECORDING && numbers.len() % (k + 1) == 0
 }
 
-// The number at which a call stops before its pass, 0 where it does not: n is the number of variables, 0 if one has not 16 bits.
-fn stop_of(n: usize, sent: &[u16], received: &[u16]) -> u32
-    requires { n ≤ 64 }
-    ensures { result ≡ stop_number n sent.now received.now }
+// Whether n variables of 16 bits are those of a pair, half of them for either side, and both recordings are whole records of so many words.
+fn fit(n: usize, sent: &[u16], received: &[u16]) -> bool
+    requires some { 1 ≤ n }
+    requires n_bound { n ≤ 64 }
+    ensures { result ≡ not (stops n sent.now received.now) }
 {
-    if n == 0 {
-        return 47;
-    }
-    if n % 2 == 1 {
-        return 47;
-    }
-    let k = n / 2;
-    if !whole(sent, k) {
-        return 47;
-    }
-    if !whole(received, k) {
-        return 47;
-    }
-    0
+    n % 2 == 0 && whole(sent, n / 2) && whole(received, n / 2)
 }
 
 // The record of a pass over two recordings of so many records: those in no pair are what the pairs leave.
@@ -349,14 +276,14 @@ fn conclude(sent: usize, received: usize, s: Pass) -> Record
     Record {
         outcome: 0,
         pieces: pairs,
-        fresh: fresh,
+        fresh,
         free: s.broken,
         ties: s.ties,
         row: s.first,
     }
 }
 
-// The record of two recordings and a table that was checked and placed.
+// The record of two recordings and a table that was checked and placed, or why the call stops.
 fn compare_in(
     table: &[u16],
     widths: &[u16],
@@ -364,37 +291,44 @@ fn compare_in(
     bits: usize,
     sent: &[u16],
     received: &[u16],
-) -> Record
+) -> Result<Record, Refusal>
     requires placed { Placed table.now widths.now places.now }
     requires bits_value { bits ≡ bits_of (rows_of table.now) }
-    ensures record { result ≡ recordings_record table.now sent.now received.now }
+    ensures record { record_of result ≡ recordings_record table.now sent.now received.now }
 {
-    let n = words::window_of(table);
-    let stop = stop_of(n, sent, received);
-    if stop != 0 {
-        return records::refuse(stop, 0);
+    let Some(n) = words::window_of(table) else {
+        return Err(Refusal::Recordings);
+    };
+    if !fit(n, sent, received) {
+        return Err(Refusal::Recordings);
     }
     let k = n / 2;
     let mut plan = [0u16; words::PLAN];
-    words::prepare(table, widths, places, bits, &mut plan[..]);
+    words::prepare(table, widths, places, bits, &mut plan);
     let mut window = [0u16; 64];
-    let found = merge(&plan[..], sent, received, k, &mut window[..n]);
+    let Some(found) = merge(&plan, sent, received, k, &mut window[..n]) else {
+        return Err(Refusal::Counters);
+    };
     if !both_rise(found, sent, received, k) {
-        return records::refuse(48, 0);
+        return Err(Refusal::Counters);
     }
-    conclude(sent.len() / (k + 1), received.len() / (k + 1), found)
+    Ok(conclude(sent.len() / (k + 1), received.len() / (k + 1), found))
 }
 
 // The same for any table.
-pub fn compare_recordings(table: &[u16], sent: &[u16], received: &[u16]) -> Record
-    ensures record { result ≡ recordings_record table.now sent.now received.now }
+fn try_compare(table: &[u16], sent: &[u16], received: &[u16]) -> Result<Record, Refusal>
+    ensures record { record_of result ≡ recordings_record table.now sent.now received.now }
 {
     let mut widths = [0u16; 512];
     let mut places = [0u16; 578];
-    let fault = checker::check_and_place(table, &mut widths[..], &mut places[..]);
-    if !records::accepted(fault) {
-        return records::fault_record(fault);
-    }
-    let bits = numbers::wide(places[checker::BITS]);
-    compare_in(table, &widths[..], &places[..], bits, sent, received)
+    checker::check_and_place(table, &mut widths, &mut places)?;
+    let bits = usize::from(places[checker::BITS]);
+    compare_in(table, &widths, &places, bits, sent, received)
+}
+
+// The record of two recordings, compared under a table.
+pub fn compare_recordings(table: &[u16], sent: &[u16], received: &[u16]) -> Record
+    ensures record { result ≡ recordings_record table.now sent.now received.now }
+{
+    try_compare(table, sent, received).unwrap_or_else(Refusal::record)
 }

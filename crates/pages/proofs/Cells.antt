@@ -59,9 +59,14 @@ filling_more n bytes (suc at) rest f h =
           ∙ f.left;
     })
 
-pub filling_done : (n : ℕ) (bytes : List ℕ) (at rest : ℕ) → Filling n bytes at rest → rest < 10 → set bytes at (48 + rest) ≡ cell (digits 10 n)
+filling_done : (n : ℕ) (bytes : List ℕ) (at rest : ℕ) → Filling n bytes at rest → rest < 10 → set bytes at (48 + rest) ≡ cell (digits 10 n)
 unfolding cell
 filling_done n bytes at rest f h =
     let w : digits 10 n ≡ (48 + rest) ∷ f.tail = sym f.left ∙ ap (λ (l : List ℕ). l ++ f.tail) (digits_one at rest h) in
     let k : 10 - length (digits 10 n) ≡ at = omega (arith, ap length w, f.long) in
     store_last at (48 + rest) bytes f.tail f.blank ∙ ap₂ (λ (m : ℕ) (l : List ℕ). replicate m 32 ++ l) (sym k) (sym w)
+
+pub filling_last : (n : ℕ) (bytes : List ℕ) (at rest : ℕ) → Filling n bytes at rest → rest / 10 ≡ 0 → set bytes at (48 + rest % 10) ≡ cell (digits 10 n)
+filling_last n bytes at rest f h =
+    let e : rest % 10 ≡ rest = omega arith in
+    rw e (filling_done n bytes at rest f (omega arith))

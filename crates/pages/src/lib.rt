@@ -28,14 +28,14 @@ fn number_cell(n: u32) -> [u8; COLUMN]
     ensures { result ≡ cell (digits 10 n) }
 {
     let mut bytes = [sheets::SPACE; COLUMN];
-    let mut at = 9;
     let mut rest = n;
-    while 10 <= rest {
-        bytes[at] = (48 + rest % 10) as u8;
+    for at in (0..COLUMN).rev() {
+        bytes[at] = b'0' + (rest % 10) as u8;
         rest = rest / 10;
-        at -= 1;
+        if rest == 0 {
+            break;
+        }
     }
-    bytes[at] = (48 + rest) as u8;
     bytes
 }
 
@@ -62,10 +62,10 @@ fn names_line() -> [u8; LINE]
     ensures { result ≡ names_line }
 {
     four_cells(
-        [32, 32, b'v', b'a', b'r', b'i', b'a', b'b', b'l', b'e'],
-        [32, 32, 32, 32, 32, 32, b'k', b'i', b'n', b'd'],
-        [32, 32, 32, 32, 32, b'w', b'i', b'd', b't', b'h'],
-        [32, 32, 32, 32, 32, b'f', b'r', b'e', b's', b'h'],
+        *b"  variable",
+        *b"      kind",
+        *b"     width",
+        *b"     fresh",
     )
 }
 
@@ -73,10 +73,10 @@ fn names_line() -> [u8; LINE]
 fn piece_line(row: AnswerRow) -> [u8; LINE]
     ensures { result ≡ piece_line row }
 {
-    let variable = number_cell(row.variable as u32);
-    let kind = number_cell(row.kind as u32);
-    let width = number_cell(row.width as u32);
-    let fresh = number_cell(row.fresh as u32);
+    let variable = number_cell(u32::from(row.variable));
+    let kind = number_cell(u32::from(row.kind));
+    let width = number_cell(u32::from(row.width));
+    let fresh = number_cell(u32::from(row.fresh));
     four_cells(variable, kind, width, fresh)
 }
 
@@ -100,25 +100,17 @@ fn blank_line() -> [u8; LINE]
 fn listed_count(found: Record, rows: usize) -> usize
     ensures { result ≡ listed_count found rows }
 {
-    let outcome = found.outcome;
-    let pieces = found.pieces as usize;
-    if outcome != SOLVED {
+    if found.outcome != SOLVED {
         return 1;
     }
-    if rows < pieces {
-        return rows;
-    }
-    pieces
+    (found.pieces as usize).min(rows)
 }
 
 // How many pages there are for so many lines.
 fn page_count(listed: usize) -> usize
     ensures { result ≡ pages_of listed }
 {
-    if listed == 0 {
-        return 1;
-    }
-    1 + (listed - 1) / ON_PAGE
+    1 + listed.saturating_sub(1) / ON_PAGE
 }
 
 // Line `line` of a page.
@@ -127,7 +119,6 @@ fn line_at(found: Record, answer: &[u16], number: usize, line: usize) -> [u8; LI
     ensures { result ≡ get_or (page_lines found answer.now number) line [] }
 {
     let listed = listed_count(found, answer.len() / answers::ROW);
-    let outcome = found.outcome;
     if page_count(listed) <= number {
         return blank_line();
     }
@@ -138,8 +129,8 @@ fn line_at(found: Record, answer: &[u16], number: usize, line: usize) -> [u8; LI
     if listed <= i {
         return blank_line();
     }
-    if outcome != SOLVED {
-        return outcome_line(outcome);
+    if found.outcome != SOLVED {
+        return outcome_line(found.outcome);
     }
     piece_line(answer_table::row_at(answer, i))
 }
@@ -152,11 +143,9 @@ fn put_lines(found: Record, answer: &[u16], number: usize, out: &mut [u8])
         return;
     }
     let mut at = 0;
-    let mut line = 0;
-    while line < LINES {
+    for line in 0..LINES {
         let bytes = line_at(found, answer, number, line);
         at = writer::put_bytes(&bytes[..], out, at);
-        line += 1;
     }
 }
 

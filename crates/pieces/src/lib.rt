@@ -14,41 +14,24 @@ pub const LENGTH: usize = 4;
 fn meet(p: Piece, q: Piece) -> bool
     ensures { result ≡ meets p q }
 {
-    let kind = p.kind;
-    if kind != q.kind {
-        return false;
-    }
-    if kind < 2 {
-        return true;
-    }
-    if p.variable != q.variable {
-        return false;
-    }
-    let low = numbers::wide(p.low);
-    if low == numbers::wide(q.high) + 1 {
-        return true;
-    }
-    false
+    p.kind == q.kind
+        && (p.kind < 2
+            || (p.variable == q.variable && usize::from(p.low) == usize::from(q.high) + 1))
 }
 
 // The one piece of two that meet.
 fn merge(p: Piece, q: Piece) -> Piece
     ensures { result ≡ merged_in p q }
 {
-    let kind = p.kind;
-    if kind < 2 {
-        return Piece {
-            kind: kind,
-            variable: p.variable,
-            high: numbers::plus(numbers::plus(p.high, q.high), 1),
-            low: q.low,
-        };
-    }
+    let high = if p.kind < 2 {
+        p.high.wrapping_add(q.high).wrapping_add(1)
+    } else {
+        p.high
+    };
     Piece {
-        kind: kind,
-        variable: p.variable,
-        high: p.high,
+        high,
         low: q.low,
+        ..p
     }
 }
 
@@ -57,12 +40,7 @@ pub fn piece_at(out: &[u16], i: usize) -> Piece
     ensures { result ≡ piece_at out.now i }
 {
     if out.len() / LENGTH <= i {
-        return Piece {
-            kind: 0,
-            variable: 0,
-            high: 0,
-            low: 0,
-        };
+        return Piece::default();
     }
     let from = i * LENGTH;
     Piece {
@@ -77,10 +55,9 @@ pub fn piece_at(out: &[u16], i: usize) -> Piece
 pub fn put_piece(out: &mut [u16], i: usize, p: Piece)
     ensures { out.new ≡ put_piece out.old i p }
 {
-    if out.len() / LENGTH <= i {
-        return;
+    if i < out.len() / LENGTH {
+        numbers::store_four(out, i * LENGTH, p.kind, p.variable, p.high, p.low);
     }
-    numbers::store_four(out, i * LENGTH, p.kind, p.variable, p.high, p.low);
 }
 
 // Appends a piece to the n pieces of a buffer; how many there are then.

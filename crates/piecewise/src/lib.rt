@@ -6,6 +6,7 @@ ghost use Rattle.std.specs.Prelude.{◌≡◌, ◌≤◌, suc, length};
 ghost use Rattle.answers.specs.Solve.{solve_record, answer_after, work_after};
 ghost use Rattle.solver.specs.inner.Call.{AnswersTable};
 
+use solver::Solving;
 use terms::Record;
 
 // The answer of an accepted table, from the classes of its bits.
@@ -22,7 +23,7 @@ fn answer_table(
 {
     let mut last = [0u16; 4098];
     let mut first = [0u16; 4098];
-    let taken = run_classes::take_copy(
+    let Some(taken) = run_classes::take_copy(
         table,
         widths,
         places,
@@ -30,10 +31,9 @@ fn answer_table(
         links,
         &mut last[..],
         &mut first[..],
-    );
-    if !taken.whole {
+    ) else {
         return solver::solve_placed(table, widths, places, bits, form, answer);
-    }
+    };
     run_answers::answer_taken(
         table,
         bits,
@@ -47,28 +47,30 @@ fn answer_table(
     )
 }
 
-// The answer of a table that was checked and placed.
-fn solve_placed(
-    table: &[u16],
-    widths: &[u16],
-    places: &[u16],
-    bits: usize,
-    form: &mut [u16],
-    answer: &mut [u16],
-) -> Record
-    ensures { AnswersTable table.now widths.now places.now bits (length form.old) answer.old answer.new result }
-{
-    let mut links = [0u16; 4098];
-    let sources = numbers::lesser(bits, terms::MAX_BITS) + 2;
-    answer_table(
-        table,
-        widths,
-        places,
-        bits,
-        &mut links[..sources],
-        form,
-        answer,
-    )
+// The way of this crate: the classes of whole runs of bits.
+pub struct InPieces;
+
+impl Solving for InPieces {
+    fn answer(
+        table: &[u16],
+        widths: &[u16],
+        places: &[u16],
+        bits: usize,
+        form: &mut [u16],
+        answer: &mut [u16],
+    ) -> Record {
+        let mut links = [0u16; 4098];
+        let sources = bits.min(terms::MAX_BITS) + 2;
+        answer_table(
+            table,
+            widths,
+            places,
+            bits,
+            &mut links[..sources],
+            form,
+            answer,
+        )
+    }
 }
 
 // Solves a table: the record, for outcome 2 the answer table, and a work area that is 0 again.
@@ -77,20 +79,5 @@ pub fn solve(table: &[u16], answer: &mut [u16], work: &mut [u16]) -> Record
     ensures answer { answer.new ≡ answer_after table.now answer.old (length work.old) }
     ensures work { work.new ≡ work_after table.now (length answer.old) work.old }
 {
-    if answer.len() < solver::ANSWER {
-        return records::refuse(10, 0);
-    }
-    if work.len() < solver::MEMORY {
-        return records::refuse(10, 0);
-    }
-    let mut widths = [0u16; 512];
-    let mut places = [0u16; 578];
-    let fault = checker::check_and_place(table, &mut widths[..], &mut places[..]);
-    if !records::accepted(fault) {
-        return records::fault_record(fault);
-    }
-    let bits = numbers::wide(places[checker::BITS]);
-    let found = solve_placed(table, &widths[..], &places[..], bits, work, answer);
-    numbers::clear(work);
-    found
+    solver::solve_by::<InPieces>(table, answer, work)
 }

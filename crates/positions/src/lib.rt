@@ -3,6 +3,7 @@
 #![tactic(auto)]
 
 ghost use Rattle.std.specs.Prelude.{◌≡◌, cond, ◌+◌, ◌≤◌, ◌<◌, length, set};
+ghost use Rattle.records.specs.Refusals.{record_of};
 ghost use Rattle.terms.specs.Table.{rows_of, bits_of};
 ghost use Rattle.terms.specs.inner.Placed.{Placed};
 ghost use Rattle.laws.specs.Buffers.{overwrite};
@@ -10,6 +11,7 @@ ghost use Rattle.words.specs.inner.Plan.{meets_plan};
 ghost use Rattle.windows.specs.Call.{starts_from, positions_record, positions_after};
 ghost use Rattle.positions.specs.inner.Starts.{meets_ahead};
 
+use records::Refusal;
 use terms::Record;
 
 // How many words a run has at most.
@@ -27,7 +29,6 @@ fn take_start(plan: &[u16], window: &[u16], i: usize, found: usize, list: &mut [
     }
     if found < list.len() {
         list[found] = i as u32;
-        return found + 1;
     }
     found + 1
 }
@@ -39,17 +40,15 @@ fn find_starts(plan: &[u16], words: &[u16], k: usize, list: &mut [u32]) -> usize
     ensures count { (result ≡ length (starts_from (meets_ahead plan.now k) 0 words.now)) × (result ≤ 1048576) }
     ensures list { list.new ≡ overwrite (starts_from (meets_ahead plan.now k) 0 words.now) list.old }
 {
-    let starts = numbers::minus(words.len() + 1, k);
     let mut found = 0;
-    let mut i = 0;
-    while i < starts {
+    for i in 0..(words.len() + 1).saturating_sub(k) {
         found = take_start(plan, &words[i..i + k], i, found, list);
-        i += 1;
     }
     found
 }
 
-// The starts of a run at which its words meet a table that was checked and placed: how many, and in the list the first of them.
+// The starts of a run at which its words meet a table that was checked and placed: how many, and in the list the first of them; or why the
+// call stops.
 fn positions_in(
     table: &[u16],
     widths: &[u16],
@@ -57,36 +56,40 @@ fn positions_in(
     bits: usize,
     words: &[u16],
     list: &mut [u32],
-) -> Record
+) -> Result<Record, Refusal>
     requires placed { Placed table.now widths.now places.now }
     requires bits_value { bits ≡ bits_of (rows_of table.now) }
-    ensures record { result ≡ positions_record table.now words.now }
+    ensures record { record_of result ≡ positions_record table.now words.now }
     ensures list { list.new ≡ positions_after table.now words.now list.old }
 {
-    let k = words::window_of(table);
-    if k == 0 {
-        return records::refuse(41, 0);
-    }
+    let Some(k) = words::window_of(table) else {
+        return Err(Refusal::NotWords);
+    };
     if MAX_WORDS < words.len() {
-        return records::refuse(42, 0);
+        return Err(Refusal::LongRun);
     }
     let mut plan = [0u16; words::PLAN];
-    words::prepare(table, widths, places, bits, &mut plan[..]);
-    let found = find_starts(&plan[..], words, k, list);
-    records::complete(found as u32, 0)
+    words::prepare(table, widths, places, bits, &mut plan);
+    let found = find_starts(&plan, words, k, list);
+    Ok(records::complete(found as u32, 0))
 }
 
 // The same for any table.
-pub fn marker_positions(table: &[u16], words: &[u16], list: &mut [u32]) -> Record
-    ensures record { result ≡ positions_record table.now words.now }
+fn try_positions(table: &[u16], words: &[u16], list: &mut [u32]) -> Result<Record, Refusal>
+    ensures record { record_of result ≡ positions_record table.now words.now }
     ensures list { list.new ≡ positions_after table.now words.now list.old }
 {
     let mut widths = [0u16; 512];
     let mut places = [0u16; 578];
-    let fault = checker::check_and_place(table, &mut widths[..], &mut places[..]);
-    if !records::accepted(fault) {
-        return records::fault_record(fault);
-    }
-    let bits = numbers::wide(places[checker::BITS]);
-    positions_in(table, &widths[..], &places[..], bits, words, list)
+    checker::check_and_place(table, &mut widths, &mut places)?;
+    let bits = usize::from(places[checker::BITS]);
+    positions_in(table, &widths, &places, bits, words, list)
+}
+
+// The starts of a run at which its words meet a table: how many, and in the list the first of them.
+pub fn marker_positions(table: &[u16], words: &[u16], list: &mut [u32]) -> Record
+    ensures record { result ≡ positions_record table.now words.now }
+    ensures list { list.new ≡ positions_after table.now words.now list.old }
+{
+    try_positions(table, words, list).unwrap_or_else(Refusal::record)
 }

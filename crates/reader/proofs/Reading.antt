@@ -6,11 +6,12 @@ use Prim.Native.Nat.{ℕ, zero, suc, ◌+◌, ◌-◌, ◌<◌, ◌≤◌}
 use native.Mathlib.Omega.{arith}
 use lib.ListN.{length, length-append}
 use borrow.Author.Tests.{lt-ltb, le-ltb}
+use Rattle.std.specs.Prelude.{Ok, Err}
 use Rattle.terms.specs.declared.Row.{Row}
 use Rattle.laws.specs.Buffers.{overwrite}
 use Rattle.laws.proofs.Buffers.{overwrite-length}
 use Rattle.sheets.specs.declared.Order.{Order}
-use Rattle.sheets.specs.declared.Sheet.TheVariants.{TooMany, WrongLine, Rows}
+use Rattle.sheets.specs.declared.SheetError.TheVariants.{TooMany, WrongLine}
 use Rattle.sheets.specs.Text.{Values, NoLine, line_at}
 use Rattle.terms.specs.Table.{row_numbers}
 use Rattle.rows.specs.inner.Held.{put_row}
@@ -37,20 +38,20 @@ module _ (text : List ℕ) (order : Order) (start : ℕ) (base table : List ℕ)
   whole e = r.written ∙ ap (λ (l : List Row). overwrite (row_numbers l) base) (sym (append-nil r.rows) ∙ ap (λ (l : List Row). r.rows ++ l) (sym e) ∙ r.all)
 
   -- nothing is left
-  found_end : (n : ℕ) → length text ≤ at → (Rows k ≡ found_from n text order k at) × (rows_from n text order at ≡ [])
+  found_end : (n : ℕ) → length text ≤ at → (Ok k ≡ found_from n text order k at) × (rows_from n text order at ≡ [])
   unfolding found_from rows_from
   found_end zero l = (rw (le-ltb at (length text) l), refl)
   found_end (suc n) l = let e = le-ltb at (length text) l in (rw e, rw e)
 
-  pub reading_ends : length text ≤ at → (Rows k ≡ found_from 512 text order 0 start) × (table ≡ overwrite (row_numbers (rows_from 512 text order start)) base)
+  pub reading_ends : length text ≤ at → (Ok k ≡ found_from 512 text order 0 start) × (table ≡ overwrite (row_numbers (rows_from 512 text order start)) base)
   reading_ends l = let e = found_end (512 - k) l in (e.0 ∙ r.left, whole e.1)
 
   -- a line too many
-  pub reading_over : 512 ≤ k → at < length text → (TooMany ≡ found_from 512 text order 0 start) × (table ≡ overwrite (row_numbers (rows_from 512 text order start)) base)
+  pub reading_over : 512 ≤ k → at < length text → (Err TooMany ≡ found_from 512 text order 0 start) × (table ≡ overwrite (row_numbers (rows_from 512 text order start)) base)
   unfolding found_from rows_from
   reading_over h l =
       let z : 512 - k ≡ 0 = omega arith in
-      let f : TooMany ≡ found_from 0 text order k at = rw (lt-ltb at (length text) l) in
+      let f : Err TooMany ≡ found_from 0 text order k at = rw (lt-ltb at (length text) l) in
       (f ∙ ap (λ (n : ℕ). found_from n text order k at) (sym z) ∙ r.left, whole (ap (λ (n : ℕ). rows_from n text order at) z))
 
   module _ (h : k < 512) (l : at < length text) where
@@ -59,10 +60,10 @@ module _ (text : List ℕ) (order : Order) (start : ℕ) (base table : List ℕ)
 
     -- a wrong line
     pub reading_wrong : line_at text order at ≡ NoLine
-        → (WrongLine k ≡ found_from 512 text order 0 start) × (table ≡ overwrite (row_numbers (rows_from 512 text order start)) base)
+        → (Err (WrongLine k) ≡ found_from 512 text order 0 start) × (table ≡ overwrite (row_numbers (rows_from 512 text order start)) base)
     unfolding found_from rows_from
     reading_wrong e =
-        let f : WrongLine k ≡ found_from (suc (512 - (k + 1))) text order k at = rw (lt-ltb at (length text) l, e) in
+        let f : Err (WrongLine k) ≡ found_from (suc (512 - (k + 1))) text order k at = rw (lt-ltb at (length text) l, e) in
         let g : rows_from (suc (512 - (k + 1))) text order at ≡ [] = rw (lt-ltb at (length text) l, e) in
         (f ∙ ap (λ (n : ℕ). found_from n text order k at) (sym step) ∙ r.left, whole (ap (λ (n : ℕ). rows_from n text order at) step ∙ g))
 

@@ -1,98 +1,77 @@
 // The reader of a sheet (document 01, "Sheet and program"): a line of names, then the lines of values, read by a text cursor.
 #![tactic(auto)]
 
-ghost use Rattle.std.specs.Prelude.{◌≡◌, length};
+ghost use Rattle.std.specs.Prelude.{◌≡◌, length, Err};
 ghost use Rattle.laws.specs.Buffers.{overwrite};
+ghost use Rattle.terms.specs.Calls.{refusal};
 ghost use Rattle.terms.specs.Table.{row_numbers};
 ghost use Rattle.rows.specs.inner.Held.{put_row};
 ghost use Rattle.sheets.specs.Sheet.{found_from, rows_from, sheet_found, sheet_rows};
-ghost use Rattle.sheets.specs.Call.{sheet_number, sheet_row, row_count, sheet_record, table_after};
+ghost use Rattle.sheets.specs.Call.{sheet_number, sheet_row, sheet_record, table_after};
 
-use cursor::{Cursor, Line, Names};
-use sheets::{Order, Sheet};
+use cursor::Cursor;
+use sheets::{Order, SheetError};
 use terms::{Record, Row};
 
 // Writes row k of a table, as far as there is room.
+#[tactic(auto, unfolding(rows::specs::inner::Held::put_row))]
 fn put_row(table: &mut [u16], k: u16, row: Row)
     ensures { table.new ≡ put_row table.old k row }
 {
-    numbers::store_four(table, numbers::wide(k) * 4, row.kind, row.a, row.b, row.c);
+    numbers::store_four(table, usize::from(k) * 4, row.kind, row.a, row.b, row.c);
 }
 
-// The lines of values from a cursor on. Their rows are written to the beginning of a table.
-fn read_lines(text: &[u8], order: Order, start: Cursor, table: &mut [u16]) -> Sheet
+// The lines of values from a cursor on, and how many there are. Their rows are written to the beginning of a table.
+fn read_lines(
+    text: &[u8],
+    order: Order,
+    start: Cursor,
+    table: &mut [u16],
+) -> Result<u16, SheetError>
     ensures found { result ≡ found_from 512 text.now order 0 start.at }
     ensures rows { table.new ≡ overwrite (row_numbers (rows_from 512 text.now order start.at)) table.old }
 {
     let mut cursor = start;
-    let mut k: u16 = 0;
-    while k < 512 {
+    for k in 0..512u16 {
         if cursor.ended(text) {
-            return Sheet::Rows(k);
+            return Ok(k);
         }
-        let Line::Values(row, next) = cursor.line(text, order) else {
-            return Sheet::WrongLine(k);
+        let Some((row, next)) = cursor.line(text, order) else {
+            return Err(SheetError::WrongLine(k));
         };
         put_row(table, k, row);
         cursor = next;
-        k += 1;
     }
     if cursor.ended(text) {
-        return Sheet::Rows(k);
+        Ok(512)
+    } else {
+        Err(SheetError::TooMany)
     }
-    Sheet::TooMany
 }
 
-// The rows of a sheet, written to the beginning of a table.
-fn read_rows(text: &[u8], table: &mut [u16]) -> Sheet
+// The rows of a sheet, written to the beginning of a table, and how many there are.
+#[tactic(auto, unfolding(sheets::specs::Sheet::sheet_found, sheets::specs::Sheet::sheet_rows, laws::specs::Buffers::overwrite, terms::specs::Table::row_numbers))]
+fn read_rows(text: &[u8], table: &mut [u16]) -> Result<u16, SheetError>
     ensures found { result ≡ sheet_found text.now }
     ensures rows { table.new ≡ overwrite (row_numbers (sheet_rows text.now)) table.old }
 {
     if 16384 < text.len() {
-        return Sheet::TooLong;
+        return Err(SheetError::TooLong);
     }
     let start = Cursor { at: 0 };
-    let Names::InOrder(order, behind) = start.names(text) else {
-        return Sheet::WrongNames;
-    };
+    let (order, behind) = start.names(text).ok_or(SheetError::WrongNames)?;
     read_lines(text, order, behind, table)
 }
 
-// Document 01's number of a refusal, 0 for rows read, and its row.
-fn sheet_number(s: Sheet) -> u32
-    ensures { result ≡ sheet_number s }
+// The record of a refused sheet: document 01's number of the refusal, and its row.
+fn refused(error: SheetError) -> Record
+    ensures { result ≡ refusal (sheet_number (Err error)) (sheet_row (Err error)) }
 {
-    match s {
-        Sheet::TooLong => 20,
-        Sheet::WrongNames => 21,
-        Sheet::TooMany => 23,
-        Sheet::WrongLine(_) => 22,
-        Sheet::Rows(_) => 0,
-    }
-}
-
-fn sheet_row(s: Sheet) -> u32
-    ensures { result ≡ sheet_row s }
-{
-    match s {
-        Sheet::TooLong => 0,
-        Sheet::WrongNames => 0,
-        Sheet::TooMany => 512,
-        Sheet::WrongLine(k) => k as u32,
-        Sheet::Rows(_) => 0,
-    }
-}
-
-// How many rows were read.
-fn row_count(s: Sheet) -> u16
-    ensures { result ≡ row_count s }
-{
-    match s {
-        Sheet::TooLong => 0,
-        Sheet::WrongNames => 0,
-        Sheet::TooMany => 0,
-        Sheet::WrongLine(_) => 0,
-        Sheet::Rows(k) => k,
+    match error {
+        SheetError::TooLong => records::refuse(20, 0),
+        SheetError::WrongNames => records::refuse(21, 0),
+        SheetError::WrongLine(k) => records::refuse(22, u32::from(k)),
+        SheetError::TooMany => records::refuse(23, 512),
     }
 }
 
@@ -102,15 +81,13 @@ pub fn read_sheet(text: &[u8], table: &mut [u16]) -> Record
     ensures table { table.new ≡ table_after text.now table.old }
 {
     let mut rows = [0u16; 2048];
-    let found = read_rows(text, &mut rows[..]);
-    let number = sheet_number(found);
-    if number != 0 {
-        return records::refuse(number, sheet_row(found));
-    }
+    let count = match read_rows(text, &mut rows[..]) {
+        Ok(count) => count,
+        Err(error) => return refused(error),
+    };
     if table.len() < 2048 {
         return records::refuse(32, 0);
     }
-    let n = row_count(found);
-    numbers::copy(&rows[..], numbers::wide(n) * 4, table);
-    records::complete(n as u32, 0)
+    numbers::copy(&rows[..], usize::from(count) * 4, table);
+    records::complete(u32::from(count), 0)
 }

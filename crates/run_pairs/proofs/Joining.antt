@@ -1,7 +1,7 @@
 -- A run of roots linked to a run of lower ones: as many ties as sources, and the classes are those of the pairs taken one by one.
 use mathlib.Core.Path.{◌≡◌, refl, sym, ap, ap₂, ◌∙◌, subst}
 use mathlib.Core.Logic.{◌⊎◌, inl, inr, ◌≢◌}
-use mathlib.Core.Bool.{Bool, cond}
+use mathlib.Core.Bool.{cond}
 use mathlib.Core.List.{List, [], ◌∷◌, ◌++◌}
 use Prim.Native.Nat.{ℕ, zero, suc, ◌+◌, ◌-◌, ◌≤◌, ◌<◌, min, max}
 use native.Mathlib.Omega.{arith}
@@ -13,7 +13,7 @@ use Rattle.laws.proofs.Numbers.{lt_or_le, dec_eq}
 use Rattle.answers.specs.Pairs.{Pair}
 use Rattle.answers.specs.inner.Classes.{rep, relabel, merge, run, links}
 use Rattle.answers.proofs.Relabelling.{relabel_hit, relabel_miss}
-use Rattle.classes.specs.inner.Links.{Low, roots_of, pair}
+use Rattle.classes.specs.inner.Links.{pair}
 use Rattle.classes.proofs.Links.{Stands, merge_is, merge_same, join}
 use Rattle.slices.specs.Along.{along, run_pairs}
 use Rattle.slices.proofs.SideBySide.{along_fixed, along_place, along_more, along_none, pairs_more}

@@ -3,21 +3,21 @@ use mathlib.Core.Path.{◌≡◌, refl, sym, ap, ap₂, ◌∙◌, subst}
 use mathlib.Core.Logic.{◌⊎◌, inl, inr, ◌≢◌}
 use mathlib.Core.Bool.{Bool, true, false, cond}
 use mathlib.Core.List.{List}
-use Prim.Native.Nat.{ℕ, zero, suc, ◌+◌, ◌-◌, ◌%◌, ◌≤◌, ◌<◌, min, max}
+use Prim.Native.Nat.{ℕ, suc, ◌+◌, ◌-◌, ◌%◌, ◌≤◌, ◌<◌, min, max}
 use native.Mathlib.Omega.{arith}
 use lib.Dec.{eqb, ltb}
 use lib.ListN.{length, get_or}
 use borrow.Author.Tests.{lt-ltb, le-ltb, eqb-true}
 use Rattle.laws.proofs.Numbers.{lt_or_le}
-use Rattle.answers.specs.inner.Classes.{rep, run, links}
-use Rattle.classes.specs.inner.Links.{Low, roots_of, linked}
+use Rattle.answers.specs.inner.Classes.{rep, run}
+use Rattle.classes.specs.inner.Links.{roots_of}
 use Rattle.classes.proofs.Links.{Stands, linked_conflict}
 use Rattle.classes.proofs.Roots.{stands_roots, roots_are}
 use Rattle.slices.specs.Along.{along, run_pairs}
 use Rattle.slices.proofs.SideBySide.{along_fixed, along_place, along_none}
 use Rattle.runs.specs.inner.Runs.{Runs, Carved}
 use Rattle.runs.specs.inner.Carves.{Carves}
-use Rattle.runs.specs.inner.Finds.{Stop, whole, ends as run_end, RunFound, FindsRun}
+use Rattle.runs.specs.inner.Finds.{Stop, whole, ends as run_end, RunFound}
 use Rattle.run_pairs.specs.inner.Taken.{State, Same, Shortens, Alike, Left, taken_all, at_end, at_own, RunTaken, TakesRun}
 use Rattle.runs.proofs.Carving.{carved_runs}
 use Rattle.runs.proofs.Finding.{side_all}

@@ -3,19 +3,15 @@
 #![tactic(auto)]
 
 ghost use Rattle.std.specs.Prelude.{◌≡◌, true, cond, ◌-◌, min, ltb};
+ghost use Rattle.classes.specs.inner.Links.{number_of};
 ghost use Rattle.run_pairs.specs.inner.Taken.{Shortens, Alike, TakesRun};
 
-// What pairs say: nothing new, that each is a tie, or that two different fixed bits meet.
-const NOTHING: u16 = 0;
+use classes::Pairing;
 
-pub const TIE: u16 = 1;
-
-pub const CONFLICT: u16 = 2;
-
-// What pairs from one on say, for how many of them, and how many links were followed.
+// What pairs from one on say: nothing new, that each is a tie, or that two different fixed bits meet; for how many of them, and how many links were followed.
 #[derive(Clone, Copy)]
 pub struct Step {
-    pub what: u16,
+    pub what: Pairing,
     pub len: u16,
     pub hops: u16,
 }
@@ -33,13 +29,10 @@ fn shorten(
 )
     ensures { Shortens x count root links.old last.old first.old links.new last.new first.new }
 {
-    if hops < 2 {
+    if hops < 2 || x <= root {
         return;
     }
-    if x <= root {
-        return;
-    }
-    let len = numbers::lower(count, runs::rest(last, x));
+    let len = count.min(runs::rest(last, x));
     runs::carve(links, last, first, x, len, root);
 }
 
@@ -48,9 +41,10 @@ fn apart(hi: u16, lo: u16, count: u16) -> u16
     ensures { result ≡ cond (ltb lo 2) count (min count (hi - lo)) }
 {
     if lo < 2 {
-        return count;
+        count
+    } else {
+        count.min(hi.saturating_sub(lo))
     }
-    numbers::lower(count, numbers::difference(hi, lo))
 }
 
 // Takes pairs from that of a and b on, by their roots.
@@ -62,27 +56,27 @@ fn take_roots(
     b: u16,
     count: u16,
 ) -> Step
-    ensures { TakesRun a b count links.old last.old first.old links.new last.new first.new result.what result.len }
+    ensures { TakesRun a b count links.old last.old first.old links.new last.new first.new (number_of result.what) result.len }
 {
     let f = runs::find(links, last, a, count);
     let g = runs::find(links, last, b, f.len);
-    let hi = numbers::higher(f.root, g.root);
-    let lo = numbers::lower(f.root, g.root);
-    let hops = numbers::plus(f.hops, g.hops);
+    let hi = f.root.max(g.root);
+    let lo = f.root.min(g.root);
+    let hops = f.hops.wrapping_add(g.hops);
     if lo == hi {
         shorten(links, last, first, a, g.len, lo, f.hops);
         shorten(links, last, first, b, g.len, lo, g.hops);
         return Step {
-            what: NOTHING,
+            what: Pairing::Nothing,
             len: g.len,
-            hops: hops,
+            hops,
         };
     }
     if hi == 1 {
         return Step {
-            what: CONFLICT,
+            what: Pairing::Conflict,
             len: g.len,
-            hops: hops,
+            hops,
         };
     }
     let tied = apart(hi, lo, g.len);
@@ -90,9 +84,9 @@ fn take_roots(
     shorten(links, last, first, a, tied, lo, f.hops);
     shorten(links, last, first, b, tied, lo, g.hops);
     Step {
-        what: TIE,
+        what: Pairing::Tie,
         len: tied,
-        hops: hops,
+        hops,
     }
 }
 
@@ -100,12 +94,7 @@ fn take_roots(
 fn alike(links: &[u16], a: u16, b: u16) -> bool
     ensures { result ≡ true → Alike links.now a b }
 {
-    if numbers::lower(a, b) < 2 {
-        return false;
-    }
-    let p = numbers::load(links, numbers::wide(a));
-    let q = numbers::load(links, numbers::wide(b));
-    p == q
+    2 <= a.min(b) && numbers::load(links, usize::from(a)) == numbers::load(links, usize::from(b))
 }
 
 // Takes pairs from that of a and b on, as far as their runs go.
@@ -117,16 +106,12 @@ pub fn take_run(
     b: u16,
     count: u16,
 ) -> Step
-    ensures { TakesRun a b count links.old last.old first.old links.new last.new first.new result.what result.len }
+    ensures { TakesRun a b count links.old last.old first.old links.new last.new first.new (number_of result.what) result.len }
 {
     if alike(links, a, b) {
-        let len = numbers::lower(
-            count,
-            numbers::lower(runs::rest(last, a), runs::rest(last, b)),
-        );
         return Step {
-            what: NOTHING,
-            len: len,
+            what: Pairing::Nothing,
+            len: count.min(runs::rest(last, a).min(runs::rest(last, b))),
             hops: 0,
         };
     }

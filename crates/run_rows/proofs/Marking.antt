@@ -1,8 +1,8 @@
 -- Neighbours are marked at the ends of runs alone: within a run each place has the neighbours of its representative, or those of the place
 -- before.
-use mathlib.Core.Path.{◌≡◌, refl, sym, ap, ap₂, ◌∙◌, subst}
-use mathlib.Core.Logic.{◌⊎◌, inl, inr, ◌≢◌, ⊎_elim}
-use mathlib.Core.Bool.{Bool, true, false, not, ◌&&◌, ◌||◌, cond}
+use mathlib.Core.Path.{◌≡◌, refl, sym, ap, ◌∙◌, subst}
+use mathlib.Core.Logic.{◌⊎◌, inl, inr}
+use mathlib.Core.Bool.{Bool, true, false, not, ◌&&◌, cond}
 use mathlib.Core.List.{List}
 use Prim.Native.Nat.{ℕ, zero, suc, ◌+◌, ◌-◌, ◌≤◌, ◌<◌}
 use native.Mathlib.Omega.{arith}
@@ -13,7 +13,6 @@ use borrow.Author.Tests.{eq-eqb, eqb-true, lt-ltb, le-ltb}
 use Rattle.laws.specs.Lists.{below}
 use Rattle.laws.proofs.Numbers.{lt_or_le}
 use Rattle.answers.specs.inner.Classes.{rep}
-use Rattle.laws.specs.Bools.{implies}
 use Rattle.borders.specs.inner.Borders.{beside_in, even_at, uneven_with, goes_in}
 use Rattle.borders.proofs.Sweeping.{Swept, swept_more}
 use Rattle.slices.specs.Along.{along}

@@ -16,7 +16,7 @@ fn mark_run(marks: &[u16], links: &[u16], side: u16, k: u16, t: u16, uneven: &mu
     if t <= k {
         return;
     }
-    let second = numbers::plus(k, 1);
+    let second = k.wrapping_add(1);
     if t == second {
         borders::mark_place(marks, links, side, t, uneven);
         return;
@@ -30,9 +30,10 @@ fn mark_runs(marks: &[u16], links: &[u16], last: &[u16], side: u16, n: u16, unev
     ensures { MarksRuns marks.now links.now last.now side n uneven.old uneven.new }
 {
     let mut k: u16 = 0;
+    // Kept: a `while`, since it goes from run to run, on by a found length
     while k < n {
-        let end = numbers::difference(numbers::load(last, numbers::wide(k) + 2), 2);
-        let t = numbers::higher(k, numbers::lower(end, n - 1));
+        let end = numbers::load(last, usize::from(k) + 2).saturating_sub(2);
+        let t = k.max(end.min(n - 1));
         mark_run(marks, links, side, k, t, uneven);
         k = t + 1;
     }
@@ -42,13 +43,7 @@ fn mark_runs(marks: &[u16], links: &[u16], last: &[u16], side: u16, n: u16, unev
 fn one_clear(after: &[u16], before: &[u16], r: usize) -> bool
     ensures { result ≡ true → IsClear after.now before.now r }
 {
-    if before.len() <= r {
-        return false;
-    }
-    if numbers::load(after, r) != 0 {
-        return false;
-    }
-    numbers::load(before, r + 1) == 0
+    r < before.len() && numbers::load(after, r) == 0 && numbers::load(before, r + 1) == 0
 }
 
 // How many marks are looked at together.
@@ -59,17 +54,12 @@ const STRIDE: usize = 8;
 fn eight_clear(after: &[u16], before: &[u16], r: usize) -> bool
     ensures { result ≡ true → AllClear after.now before.now r 8 }
 {
-    if numbers::minus(after.len(), r) < STRIDE {
-        return false;
-    }
-    if numbers::minus(before.len(), r) <= STRIDE {
+    if after.len().saturating_sub(r) < STRIDE || before.len().saturating_sub(r) <= STRIDE {
         return false;
     }
     let mut bits: u16 = 0;
-    let mut i: usize = 0;
-    while i < STRIDE {
-        bits = bits | (after[r + i] | before[r + 1 + i]);
-        i += 1;
+    for i in 0..STRIDE {
+        bits |= after[r + i] | before[r + 1 + i];
     }
     bits == 0
 }
@@ -78,24 +68,21 @@ fn eight_clear(after: &[u16], before: &[u16], r: usize) -> bool
 fn clear_step(after: &[u16], before: &[u16], r: usize, len: usize) -> usize
     ensures { (result ≤ max len 1) × AllClear after.now before.now r result }
 {
-    if STRIDE <= len {
-        if eight_clear(after, before, r) {
-            return STRIDE;
-        }
+    if STRIDE <= len && eight_clear(after, before, r) {
+        STRIDE
+    } else {
+        usize::from(one_clear(after, before, r))
     }
-    if one_clear(after, before, r) {
-        return 1;
-    }
-    0
 }
 
 // How many of the next len representatives, from r on, have no mark between one and the next. Fewer are never wrong, and only slower.
 fn clear_from(after: &[u16], before: &[u16], r: u16, len: u16) -> u16
     ensures { (result ≤ len) × AllClear after.now before.now r result }
 {
-    let from = numbers::wide(r);
-    let count = numbers::wide(len);
+    let from = usize::from(r);
+    let count = usize::from(len);
     let mut k: usize = 0;
+    // Kept: a `while`, since it goes on by a found length
     while k < count {
         let m = clear_step(after, before, from + k, count - k);
         if m == 0 {
@@ -111,13 +98,14 @@ fn clear_from(after: &[u16], before: &[u16], r: u16, len: u16) -> u16
 fn stretch(links: &[u16], last: &[u16], after: &[u16], before: &[u16], i: u16) -> u16
     ensures { Stretches links.now last.now after.now before.now i result }
 {
-    let at = numbers::wide(i) + 1;
-    let len = numbers::difference(numbers::load(last, at), numbers::plus(i, 1));
+    let at = usize::from(i) + 1;
+    let len = numbers::load(last, at).saturating_sub(i.wrapping_add(1));
     let r = numbers::load(links, at);
     if r < 2 {
-        return len;
+        len
+    } else {
+        clear_from(after, before, r, len)
     }
-    clear_from(after, before, r, len)
 }
 
 // The last row with so many places more.
@@ -125,13 +113,8 @@ fn widen(p: Progress, n: u16) -> Progress
     ensures { result ≡ wider p n }
 {
     Progress {
-        begun: p.begun,
-        rows: p.rows,
-        fresh: p.fresh,
-        variable: p.variable,
-        kind: p.kind,
-        width: numbers::plus(p.width, n),
-        number: p.number,
+        width: p.width.wrapping_add(n),
+        ..p
     }
 }
 
@@ -158,21 +141,22 @@ fn put_places(
         number: 0,
     };
     let mut i: u16 = 0;
+    // Kept: a `while`, since it goes on by a found length
     while i < n {
-        numbers::store(numbers, numbers::wide(i), p.fresh);
+        numbers::store(numbers, usize::from(i), p.fresh);
         let on = borders::goes_on(marks, links, after, before, i);
         borders::end_row(answer, on, p);
         p = borders::step(marks, links, numbers, on, p, i);
         i += 1;
-        let m = numbers::lower(stretch(links, last, after, before, i), n - i);
-        runs::put_run(numbers, numbers::wide(i), numbers::wide(m), p.fresh, 0);
+        let m = stretch(links, last, after, before, i).min(n - i);
+        runs::put_run(numbers, usize::from(i), usize::from(m), p.fresh, 0);
         p = widen(p, m);
-        i = numbers::plus(i, m);
+        i = i.wrapping_add(m);
     }
     borders::put_row(answer, p);
     Counts {
-        pieces: numbers::wide(p.rows),
-        fresh: numbers::wide(p.fresh),
+        pieces: usize::from(p.rows),
+        fresh: usize::from(p.fresh),
     }
 }
 

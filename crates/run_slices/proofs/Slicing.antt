@@ -150,11 +150,11 @@ going_step shut left right width h₀ last₀ first₀ h last first a b len ties
 
 pub going_stop : (shut : ℕ → Bool) (left right width : ℕ) (h₀ last₀ first₀ h last first : List ℕ) (a b len ties : ℕ) → Going shut left right width h₀ last₀ first₀ h last first a b len ties → 0 < len
     → ((k : ℕ) → k < width → along left k < length h₀) → ((k : ℕ) → k < width → along right k < length h₀) → (h' last' first' : List ℕ) (what r : ℕ) → TakesRun a b len h last first h' last' first' what r
-    → what ≡ 2 → SliceTaken shut left right width h₀ last₀ first₀ h' last' first' true ties
+    → what ≡ 2 → SliceTaken shut left right width h₀ last₀ first₀ h' last' first' true 0
 going_stop shut left right width h₀ last₀ first₀ h last first a b len ties G some lefts rights h' last' first' what r T bad =
     let K : RunTaken shut a b len h last h' last' first' what r =
     T shut G.state (left_small shut left right width h₀ last₀ first₀ h last first a b len ties G some lefts rights) (right_small shut left right width h₀ last₀ first₀ h last first a b len ties G some lefts rights) some in
-    going_clash shut left right width h₀ last₀ first₀ h last first a b len ties G some lefts rights h' last' first' what r K bad h' last' first' ties
+    going_clash shut left right width h₀ last₀ first₀ h last first a b len ties G some lefts rights h' last' first' what r K bad h' last' first' 0
 
 pub going_done : (shut : ℕ → Bool) (left right width : ℕ) (h₀ last₀ first₀ h last first : List ℕ) (a b len ties : ℕ) → Going shut left right width h₀ last₀ first₀ h last first a b len ties → len ≤ 0
     → SliceTaken shut left right width h₀ last₀ first₀ h last first false ties

@@ -2,25 +2,33 @@
 // up or two different fixed bits meet.
 #![tactic(auto)]
 
-ghost use Rattle.std.specs.Prelude.{◌≡◌, cond, ◌≤◌, eqb};
+ghost use Rattle.std.specs.Prelude.{◌≡◌, ◌≢◌, cond, true, false, ◌≤◌, eqb, IfOk, OnErr};
+ghost use Rattle.classes.specs.inner.Links.{number_of};
 ghost use Rattle.run_slices.specs.inner.Slices.{TakesSlice};
 
-// What the pairs of a slice say: how many ties, or that two different fixed bits meet; and how many steps and links that took.
+use classes::Pairing;
+
+// How many ties pairs are, and how many steps and links that took.
 #[derive(Clone, Copy)]
-pub struct Taken {
-    pub conflict: bool,
+pub struct Tally {
     pub ties: usize,
     pub cost: usize,
 }
 
+// Two different fixed bits met.
+#[derive(Clone, Copy)]
+pub struct Conflict;
+
 // How many ties n pairs are.
-fn gained(what: u16, n: u16) -> u16
-    ensures { result ≡ cond (eqb what 1) n 0 }
+fn gained(what: Pairing, n: u16) -> Result<u16, Conflict>
+    ensures ties { IfOk result (λ m. (number_of what ≢ 2) × (m ≡ cond (eqb (number_of what) 1) n 0)) }
+    ensures conflict { OnErr result (number_of what ≡ 2) }
 {
-    if what == run_pairs::TIE {
-        return n;
+    match what {
+        Pairing::Nothing => Ok(0),
+        Pairing::Tie => Ok(n),
+        Pairing::Conflict => Err(Conflict),
     }
-    0
 }
 
 // Takes the pairs of a slice, run by run. Where two different fixed bits meet, the rest is left.
@@ -31,34 +39,25 @@ pub fn take_slice(
     left: u16,
     right: u16,
     width: u16,
-) -> Taken
-    ensures takes_slice { TakesSlice left right width links.old last.old first.old links.new last.new first.new result.conflict result.ties }
-    ensures few { (result.ties ≤ 65535) × (result.cost ≤ 4294967296) }
+) -> Result<Tally, Conflict>
+    ensures taken { IfOk result (λ t. TakesSlice left right width links.old last.old first.old links.new last.new first.new false t.ties) }
+    ensures conflict { OnErr result (TakesSlice left right width links.old last.old first.old links.new last.new first.new true 0) }
+    ensures few { IfOk result (λ t. (t.ties ≤ 65535) × (t.cost ≤ 4294967296)) }
 {
     let mut a = left;
     let mut b = right;
     let mut len = width;
     let mut ties: usize = 0;
     let mut cost: usize = 0;
+    // Kept: a `while`, since it goes on by a found length
     while 0 < len {
         let s = run_pairs::take_run(links, last, first, a, b, len);
-        let n = numbers::higher(s.len, 1);
-        cost = cost + numbers::wide(s.hops) + 1;
-        if s.what == run_pairs::CONFLICT {
-            return Taken {
-                conflict: true,
-                ties: ties,
-                cost: cost,
-            };
-        }
-        ties = ties + numbers::wide(gained(s.what, numbers::lower(n, len)));
+        let n = s.len.max(1);
+        ties += usize::from(gained(s.what, n.min(len))?);
+        cost += usize::from(s.hops) + 1;
         a = runs::along(a, n);
         b = runs::along(b, n);
-        len = numbers::difference(len, n);
+        len = len.saturating_sub(n);
     }
-    Taken {
-        conflict: false,
-        ties: ties,
-        cost: cost,
-    }
+    Ok(Tally { ties, cost })
 }

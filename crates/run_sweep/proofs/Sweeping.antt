@@ -144,6 +144,10 @@ module _ (x w g len : ℕ) (h last first : List ℕ) (ew : w ≡ x) (eg : g ≡ 
       let e = W.runs.ends x two (omega arith) in
       settled_root shut h₀ last₀ first₀ S h last first x two (omega arith) W len (omega (arith, e, S.few)) (omega (arith, e, S.few)) (omega (arith, link_is))
 
+  pub settle_kept : (g < 2) ⊎ ((2 ≤ g) × (x ≤ g)) → SettlesRun x h last first h last first len
+  settle_kept (inl l) = settle_fixed l
+  settle_kept (inr l) = settle_root l.1
+
   pub settle_link : (r n m v to : ℕ) (h' last' first' : List ℕ) → 2 ≤ g → g < x → r ≡ (get_or last g 0 - g + 1) % 65536 → n ≡ min r (x - g) → m ≡ min len n → v ≡ g → to ≡ get_or h v 0
       → Carves x m to h last first h' last' first' → SettlesRun x h last first h' last' first' m
   settle_link r n m v to h' last' first' a b er en em ev et C shut h₀ last₀ first₀ S eh r₁ r₂ two small W =

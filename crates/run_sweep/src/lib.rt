@@ -8,16 +8,13 @@ ghost use Rattle.run_sweep.specs.inner.Settled.{SettlesRun, SettlesRuns};
 fn settle_run(links: &mut [u16], last: &mut [u16], first: &mut [u16], x: u16) -> u16
     ensures { SettlesRun x links.old last.old first.old links.new last.new first.new result }
 {
-    let g = numbers::load(links, numbers::wide(x));
+    let g = numbers::load(links, usize::from(x));
     let len = runs::rest(last, x);
-    if g < 2 {
+    if g < 2 || x <= g {
         return len;
     }
-    if x <= g {
-        return len;
-    }
-    let m = numbers::lower(len, numbers::lower(runs::rest(last, g), x - g));
-    let to = numbers::load(links, numbers::wide(g));
+    let m = len.min(runs::rest(last, g).min(x - g));
+    let to = numbers::load(links, usize::from(g));
     runs::carve(links, last, first, x, m, to);
     m
 }
@@ -27,8 +24,9 @@ pub fn settle(links: &mut [u16], last: &mut [u16], first: &mut [u16])
     ensures { SettlesRuns links.old last.old first.old links.new last.new first.new }
 {
     let mut i: usize = 2;
+    // Kept: a `while`, since it goes on by a found length
     while i < links.len() {
         let m = settle_run(links, last, first, numbers::narrow(i));
-        i = i + numbers::wide(numbers::higher(m, 1));
+        i += usize::from(m.max(1));
     }
 }

@@ -1,19 +1,18 @@
 -- What the cuts of a run leave, from what the functions write.
 use mathlib.Core.Path.{◌≡◌, refl, sym, ap, ◌∙◌}
 use mathlib.Core.Logic.{◌⊎◌, inl, inr, ◌≢◌}
-use mathlib.Core.Bool.{Bool, true, false, cond}
+use mathlib.Core.Bool.{Bool, cond}
 use mathlib.Core.List.{List}
-use Prim.Native.Nat.{ℕ, zero, suc, ◌+◌, ◌-◌, ◌%◌, ◌≤◌, ◌<◌}
+use Prim.Native.Nat.{ℕ, suc, ◌+◌, ◌-◌, ◌%◌, ◌≤◌, ◌<◌}
 use native.Mathlib.Omega.{arith}
 use lib.Dec.{ltb}
 use lib.ListN.{length, get_or, set}
 use lib.Seq.{get_or-set_same, get_or-set_other}
 use borrow.Author.Tests.{lt-ltb, le-ltb}
-use Rattle.laws.proofs.Numbers.{lt_or_le, dec_eq}
+use Rattle.laws.proofs.Numbers.{lt_or_le}
 use Rattle.slices.specs.Along.{along}
 use Rattle.slices.proofs.SideBySide.{along_fixed, along_place}
 use Rattle.runs.specs.inner.Puts.{Put, paced, PutsRun}
-use Rattle.runs.specs.inner.Runs.{Runs, Carved}
 use Rattle.runs.specs.inner.Carves.{LinksRun, LeftCut, CutsLeft, RightCut, CutsRight, Carves}
 use Rattle.runs.proofs.Putting.{paced_same, paced_up}
 

@@ -1,11 +1,10 @@
 -- The first runs: one variable more is one run more.
 use mathlib.Core.Path.{◌≡◌, refl, sym, ap, ◌∙◌, subst}
-use mathlib.Core.Logic.{◌⊎◌, inl, inr, ◌≢◌}
-use mathlib.Core.Bool.{Bool, true, false, cond}
-use mathlib.Core.List.{List, [], ◌∷◌, ◌++◌}
+use mathlib.Core.Logic.{◌⊎◌, inl, inr}
+use mathlib.Core.Bool.{Bool, false}
+use mathlib.Core.List.{List, [], ◌∷◌}
 use Prim.Native.Nat.{ℕ, zero, suc, ◌+◌, ◌-◌, ◌≤◌, ◌<◌, min, max}
 use native.Mathlib.Omega.{arith}
-use lib.Dec.{eqb, ltb}
 use lib.ListN.{length, get_or, set, take}
 use lib.Seq.{get_or-set_same, get_or-set_other, take-suc, take_all}
 use borrow.Author.Tests.{ne_eqb, lt-ltb, le-ltb}
@@ -18,7 +17,7 @@ use Rattle.slices.specs.Borders.{total, Some, none, some}
 use Rattle.slices.proofs.SideBySide.{along_place}
 use Rattle.slices.proofs.Cuts.{total_more}
 use Rattle.runs.specs.inner.Runs.{Runs}
-use Rattle.runs.specs.inner.Puts.{Put, paced, PutsRun}
+use Rattle.runs.specs.inner.Puts.{PutsRun}
 use Rattle.runs.proofs.Putting.{paced_same}
 
 -- within a variable none begins

@@ -22,14 +22,11 @@ pub struct Found {
 pub fn put_run(buffer: &mut [u16], from: usize, count: usize, x: u16, step: u16)
     ensures { PutsRun from count x step buffer.old buffer.new }
 {
-    let mut left = numbers::lesser(count, numbers::minus(buffer.len(), from));
-    let mut at = from;
+    let len = count.min(buffer.len().saturating_sub(from));
     let mut y = x;
-    while 0 < left {
+    for at in from..from + len {
         buffer[at] = y;
-        y = numbers::plus(y, step);
-        at += 1;
-        left -= 1;
+        y = y.wrapping_add(step);
     }
 }
 
@@ -40,10 +37,10 @@ pub fn start(sources: &[u16], n: u16, last: &mut [u16], first: &mut [u16])
     let mut v: usize = 0;
     let mut x: u16 = 2;
     while x < n {
-        let end = numbers::lower(numbers::load(sources, v + 1), n - 1);
-        let t = numbers::higher(x, end);
-        put_run(last, numbers::wide(x), numbers::wide(t - x) + 1, t, 0);
-        numbers::store(first, numbers::wide(t), x);
+        let end = numbers::load(sources, v + 1).min(n - 1);
+        let t = x.max(end);
+        put_run(last, usize::from(x), usize::from(t - x) + 1, t, 0);
+        numbers::store(first, usize::from(t), x);
         x = t + 1;
         v += 1;
     }
@@ -53,17 +50,14 @@ pub fn start(sources: &[u16], n: u16, last: &mut [u16], first: &mut [u16])
 fn pace(g: u16) -> u16
     ensures { result ≡ cond (ltb g 2) 0 1 }
 {
-    if g < 2 {
-        return 0;
-    }
-    1
+    u16::from(1 < g)
 }
 
 // Sources of a run link from g on.
 fn link_run(links: &mut [u16], lo: u16, len: u16, g: u16)
     ensures { LinksRun lo len g links.old links.new }
 {
-    put_run(links, numbers::wide(lo), numbers::wide(len), g, pace(g));
+    put_run(links, usize::from(lo), usize::from(len), g, pace(g));
 }
 
 // The run that begins at f ends before lo, if it begins there at all.
@@ -71,8 +65,8 @@ fn cut_left(last: &mut [u16], first: &mut [u16], f: u16, lo: u16)
     ensures { CutsLeft f lo last.old first.old last.new first.new }
 {
     if f < lo {
-        put_run(last, numbers::wide(f), numbers::wide(lo - f), lo - 1, 0);
-        numbers::store(first, numbers::wide(lo - 1), f);
+        put_run(last, usize::from(f), usize::from(lo - f), lo - 1, 0);
+        numbers::store(first, usize::from(lo - 1), f);
     }
 }
 
@@ -80,16 +74,16 @@ fn cut_left(last: &mut [u16], first: &mut [u16], f: u16, lo: u16)
 fn cut_right(last: &mut [u16], first: &mut [u16], lo: u16, len: u16, t: u16)
     ensures { CutsRight lo len t last.old first.old last.new first.new }
 {
-    let end = numbers::plus(lo, len);
+    let end = lo.wrapping_add(len);
     if end <= t {
         put_run(
             last,
-            numbers::wide(lo),
-            numbers::wide(len),
-            numbers::difference(end, 1),
+            usize::from(lo),
+            usize::from(len),
+            end.saturating_sub(1),
             0,
         );
-        numbers::store(first, numbers::wide(t), end);
+        numbers::store(first, usize::from(t), end);
     }
 }
 
@@ -97,12 +91,12 @@ fn cut_right(last: &mut [u16], first: &mut [u16], lo: u16, len: u16, t: u16)
 pub fn carve(links: &mut [u16], last: &mut [u16], first: &mut [u16], lo: u16, len: u16, g: u16)
     ensures { Carves lo len g links.old last.old first.old links.new last.new first.new }
 {
-    let t = numbers::load(last, numbers::wide(lo));
-    let f = numbers::load(first, numbers::wide(t));
+    let t = numbers::load(last, usize::from(lo));
+    let f = numbers::load(first, usize::from(t));
     cut_left(last, first, f, lo);
     cut_right(last, first, lo, len, t);
-    let hi = numbers::difference(numbers::plus(lo, len), 1);
-    numbers::store(first, numbers::wide(hi), lo);
+    let hi = lo.wrapping_add(len).saturating_sub(1);
+    numbers::store(first, usize::from(hi), lo);
     link_run(links, lo, len, g);
 }
 
@@ -111,19 +105,19 @@ pub fn along(source: u16, n: u16) -> u16
     ensures { result ≡ along source n % 65536 }
 {
     if source < 2 {
-        return source;
+        source
+    } else {
+        source.wrapping_add(n)
     }
-    numbers::plus(source, n)
 }
 
 // How many sources from x on are left in its run.
 pub fn rest(last: &[u16], x: u16) -> u16
     ensures { result ≡ (get_or last.now x 0 - x + 1) % 65536 }
 {
-    numbers::plus(
-        numbers::difference(numbers::load(last, numbers::wide(x)), x),
-        1,
-    )
+    numbers::load(last, usize::from(x))
+        .saturating_sub(x)
+        .wrapping_add(1)
 }
 
 // The root of s, and how far the roots of the sources from s on go side by side with it, at most count. Nothing is changed.
@@ -134,17 +128,13 @@ pub fn find(links: &[u16], last: &[u16], s: u16, count: u16) -> Found
     let mut len = count;
     let mut hops: u16 = 0;
     while 1 < x {
-        len = numbers::lower(len, rest(last, x));
-        let g = numbers::load(links, numbers::wide(x));
+        len = len.min(rest(last, x));
+        let g = numbers::load(links, usize::from(x));
         if x <= g {
             break;
         }
         x = g;
-        hops = numbers::plus(hops, 1);
+        hops = hops.wrapping_add(1);
     }
-    Found {
-        root: x,
-        len: len,
-        hops: hops,
-    }
+    Found { root: x, len, hops }
 }

@@ -1,11 +1,14 @@
 -- The pass of `read_form`: with i rows passed, all of them fine, the state is that of these rows. And what `form_of` makes of it.
-use mathlib.Core.Path.{◌≡◌, refl, sym, ap, ◌∙◌}
-use mathlib.Core.Bool.{Bool, true, false, ◌&&◌, and-true, and-false}
+use mathlib.Core.Path.{◌≡◌, refl, sym, ap, ◌∙◌, subst}
+use mathlib.Core.Bool.{Bool, true, false, ◌&&◌, and-false}
 use mathlib.Core.List.{List, [], ◌∷◌, ◌++◌}
 use Prim.Native.Nat.{ℕ, suc, ◌+◌, ◌/◌, ◌%◌, ◌≤◌, ◌<◌}
 use native.Mathlib.Omega.{arith}
 use native.Mathlib.Numerals.{add-one}
 use lib.Dec.{eqb}
+use Rattle.std.specs.Prelude.{Option, Some, None, is_some}
+use mathlib.Core.Logic.{◌≢◌}
+use borrow.Author.Tests.{eq-eqb, ne_eqb}
 use lib.ListN.{length, get_or, set, take, drop, length-set, drop_of_length-le}
 use lib.Seq.{take-suc, take_all, drop-cons}
 use Rattle.laws.proofs.Bools.{clash}
@@ -45,12 +48,20 @@ pub record Reading (answer widths₀ starts₀ widths starts : List ℕ) (p : Pr
   pub starts_len : length starts ≡ length starts₀
   pub going : 4096 ≤ length widths₀ → 4096 ≤ length starts₀ → Going (answer_rows_of answer) widths starts p i
 
-pub reading_first : (answer widths starts : List ℕ) → Reading answer widths starts widths starts at_first 0
-reading_first answer widths starts = record {
+first_state : (v n k w b i f : ℕ) → v ≡ 0 → n ≡ 0 → k ≡ 2 → w ≡ 0 → b ≡ 0 → i ≡ 0 → f ≡ 0
+    → record { variable = v; next = n; kind = k; width = w; bits = b; pieces = i; free = f } ≡ at_first
+first_state v n k w b i f ev en ek ew eb ei ef = rw (ev, en, ek, ew, eb, ei, ef)
+
+pub reading_first : (answer widths starts : List ℕ) (p : Progress)
+    → p.variable ≡ 0 → p.next ≡ 0 → p.kind ≡ 2 → p.width ≡ 0 → p.bits ≡ 0 → p.pieces ≡ 0 → p.free ≡ 0 → Reading answer widths starts widths starts p 0
+reading_first answer widths starts p ev en ek ew eb ei ef = record {
   within = omega arith;
   widths_len = refl;
   starts_len = refl;
-  going = λ room space. record { same = refl; passed = passed_none widths starts };
+  going = λ room space. record {
+    same = refl;
+    passed = subst (λ (q : Progress). Passed [] q widths starts) (sym (first_state p.variable p.next p.kind p.width p.bits p.pieces p.free ev en ek ew eb ei ef)) (passed_none widths starts);
+  };
 }
 
 module _ (answer widths₀ starts₀ widths starts : List ℕ) (p : Progress) (i : ℕ) (k : Reading answer widths₀ starts₀ widths starts p i) where
@@ -93,7 +104,7 @@ module _ (answer widths₀ starts₀ widths starts : List ℕ) (p : Progress) (i
           passed = rw (ws, ss, eq, ep, next_rows) (passed_more (take i rows) p widths starts g.passed r (row_is (take i rows) p widths starts g.passed r ∙ ap (fine_in p r) (sym ew) ∙ fine) room space);
         }
 
-    pub reading_bad : fine_in p r w ≡ false → ReadsForm answer widths₀ starts₀ starts (record { fine = false; bits = 0; free = 0 })
+    pub reading_bad : fine_in p r w ≡ false → ReadsForm answer widths₀ starts₀ starts None
     unfolding rows_form
     reading_bad bad room space =
         let g = k.going room space in
@@ -101,15 +112,23 @@ module _ (answer widths₀ starts₀ widths starts : List ℕ) (p : Progress) (i
         unfold rows_form in (ap (λ (t : Bool). eqb (length answer % 6) 0 && t) (g.same ∙ tested g.passed ∙ rw bad) ∙ and-false (eqb (length answer % 6) 0)) in
         record { fine_is = sym e; shaped = λ h. clash (rows_form answer) h e }
 
-  pub reading_done : length answer / 6 ≤ i → ReadsForm answer widths₀ starts₀ starts (record { fine = eqb (length answer % 6) 0; bits = p.bits; free = p.free })
+  pub reading_done : length answer / 6 ≤ i → length answer % 6 ≡ 0 → ReadsForm answer widths₀ starts₀ starts (Some (record { bits = p.bits; free = p.free }))
   unfolding rows_form rows_fine
-  reading_done l room space =
+  reading_done l whole room space =
       let g = k.going room space in
       let n = answer_length answer in
+      let e = eq-eqb (length answer % 6) 0 whole in
       record {
-        fine_is = sym (ap (λ (t : Bool). eqb (length answer % 6) 0 && t) (g.same ∙ rw (drop_of_length-le rows {i = i} (omega arith))) ∙ and-true (eqb (length answer % 6) 0));
+        fine_is = sym (rw e (g.same ∙ rw (drop_of_length-le rows {i = i} (omega arith))));
         shaped = λ h. rw (take_all i rows (omega arith)) at (shaped (take i rows) p widths starts g.passed);
       }
+
+-- a table that is not whole rows
+pub reading_part : (answer widths starts starts' : List ℕ) → (length answer % 6 ≢ 0) → ReadsForm answer widths starts starts' None
+unfolding rows_form
+reading_part answer widths starts starts' part room space =
+    let e : rows_form answer ≡ false = unfold rows_form in (rw (ne_eqb (length answer % 6) 0 part)) in
+    record { fine_is = sym e; shaped = λ h. clash (rows_form answer) h e }
 
 -- A table has the form if its rows have it and the test of their homes passes.
 rows_bad : (answer : List ℕ) → rows_form answer ≡ false → has_form answer ≡ false
@@ -120,14 +139,20 @@ rows_tested : (answer : List ℕ) (room : ℕ) (b : Bool) → rows_form answer �
 unfolding has_form rows_form
 rows_tested answer room b f t l = rw f (homes_tested answer room b f t l)
 
-module _ (answer : List ℕ) (space : ℕ) (starts : List ℕ) (found : Found) (k : 4096 ≤ space → FormRead answer starts found) where
-  pub form_bad : found.fine ≡ false → FindsForm answer space starts found
+module _ (answer : List ℕ) (space : ℕ) (starts : List ℕ) (found : Option Found) (k : 4096 ≤ space → FormRead answer starts found) where
+  pub form_bad : is_some found ≡ false → FindsForm answer space starts None
   form_bad f enough =
       let e : has_form answer ≡ false = rows_bad answer (sym (k enough).fine_is ∙ f) in
-      record { fine_is = f ∙ sym e; shaped = λ h. clash (has_form answer) h e }
+      record { fine_is = sym e; shaped = λ h. clash (has_form answer) h e }
 
-  pub form_tested : found.fine ≡ true → (room : ℕ) (b : Bool) → TestsHomes answer room b → 4096 ≤ room
-      → FindsForm answer space starts (record { fine = b; bits = found.bits; free = found.free })
-  form_tested f room b t l enough =
-      let g : rows_form answer ≡ true = sym (k enough).fine_is ∙ f in
-      record { fine_is = sym (rows_tested answer room b g t l); shaped = λ h. (k enough).shaped g }
+  module _ (f : is_some found ≡ true) (room : ℕ) (b : Bool) (t : TestsHomes answer room b) (l : 4096 ≤ room) where
+    tested_form : 4096 ≤ space → has_form answer ≡ b
+    tested_form enough = rows_tested answer room b (sym (k enough).fine_is ∙ f) t l
+
+    pub form_tested : b ≡ true → FindsForm answer space starts found
+    form_tested e enough = record { fine_is = f ∙ sym e ∙ sym (tested_form enough); shaped = λ h. (k enough).shaped (sym (k enough).fine_is ∙ f) }
+
+    pub form_homeless : b ≡ false → FindsForm answer space starts None
+    form_homeless e enough =
+        let g : has_form answer ≡ false = tested_form enough ∙ e in
+        record { fine_is = sym g; shaped = λ h. clash (has_form answer) h g }

@@ -8,11 +8,12 @@ use native.Mathlib.Omega.{arith}
 use lib.Dec.{eqb, ltb}
 use lib.ListN.{length}
 use borrow.Author.Tests.{ne_eqb, lt-ltb, ltb-true}
+use Rattle.std.specs.Prelude.{Result, Ok, Err}
 use Rattle.terms.specs.declared.Record.{Record}
 use Rattle.terms.specs.declared.Row.{Row}
 use Rattle.terms.specs.Calls.{refusal, completed}
-use Rattle.sheets.specs.declared.Sheet.{Sheet}
-use Rattle.sheets.specs.declared.Sheet.TheVariants.{TooLong, WrongNames, TooMany, WrongLine, Rows}
+use Rattle.sheets.specs.declared.SheetError.{SheetError}
+use Rattle.sheets.specs.declared.SheetError.TheVariants.{TooLong, WrongNames, TooMany, WrongLine}
 use Rattle.sheets.specs.Sheet.{sheet_found, sheet_rows}
 use Rattle.sheets.specs.Call.{sheet_number, sheet_row, row_count, sheet_record}
 use Rattle.sheets.specs.Writing.{SheetOf}
@@ -22,7 +23,7 @@ use Rattle.sheets.proofs.SheetCall.{carried, answer_of, found_numbered, number_t
 
 module _ (text : List ℕ) (room : ℕ) where
   -- the record of an answer, and the answer of a record's number
-  record-of : (s : Sheet) → sheet_found text ≡ s → (sheet_number s ≡ 0 → ⊥) → sheet_record text room ≡ refusal (sheet_number s) (sheet_row s)
+  record-of : (s : Result ℕ SheetError) → sheet_found text ≡ s → (sheet_number s ≡ 0 → ⊥) → sheet_record text room ≡ refusal (sheet_number s) (sheet_row s)
   unfolding sheet_record
   record-of s e h = rw (e, ne_eqb (sheet_number s) 0 h)
 
@@ -31,15 +32,15 @@ module _ (text : List ℕ) (room : ℕ) where
 
   pub refused_20 : ((sheet_record text room).outcome ≡ 20 → 16384 < length text) × (16384 < length text → sheet_record text room ≡ refusal 20 0)
   refused_20 = (
-    λ e. (found_exactly text TooLong).0 (answered 20 (omega arith) e),
-    λ h. record-of TooLong ((found_exactly text TooLong).1 h) (omega arith),
+    λ e. (found_exactly text (Err TooLong)).0 (answered 20 (omega arith) e),
+    λ h. record-of (Err TooLong) ((found_exactly text (Err TooLong)).1 h) (omega arith),
   )
 
   pub refused_21 : length text ≤ 16384
       → ((sheet_record text room).outcome ≡ 21 → NamesOtherwise text) × (NamesOtherwise text → sheet_record text room ≡ refusal 21 0)
   refused_21 short = (
-    λ e. ((found_exactly text WrongNames).0 (answered 21 (omega arith) e)).1,
-    λ h. record-of WrongNames ((found_exactly text WrongNames).1 (short, h)) (omega arith),
+    λ e. ((found_exactly text (Err WrongNames)).0 (answered 21 (omega arith) e)).1,
+    λ h. record-of (Err WrongNames) ((found_exactly text (Err WrongNames)).1 (short, h)) (omega arith),
   )
 
   pub refused_22 : length text ≤ 16384
@@ -48,17 +49,17 @@ module _ (text : List ℕ) (room : ℕ) where
   refused_22 short = (
     λ e.
         let k = carried (sheet_found text) in
-        let f : sheet_found text ≡ WrongLine k = answered 22 (omega arith) e in
-        let same : (sheet_record text room).row ≡ k = ap (λ (r : Record). r.row) (record-of (WrongLine k) f (omega arith)) in
-        rw same ((found_exactly text (WrongLine k)).0 f).1,
-    λ k h. record-of (WrongLine k) ((found_exactly text (WrongLine k)).1 (short, h)) (omega arith),
+        let f : sheet_found text ≡ Err (WrongLine k) = answered 22 (omega arith) e in
+        let same : (sheet_record text room).row ≡ k = ap (λ (r : Record). r.row) (record-of (Err (WrongLine k)) f (omega arith)) in
+        rw same ((found_exactly text (Err (WrongLine k))).0 f).1,
+    λ k h. record-of (Err (WrongLine k)) ((found_exactly text (Err (WrongLine k))).1 (short, h)) (omega arith),
   )
 
   pub refused_23 : length text ≤ 16384
       → ((sheet_record text room).outcome ≡ 23 → LinesOver text) × (LinesOver text → sheet_record text room ≡ refusal 23 512)
   refused_23 short = (
-    λ e. ((found_exactly text TooMany).0 (answered 23 (omega arith) e)).1,
-    λ h. record-of TooMany ((found_exactly text TooMany).1 (short, h)) (omega arith),
+    λ e. ((found_exactly text (Err TooMany)).0 (answered 23 (omega arith) e)).1,
+    λ h. record-of (Err TooMany) ((found_exactly text (Err TooMany)).1 (short, h)) (omega arith),
   )
 
   -- 32 comes after these: it is for sheets alone, where the table has no room for 512 rows
@@ -67,12 +68,12 @@ module _ (text : List ℕ) (room : ℕ) where
   unfolding sheet_record
   refused_32 = (λ e. go (sheet_found text) (ltb room 2048) refl refl e, λ rows s h. rw (((read_exactly text rows).0 s).0, lt-ltb room 2048 h))
     where
-      go : (s : Sheet) (t : Bool) → sheet_found text ≡ s → ltb room 2048 ≡ t
+      go : (s : Result ℕ SheetError) (t : Bool) → sheet_found text ≡ s → ltb room 2048 ≡ t
           → (cond (eqb (sheet_number s) 0) (cond t (refusal 32 0) (completed (row_count s) 0)) (refusal (sheet_number s) (sheet_row s))).outcome ≡ 32
           → (room < 2048) × SheetOf text (sheet_rows text)
-      go TooLong t f p e = absurd (omega (arith, e))
-      go WrongNames t f p e = absurd (omega (arith, e))
-      go TooMany t f p e = absurd (omega (arith, e))
-      go (WrongLine k) t f p e = absurd (omega (arith, e))
-      go (Rows n) true f p e = (ltb-true room 2048 p, (sheet-found text n f).0)
-      go (Rows n) false f p e = absurd (omega (arith, e))
+      go (Err TooLong) t f p e = absurd (omega (arith, e))
+      go (Err WrongNames) t f p e = absurd (omega (arith, e))
+      go (Err TooMany) t f p e = absurd (omega (arith, e))
+      go (Err (WrongLine k)) t f p e = absurd (omega (arith, e))
+      go (Ok n) true f p e = (ltb-true room 2048 p, (sheet-found text n f).0)
+      go (Ok n) false f p e = absurd (omega (arith, e))

@@ -8,13 +8,14 @@ use lib.Dec.{eqb, ltb}
 use lib.ListN.{length, take, drop}
 use lib.Seq.{take_at}
 use borrow.Author.Tests.{lt-ltb, le-ltb, eq-eqb, ne_eqb, eqb-true}
+use Rattle.std.specs.Prelude.{Result, Ok, Err}
 use Rattle.terms.specs.declared.Record.{Record}
 use Rattle.laws.specs.Buffers.{overwrite}
 use Rattle.terms.specs.Calls.{refusal, completed}
 use Rattle.laws.proofs.Buffers.{overwrite-fits}
 use Rattle.sheets.specs.declared.Order.{Order}
-use Rattle.sheets.specs.declared.Sheet.{Sheet}
-use Rattle.sheets.specs.declared.Sheet.TheVariants.{TooLong, WrongNames, TooMany, WrongLine, Rows}
+use Rattle.sheets.specs.declared.SheetError.{SheetError}
+use Rattle.sheets.specs.declared.SheetError.TheVariants.{TooLong, WrongNames, TooMany, WrongLine}
 use Rattle.sheets.specs.Text.{LineFound, Values, NoLine, NamesFound, InOrder, NoNames, line_at, names_at}
 use Rattle.terms.specs.Table.{row_numbers}
 use Rattle.sheets.specs.Sheet.{by_line, by_names, rows_from, sheet_found, sheet_rows}
@@ -23,23 +24,23 @@ use Rattle.terms.proofs.RowNumbers.{row_numbers_length}
 use Rattle.sheets.proofs.Written.{sheet-found}
 
 -- an answer by its number, and by the line or the count of rows that it has with it
-abbrev pub carried : Sheet → ℕ
-carried TooLong = 0
-carried WrongNames = 0
-carried TooMany = 0
-carried (WrongLine k) = k
-carried (Rows n) = n
+abbrev pub carried : Result ℕ SheetError → ℕ
+carried (Err TooLong) = 0
+carried (Err WrongNames) = 0
+carried (Err TooMany) = 0
+carried (Err (WrongLine k)) = k
+carried (Ok n) = n
 
-abbrev pub answer_of : ℕ → ℕ → Sheet
+abbrev pub answer_of : ℕ → ℕ → Result ℕ SheetError
 answer_of number k =
-    cond (eqb number 20) TooLong (cond (eqb number 21) WrongNames (cond (eqb number 22) (WrongLine k) (cond (eqb number 23) TooMany (Rows k))))
+    cond (eqb number 20) (Err TooLong) (cond (eqb number 21) (Err WrongNames) (cond (eqb number 22) (Err (WrongLine k)) (cond (eqb number 23) (Err TooMany) (Ok k))))
 
-answer_is : (s : Sheet) → s ≡ answer_of (sheet_number s) (carried s)
-answer_is TooLong = refl
-answer_is WrongNames = refl
-answer_is TooMany = refl
-answer_is (WrongLine k) = refl
-answer_is (Rows n) = refl
+answer_is : (s : Result ℕ SheetError) → s ≡ answer_of (sheet_number s) (carried s)
+answer_is (Err TooLong) = refl
+answer_is (Err WrongNames) = refl
+answer_is (Err TooMany) = refl
+answer_is (Err (WrongLine k)) = refl
+answer_is (Ok n) = refl
 
 pub found_numbered : (text : List ℕ) (n : ℕ) → sheet_number (sheet_found text) ≡ n → sheet_found text ≡ answer_of n (carried (sheet_found text))
 found_numbered text n e = answer_is (sheet_found text) ∙ rw e
@@ -60,7 +61,7 @@ number_told text room n h e = go (eqb (sheet_number (sheet_found text)) 0) (ltb 
 sheet_counted : (text : List ℕ) → sheet_number (sheet_found text) ≡ 0 → row_count (sheet_found text) ≡ length (sheet_rows text)
 sheet_counted text h =
     let n = carried (sheet_found text) in
-    let f : sheet_found text ≡ Rows n = found_numbered text 0 h in
+    let f : sheet_found text ≡ Ok n = found_numbered text 0 h in
     ap row_count f ∙ sym (sheet-found text n f).1
 
 -- at most 512 rows

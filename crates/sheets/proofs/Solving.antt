@@ -8,14 +8,15 @@ use native.Mathlib.Omega.{arith}
 use lib.Dec.{eqb, ltb}
 use lib.ListN.{length, take, replicate, length-replicate}
 use borrow.Author.Tests.{eq-eqb, ne_eqb, eqb-true}
+use Rattle.std.specs.Prelude.{Result, Ok, Err}
 use Rattle.terms.specs.declared.Record.{Record}
 use Rattle.terms.specs.declared.Row.{Row}
 use Rattle.terms.specs.Table.{rows_of, bits_of, satisfies}
 use Rattle.terms.specs.Faults.{Accepted, first_fault}
 use Rattle.terms.specs.Calls.{refusal, completed}
 use Rattle.terms.proofs.AcceptedTable.{table_bits}
-use Rattle.sheets.specs.declared.Sheet.{Sheet}
-use Rattle.sheets.specs.declared.Sheet.TheVariants.{TooLong, WrongNames, TooMany, WrongLine, Rows}
+use Rattle.sheets.specs.declared.SheetError.{SheetError}
+use Rattle.sheets.specs.declared.SheetError.TheVariants.{TooLong, WrongNames, TooMany, WrongLine}
 use Rattle.terms.specs.Table.{row_numbers}
 use Rattle.sheets.specs.Sheet.{sheet_rows, sheet_found}
 use Rattle.sheets.specs.Call.{sheet_number, sheet_row, row_count, sheet_record}
@@ -29,14 +30,14 @@ use Rattle.answers.proofs.Tables.{rows_few}
 use Rattle.sheets.specs.Program.{text_record, text_answer, program_record}
 
 -- no refusal of a sheet is outcome 2
-number_not_2 : (room : ℕ) (s : Sheet)
+number_not_2 : (room : ℕ) (s : Result ℕ SheetError)
     → (cond (eqb (sheet_number s) 0) (cond (ltb room 2048) (refusal 32 0) (completed (row_count s) 0))
     (refusal (sheet_number s) (sheet_row s))).outcome ≡ 2 → ⊥
-number_not_2 room TooLong e = omega (arith, e)
-number_not_2 room WrongNames e = omega (arith, e)
-number_not_2 room TooMany e = omega (arith, e)
-number_not_2 room (WrongLine k) e = omega (arith, e)
-number_not_2 room (Rows k) e = go (ltb room 2048) e
+number_not_2 room (Err TooLong) e = omega (arith, e)
+number_not_2 room (Err WrongNames) e = omega (arith, e)
+number_not_2 room (Err TooMany) e = omega (arith, e)
+number_not_2 room (Err (WrongLine k)) e = omega (arith, e)
+number_not_2 room (Ok k) e = go (ltb room 2048) e
   where
     go : (b : Bool) → (cond b (refusal 32 0) (completed k 0)).outcome ≡ 2 → ⊥
     go true e = omega (arith, e)

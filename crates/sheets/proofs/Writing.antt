@@ -10,9 +10,9 @@ use lib.Dec.{ltb, eqb}
 use lib.ListN.{length, get_or, drop, length-append, length-drop}
 use lib.Seq.{drop-drop, drop-append_seam, get_or-drop}
 use borrow.Author.Tests.{lt-ltb, le-ltb, eq-eqb}
+use Rattle.std.specs.Prelude.{Ok}
 use Rattle.terms.specs.declared.Row.{Row}
 use Rattle.sheets.specs.declared.Order.{Order}
-use Rattle.sheets.specs.declared.Sheet.TheVariants.{Rows}
 use Rattle.sheets.specs.Text.{Value, Column, InOrder, Values, digit_of, hex_digit_of, number_here, sees, field_at, row_of_values, line_at, sees_kind, column_at, name_at, names_at}
 use Rattle.sheets.specs.Sheet.{found_from, rows_from, sheet_found, sheet_rows}
 use Rattle.sheets.specs.Writing.{spelled, Spelling, name_bytes, column, name, value_in, names_line, line_in, IsOrder, SmallRow, LinesOf, no_lines, one_line}
@@ -146,14 +146,14 @@ module _ (text : List ℕ) where
       omega (arith, length-append x (d ++ (10 ∷ [])), length-append d (10 ∷ []))
 
   -- nothing is left: the lines read are all
-  pub lines_end : (order : Order) (m k at : ℕ) → drop at text ≡ [] → (found_from m text order k at ≡ Rows k) × (rows_from m text order at ≡ [])
+  pub lines_end : (order : Order) (m k at : ℕ) → drop at text ≡ [] → (found_from m text order k at ≡ Ok k) × (rows_from m text order at ≡ [])
   unfolding found_from rows_from
   lines_end order m k at e =
       let l : length (drop at text) ≡ 0 = ap length e in
       let p : length text ≤ at = omega (arith, length-drop at text) in
       go m (le-ltb at (length text) p)
     where
-      go : (m : ℕ) → ltb at (length text) ≡ false → (found_from m text order k at ≡ Rows k) × (rows_from m text order at ≡ [])
+      go : (m : ℕ) → ltb at (length text) ≡ false → (found_from m text order k at ≡ Ok k) × (rows_from m text order at ≡ [])
       go zero q = (rw q, refl)
       go (suc m) q = (rw q, rw q)
 

@@ -1,10 +1,10 @@
 -- What reading finds of a text, by the writing alone (document 01, "Where a call stops", 20 to 23): for each answer the texts that it is given for.
 -- Assumes nothing.
-use Rattle.std.specs.Prelude.{◌≡◌, List, ◌++◌, ℕ, ◌<◌, ◌≤◌, length}
+use Rattle.std.specs.Prelude.{◌≡◌, List, ◌++◌, ℕ, ◌<◌, ◌≤◌, length, Result, Ok, Err}
 use Rattle.terms.specs.declared.Row.{Row}
 use Rattle.sheets.specs.declared.Order.{Order}
-use Rattle.sheets.specs.declared.Sheet.{Sheet}
-use Rattle.sheets.specs.declared.Sheet.TheVariants.{TooLong, WrongNames, TooMany, WrongLine, Rows}
+use Rattle.sheets.specs.declared.SheetError.{SheetError}
+use Rattle.sheets.specs.declared.SheetError.TheVariants.{TooLong, WrongNames, TooMany, WrongLine}
 use Rattle.sheets.specs.Writing.{Spelling, names_line, line_in, IsOrder, SmallRow, LinesOf, SheetOf}
 
 -- A text begins with these bytes, whatever stands behind them.
@@ -52,15 +52,15 @@ pub record SheetOfLength (n : ℕ) (text : List ℕ) : Type 0 where
   pub sheet : SheetOf text rows
 
 -- The texts for which each answer is given: 20, 21, 22 at row k, 23, or n rows read.
-abbrev pub FoundAs : Sheet → List ℕ → Type 0
-FoundAs TooLong text = 16384 < length text
-FoundAs WrongNames text = (length text ≤ 16384) × NamesOtherwise text
-FoundAs (WrongLine k) text = (length text ≤ 16384) × WrongLineAt k text
-FoundAs TooMany text = (length text ≤ 16384) × LinesOver text
-FoundAs (Rows n) text = SheetOfLength n text
+abbrev pub FoundAs : Result ℕ SheetError → List ℕ → Type 0
+FoundAs (Err TooLong) text = 16384 < length text
+FoundAs (Err WrongNames) text = (length text ≤ 16384) × NamesOtherwise text
+FoundAs (Err (WrongLine k)) text = (length text ≤ 16384) × WrongLineAt k text
+FoundAs (Err TooMany) text = (length text ≤ 16384) × LinesOver text
+FoundAs (Ok n) text = SheetOfLength n text
 
 -- A text for which one of these answers is given, and no other.
 pub record OneAnswer (text : List ℕ) : Type 0 where
-  pub answer : Sheet
+  pub answer : Result ℕ SheetError
   pub given : FoundAs answer text
-  pub only : (other : Sheet) → FoundAs other text → other ≡ answer
+  pub only : (other : Result ℕ SheetError) → FoundAs other text → other ≡ answer

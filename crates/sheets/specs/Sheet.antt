@@ -1,9 +1,9 @@
 -- What a sheet is (document 01, "Sheet and program"): a line of names, then at most 512 lines of values.
-use Rattle.std.specs.Prelude.{◌≡◌, cond, List, [], ◌∷◌, ℕ, zero, suc, ◌+◌, ltb, length}
+use Rattle.std.specs.Prelude.{◌≡◌, cond, List, [], ◌∷◌, ℕ, zero, suc, ◌+◌, ltb, length, Result, Ok, Err}
 use Rattle.terms.specs.declared.Row.{Row}
 use Rattle.sheets.specs.declared.Order.{Order}
-use Rattle.sheets.specs.declared.Sheet.{Sheet}
-use Rattle.sheets.specs.declared.Sheet.TheVariants.{TooLong, WrongNames, TooMany, WrongLine, Rows}
+use Rattle.sheets.specs.declared.SheetError.{SheetError}
+use Rattle.sheets.specs.declared.SheetError.TheVariants.{TooLong, WrongNames, TooMany, WrongLine}
 use Rattle.sheets.specs.Text.{LineFound, Values, NoLine, NamesFound, InOrder, NoNames, line_at, names_at}
 
 -- What follows a line, by whether it is one.
@@ -12,10 +12,10 @@ by_line (Values row at) next other = next row at
 by_line NoLine next other = other
 
 -- What is found of the lines from a place on, the first of them being line k, where n more may stand.
-unfoldable pub found_from : ℕ → List ℕ → Order → ℕ → ℕ → Sheet
-found_from zero text order k at = cond (ltb at (length text)) TooMany (Rows k)
+unfoldable pub found_from : ℕ → List ℕ → Order → ℕ → ℕ → Result ℕ SheetError
+found_from zero text order k at = cond (ltb at (length text)) (Err TooMany) (Ok k)
 found_from (suc n) text order k at =
-    cond (ltb at (length text)) (by_line (line_at text order at) (λ row next. found_from n text order (k + 1) next) (WrongLine k)) (Rows k)
+    cond (ltb at (length text)) (by_line (line_at text order at) (λ row next. found_from n text order (k + 1) next) (Err (WrongLine k))) (Ok k)
 
 -- The rows of the lines from a place on, up to a wrong one, n at the most.
 unfoldable pub rows_from : ℕ → List ℕ → Order → ℕ → List Row
@@ -28,10 +28,10 @@ abbrev pub by_names : {A : Type 0} → NamesFound → (Order → ℕ → A) → 
 by_names (InOrder order at) next other = next order at
 by_names NoNames next other = other
 
-unfoldable pub sheet_found : List ℕ → Sheet
+unfoldable pub sheet_found : List ℕ → Result ℕ SheetError
 sheet_found text =
-    cond (ltb 16384 (length text)) TooLong
-    (by_names (names_at text 0) (λ order at. found_from 512 text order 0 at) WrongNames)
+    cond (ltb 16384 (length text)) (Err TooLong)
+    (by_names (names_at text 0) (λ order at. found_from 512 text order 0 at) (Err WrongNames))
 
 unfoldable pub sheet_rows : List ℕ → List Row
 sheet_rows text =
@@ -40,4 +40,4 @@ sheet_rows text =
 
 -- A text is accepted, and read as these rows.
 abbrev pub ReadAs : List ℕ → List Row → Type 0
-ReadAs text rows = (sheet_found text ≡ Rows (length rows)) × (sheet_rows text ≡ rows)
+ReadAs text rows = (sheet_found text ≡ Ok (length rows)) × (sheet_rows text ≡ rows)

@@ -16,15 +16,14 @@ pub struct Order {
     pub fourth: u16,
 }
 
-// What reading a sheet finds: too many bytes, a wrong line of names, a 513th line, a wrong line, or so many rows.
-// `sheet_number` and `sheet_row` have document 01's number and row for each.
+// Why a sheet is refused: too many bytes, a wrong line of names, a 513th line, or the first wrong line. Reading a sheet finds this or how many
+// rows it has; `sheet_number` and `sheet_row` have document 01's number and row for each.
 #[derive(Clone, Copy)]
-pub enum Sheet {
+pub enum SheetError {
     TooLong,
     WrongNames,
     TooMany,
     WrongLine(u16),
-    Rows(u16),
 }
 
 // A line of text: its first len bytes.

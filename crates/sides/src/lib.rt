@@ -21,22 +21,21 @@ pub struct Reader {
 pub fn begin(lows: &[u16], form: &[u16], piece: u16) -> Reader
     ensures { result ≡ first_in lows.now form.now piece }
 {
-    let p = pieces::piece_at(form, numbers::wide(piece));
-    let kind = p.kind;
-    if kind < 2 {
+    let p = pieces::piece_at(form, usize::from(piece));
+    if p.kind < 2 {
         return Reader {
-            piece: piece,
-            source: kind,
+            piece,
+            source: p.kind,
             step: 0,
             left: p.high,
         };
     }
-    let low = numbers::load(lows, numbers::wide(p.variable));
+    let low = numbers::load(lows, usize::from(p.variable));
     Reader {
-        piece: piece,
-        source: numbers::difference(low, p.high),
+        piece,
+        source: low.saturating_sub(p.high),
         step: 1,
-        left: numbers::difference(p.high, p.low),
+        left: p.high.saturating_sub(p.low),
     }
 }
 
@@ -53,15 +52,13 @@ pub fn next(lows: &[u16], form: &[u16], at: Reader) -> Reader
     ensures is { result ≡ next_in lows.now form.now at }
     ensures stands { StepsOn lows.now form.now at result }
 {
-    let left = at.left;
-    if left == 0 {
-        return begin(lows, form, numbers::plus(at.piece, 1));
+    if at.left == 0 {
+        return begin(lows, form, at.piece.wrapping_add(1));
     }
     Reader {
-        piece: at.piece,
-        source: numbers::plus(at.source, at.step),
-        step: at.step,
-        left: left - 1,
+        source: at.source.wrapping_add(at.step),
+        left: at.left - 1,
+        ..at
     }
 }
 
@@ -73,10 +70,9 @@ pub fn skip(at: Reader) -> Reader
     ensures { result ≡ risen 8 at }
 {
     Reader {
-        piece: at.piece,
-        source: numbers::plus(at.source, STRIDE),
-        step: at.step,
-        left: numbers::difference(at.left, STRIDE),
+        source: at.source.wrapping_add(STRIDE),
+        left: at.left.saturating_sub(STRIDE),
+        ..at
     }
 }
 
@@ -93,7 +89,7 @@ fn side_form(
     ensures { WritesSide table.now widths.now variables.now row other form.old form.new }
 {
     let own = numbers::load(widths, row);
-    let lacking = numbers::difference(numbers::load(widths, other), own);
+    let lacking = numbers::load(widths, other).saturating_sub(own);
     let zeros = appender::put_fill(form, 0, 0, lacking);
     appender::put_form(table, widths, variables, row, form, zeros);
 }
@@ -111,30 +107,25 @@ pub fn put_sides(
         left.old left.new right.old right.new result }
 {
     let row = rows::row_at(table, r);
-    let kind = row.kind;
-    if kind != terms::EQUATION {
+    if row.kind != terms::EQUATION {
         return 0;
     }
-    let a = numbers::wide(row.a);
-    let b = numbers::wide(row.b);
+    let a = usize::from(row.a);
+    let b = usize::from(row.b);
     side_form(table, widths, variables, a, b, left);
     side_form(table, widths, variables, b, a, right);
-    let width = numbers::load(widths, a);
-    numbers::wide(numbers::higher(width, numbers::load(widths, b)))
+    let width = numbers::load(widths, a).max(numbers::load(widths, b));
+    usize::from(width)
 }
 
 // The first equation from row `from` on and below row `rows`; where there is none, the greater of the two.
 pub fn next_equation(table: &[u16], from: usize, rows: usize) -> usize
     ensures { result ≡ next_equation (rows_of table.now) from rows }
 {
-    let mut r = from;
-    while r < rows {
-        let row = rows::row_at(table, r);
-        let kind = row.kind;
-        if kind == terms::EQUATION {
+    for r in from..rows {
+        if rows::row_at(table, r).kind == terms::EQUATION {
             return r;
         }
-        r += 1;
     }
-    r
+    from.max(rows)
 }

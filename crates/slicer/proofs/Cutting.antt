@@ -3,21 +3,21 @@ use mathlib.Core.Path.{◌≡◌, refl, sym, ap, ap₂, ◌∙◌, subst}
 use mathlib.Core.Logic.{◌⊎◌, inl, inr, ◌≢◌}
 use mathlib.Core.Bool.{Bool, true, false, cond, ◌||◌}
 use mathlib.Core.List.{List, [], ◌∷◌, ◌++◌}
-use Prim.Native.Nat.{ℕ, zero, suc, ◌+◌, ◌-◌, ◌*◌, ◌%◌, ◌≤◌, ◌<◌, min, max}
+use Prim.Native.Nat.{ℕ, zero, suc, ◌+◌, ◌*◌, ◌%◌, ◌≤◌, ◌<◌, min, max}
 use native.Mathlib.Omega.{arith}
 use lib.Dec.{eqb, ltb}
 use lib.ListN.{length, get_or, set, length-set}
 use lib.Seq.{get_or-set_same, get_or-set_other}
 use borrow.Author.Tests.{eq-eqb, ne_eqb, lt-ltb, le-ltb}
 use Rattle.laws.proofs.Numbers.{lt_or_le, dec_eq}
-use Rattle.terms.specs.Table.{rows_of, row_at, bits_of}
+use Rattle.terms.specs.Table.{rows_of, row_at}
 use Rattle.answers.specs.Pairs.{Pair}
 use Rattle.sides.specs.declared.Reader.{Reader}
 use Rattle.sides.specs.inner.Reading.{first_in, Stands}
 use Rattle.sides.specs.inner.Sides.{pairs_from, left_side, right_side, SidesRead}
 use Rattle.slices.specs.Along.{along, run_pairs}
-use Rattle.slices.specs.Borders.{ends_at, total, Some, none, some}
-use Rattle.slices.specs.Cut.{Slice, slice_widths, spelled_pairs, FirstCut, left_widths, right_widths}
+use Rattle.slices.specs.Borders.{ends_at, total, Some, none}
+use Rattle.slices.specs.Cut.{Slice, slice_widths, spelled_pairs, left_widths, right_widths}
 use Rattle.slices.proofs.SideBySide.{along_more, along_none}
 use Rattle.slices.proofs.Ends.{ends_past, ends_none, ends_more}
 use Rattle.slices.proofs.Cuts.{widths_more, spelled_more, total_more, some_more}

@@ -16,7 +16,7 @@ use Rattle.sides.specs.inner.Sides.{left_side, right_side, side_written}
 use Rattle.slices.specs.Borders.{ends_at}
 use Rattle.slices.specs.Cut.{Slice, slice_widths, left_widths, right_widths, FirstCut}
 use Rattle.slices.proofs.Ends.{ends_same}
-use Rattle.slicer.specs.Borders.{LeftBorder, RightBorder, AtBorders}
+use Rattle.slicer.specs.Borders.{AtBorders}
 use Rattle.slicer.specs.inner.Cutting.{slices_in, SidesStand, CutsSides}
 
 either : (a b : Bool) → a || b ≡ true → (a ≡ true) ⊎ (b ≡ true)

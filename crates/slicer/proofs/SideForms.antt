@@ -1,24 +1,23 @@
 -- A filled side in a buffer, as its normal form: the sources that readers give, the widths of its pieces, and where these end.
 use mathlib.Core.Path.{◌≡◌, refl, sym, ap, ap₂, ◌∙◌, subst}
-use mathlib.Core.Logic.{◌⊎◌, inl, inr, ⊎_elim}
+use mathlib.Core.Logic.{⊎_elim}
 use mathlib.Core.Bool.{Bool, true, false, cond}
 use mathlib.Core.List.{List, [], ◌∷◌, ◌++◌, map}
-use Prim.Native.Nat.{ℕ, zero, suc, ◌+◌, ◌-◌, ◌*◌, ◌%◌, ◌≤◌, ◌<◌}
+use Prim.Native.Nat.{ℕ, zero, suc, ◌+◌, ◌-◌, ◌*◌, ◌≤◌, ◌<◌}
 use native.Mathlib.Omega.{arith}
-use lib.Dec.{eqb, ltb}
+use lib.Dec.{ltb}
 use lib.ListN.{length, get_or, take, length-append}
 use lib.Seq.{take-suc, take-length}
-use borrow.Author.Tests.{ltb-true, ltb-false}
+use borrow.Author.Tests.{ltb-true}
 use Rattle.laws.proofs.Numbers.{lt_or_le}
 use Rattle.laws.specs.Buffers.{overwrite}
 use Rattle.terms.specs.declared.Row.{Row}
-use Rattle.terms.specs.Table.{rows_of, row_at, bits_of, count_kind, source_of, evened}
-use Rattle.terms.specs.inner.Places.{low_source}
+use Rattle.terms.specs.Table.{rows_of, row_at, bits_of, source_of}
 use Rattle.terms.proofs.AcceptedTable.{Table, accepted_table}
 use Rattle.terms.proofs.RowKinds.{of_equation}
-use Rattle.terms.proofs.Faults.{Term, Kept, kept, kept_names, equation_names}
+use Rattle.terms.proofs.Faults.{Term, kept, kept_names, equation_names}
 use Rattle.terms.proofs.Filled.{evened-length}
-use Rattle.answers.specs.Pairs.{Pair, paired, pairs_of}
+use Rattle.answers.specs.Pairs.{paired, pairs_of}
 use Rattle.answers.proofs.Filled.{paired-count}
 use Rattle.forms.specs.declared.Piece.{Piece}
 use Rattle.forms.specs.Form.{fill, form_from, piece_width, form_width, numbers_of}
@@ -29,7 +28,7 @@ use Rattle.pieces.specs.inner.Pieces.{piece_at}
 use Rattle.pieces.proofs.Buffer.{form_piece}
 use Rattle.sides.specs.declared.Reader.{Reader}
 use Rattle.sides.specs.inner.Reading.{stepped, sources_in, spelled, first_in, Stands}
-use Rattle.sides.specs.inner.Sides.{Prepared, left_side, right_side, side_written, SidesWritten, SidesRead}
+use Rattle.sides.specs.inner.Sides.{left_side, right_side, side_written, SidesRead}
 use Rattle.sides.proofs.Reading.{stepped-length, longer}
 use Rattle.sides.proofs.Spelling.{Lies, AllLie, none as lie-none, some as lie-some, form_lies, AllBelow}
 use Rattle.sides.proofs.FormSources.{filled_below}

@@ -14,26 +14,25 @@ pub const LENGTH: usize = 3;
 fn moved(at: Reader, n: u16) -> u16
     ensures { result ≡ cond (eqb at.step 0) at.source ((at.source + n) % 65536) }
 {
-    let step = at.step;
-    if step == 0 {
-        return at.source;
+    if at.step == 0 {
+        at.source
+    } else {
+        at.source.wrapping_add(n)
     }
-    numbers::plus(at.source, n)
 }
 
 // The reader n bits on, in its piece or at the first bit of the next one.
 fn pass(lows: &[u16], form: &[u16], at: Reader, n: u16) -> Reader
     ensures { result ≡ passed_in lows.now form.now at n }
 {
-    let left = at.left;
-    if left < n {
-        return sides::begin(lows, form, numbers::plus(at.piece, 1));
-    }
-    Reader {
-        piece: at.piece,
-        source: moved(at, n),
-        step: at.step,
-        left: left - n,
+    if at.left < n {
+        sides::begin(lows, form, at.piece.wrapping_add(1))
+    } else {
+        Reader {
+            source: moved(at, n),
+            left: at.left - n,
+            ..at
+        }
     }
 }
 
@@ -41,31 +40,31 @@ fn pass(lows: &[u16], form: &[u16], at: Reader, n: u16) -> Reader
 fn put_slice(cuts: &mut [u16], i: usize, left: u16, right: u16, width: u16)
     ensures { PutsSlice i left right width cuts.old cuts.new }
 {
-    if cuts.len() / LENGTH <= i {
-        return;
+    if i < cuts.len() / LENGTH {
+        let at = i * LENGTH;
+        numbers::store(cuts, at, left);
+        numbers::store(cuts, at + 1, right);
+        numbers::store(cuts, at + 2, width);
     }
-    let at = i * LENGTH;
-    numbers::store(cuts, at, left);
-    numbers::store(cuts, at + 1, right);
-    numbers::store(cuts, at + 2, width);
 }
 
 // Writes the first cut of an equation whose filled sides have these forms and so many bits. How many slices it has.
 pub fn cut_sides(lows: &[u16], left: &[u16], right: &[u16], width: usize, cuts: &mut [u16]) -> usize
     ensures { CutsSides lows.now left.now right.now width cuts.old cuts.new result }
 {
-    let bits = numbers::lesser(width, terms::MAX_WIDTH);
+    let bits = width.min(terms::MAX_WIDTH);
     let mut a = sides::first(lows, left);
     let mut b = sides::first(lows, right);
     let mut n: usize = 0;
     let mut k: usize = 0;
+    // Kept: a `while`, since it goes from border to border by two readers, on by a found width
     while k < bits {
-        let w = numbers::plus(numbers::lower(a.left, b.left), 1);
+        let w = a.left.min(b.left).wrapping_add(1);
         put_slice(cuts, n, a.source, b.source, w);
         a = pass(lows, left, a, w);
         b = pass(lows, right, b, w);
         n += 1;
-        k = k + numbers::wide(numbers::higher(w, 1));
+        k += usize::from(w.max(1));
     }
     n
 }

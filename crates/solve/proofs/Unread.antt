@@ -10,15 +10,16 @@ use lib.Dec.{ltb}
 use lib.ListN.{length, take}
 use lib.Seq.{length-take-le, take_all}
 use borrow.Author.Tests.{ltb-true, ltb-false, lt-ltb}
+use Rattle.std.specs.Prelude.{Err}
 use Rattle.input.specs.declared.Input.{Input}
 use Rattle.input.specs.Reading.{text_of, Whole, ReadFrom}
 use Rattle.input.proofs.Reading.{whole_or_first}
-use Rattle.sheets.specs.declared.Sheet.TheVariants.{TooLong}
+use Rattle.sheets.specs.declared.SheetError.TheVariants.{TooLong}
 use Rattle.sheets.specs.Sheet.{sheet_found, sheet_rows}
 use Rattle.sheets.specs.Call.{sheet_record}
 use Rattle.sheets.specs.Program.{text_record, program_record, program_text}
 
-too_long : (text : List ℕ) → ltb 16384 (length text) ≡ true → (sheet_found text ≡ TooLong) × (sheet_rows text ≡ [])
+too_long : (text : List ℕ) → ltb 16384 (length text) ≡ true → (sheet_found text ≡ Err TooLong) × (sheet_rows text ≡ [])
 unfolding sheet_found sheet_rows
 too_long text e = (rw e, rw e)
 

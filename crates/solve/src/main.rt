@@ -23,10 +23,8 @@ fn write_print(input: Input, print: &[u8], stdout: Stdout) -> bool
 fn answer(input: Input, stdout: Stdout) -> bool
     requires { Whole input }
 {
-    let bytes = input.bytes();
-    let len = input.len();
     let mut print = [0u8; printer::PRINT_ROOM];
-    let end = printer::put_print(&bytes[..len], &mut print[..]);
+    let end = printer::put_print(input.text(), &mut print[..]);
     write_print(input, &print[..end], stdout)
 }
 

@@ -2,10 +2,12 @@
 // their homes (homes).
 #![tactic(auto)]
 
-ghost use Rattle.std.specs.Prelude.{◌≡◌, ◌≤◌, suc, length};
+ghost use Rattle.std.specs.Prelude.{◌≡◌, ◌+◌, ◌≤◌, suc, length};
+ghost use Rattle.records.specs.Refusals.{record_of};
 ghost use Rattle.answers.specs.Solve.{solve_record, answer_after, work_after};
 ghost use Rattle.solver.specs.inner.Call.{Concludes, AnswersTaken, AnswersTable};
 
+use records::Refusal;
 use terms::Record;
 
 // The record of the equations that were taken, and for outcome 2 the answer's rows, four numbers each, as far as the answer table lent reaches:
@@ -23,11 +25,9 @@ pub fn conclude(
     if row < table.len() / 4 {
         return Record {
             outcome: 1,
-            pieces: 0,
-            fresh: 0,
-            free: 0,
             ties: numbers::short(ties),
             row: numbers::short(row),
+            ..records::complete(0, 0)
         };
     }
     if ties == 0 {
@@ -38,7 +38,7 @@ pub fn conclude(
         outcome: 2,
         pieces: numbers::short(counts.pieces),
         fresh: numbers::short(counts.fresh),
-        free: numbers::short(numbers::minus(bits, ties)),
+        free: numbers::short(bits.saturating_sub(ties)),
         ties: numbers::short(ties),
         row: 0,
     }
@@ -79,8 +79,8 @@ fn answer_table(
     answer_taken(table, bits, taken.row, taken.ties, links, form, answer)
 }
 
-// The same for a small table, of at most 128 variable bits: its links are few, since each is set to 0 first.
-fn answer_few(
+// The same with room for so many links: each of them is set to 0 first, so a small table has few.
+fn answer_in<const LINKS: usize>(
     table: &[u16],
     widths: &[u16],
     places: &[u16],
@@ -88,10 +88,11 @@ fn answer_few(
     form: &mut [u16],
     answer: &mut [u16],
 ) -> Record
-    ensures { bits ≤ 128 → AnswersTable table.now widths.now places.now bits (length form.old) answer.old answer.new result }
+    requires in_bounds { LINKS ≤ 4098 }
+    ensures { bits + 2 ≤ LINKS → AnswersTable table.now widths.now places.now bits (length form.old) answer.old answer.new result }
 {
-    let mut links = [0u16; 130];
-    let sources = numbers::lesser(bits, 128) + 2;
+    let mut links = [0u16; LINKS];
+    let sources = bits.saturating_add(2).min(LINKS);
     answer_table(
         table,
         widths,
@@ -103,31 +104,7 @@ fn answer_few(
     )
 }
 
-// The same for any table.
-fn answer_many(
-    table: &[u16],
-    widths: &[u16],
-    places: &[u16],
-    bits: usize,
-    form: &mut [u16],
-    answer: &mut [u16],
-) -> Record
-    ensures { AnswersTable table.now widths.now places.now bits (length form.old) answer.old answer.new result }
-{
-    let mut links = [0u16; 4098];
-    let sources = numbers::lesser(bits, terms::MAX_BITS) + 2;
-    answer_table(
-        table,
-        widths,
-        places,
-        bits,
-        &mut links[..sources],
-        form,
-        answer,
-    )
-}
-
-// The answer of a table that was checked and placed.
+// The answer of a table that was checked and placed: one of at most 128 variable bits is small.
 pub fn solve_placed(
     table: &[u16],
     widths: &[u16],
@@ -139,9 +116,39 @@ pub fn solve_placed(
     ensures { AnswersTable table.now widths.now places.now bits (length form.old) answer.old answer.new result }
 {
     if bits <= 128 {
-        return answer_few(table, widths, places, bits, form, answer);
+        answer_in::<130>(table, widths, places, bits, form, answer)
+    } else {
+        answer_in::<4098>(table, widths, places, bits, form, answer)
     }
-    answer_many(table, widths, places, bits, form, answer)
+}
+
+// A way to answer a table that was checked and placed.
+pub trait Solving {
+    fn answer(
+        table: &[u16],
+        widths: &[u16],
+        places: &[u16],
+        bits: usize,
+        form: &mut [u16],
+        answer: &mut [u16],
+    ) -> Record
+        ensures { AnswersTable table.now widths.now places.now bits (length form.old) answer.old answer.new result };
+}
+
+// The way of this crate: the classes of single bits.
+pub struct BitByBit;
+
+impl Solving for BitByBit {
+    fn answer(
+        table: &[u16],
+        widths: &[u16],
+        places: &[u16],
+        bits: usize,
+        form: &mut [u16],
+        answer: &mut [u16],
+    ) -> Record {
+        solve_placed(table, widths, places, bits, form, answer)
+    }
 }
 
 // How many numbers the answer table has at least, and how many the work area.
@@ -149,26 +156,45 @@ pub const ANSWER: usize = 24576;
 
 pub const MEMORY: usize = 16384;
 
-// Solves a table: the record, for outcome 2 the answer table, and a work area that is 0 again.
+// Solves a table in one of the ways: the record, or why the call stops, for outcome 2 the answer table, and a work area that is 0 again.
+fn try_solve<S: Solving>(
+    table: &[u16],
+    answer: &mut [u16],
+    work: &mut [u16],
+) -> Result<Record, Refusal>
+    ensures record { record_of result ≡ solve_record table.now (length answer.old) (length work.old) }
+    ensures answer { answer.new ≡ answer_after table.now answer.old (length work.old) }
+    ensures work { work.new ≡ work_after table.now (length answer.old) work.old }
+{
+    if answer.len() < ANSWER {
+        return Err(Refusal::Room);
+    }
+    if work.len() < MEMORY {
+        return Err(Refusal::Room);
+    }
+    let mut widths = [0u16; 512];
+    let mut places = [0u16; 578];
+    checker::check_and_place(table, &mut widths, &mut places)?;
+    let bits = usize::from(places[checker::BITS]);
+    let found = S::answer(table, &widths, &places, bits, work, answer);
+    work.fill(0);
+    Ok(found)
+}
+
+// The same, with the record of where it stops.
+pub fn solve_by<S: Solving>(table: &[u16], answer: &mut [u16], work: &mut [u16]) -> Record
+    ensures record { result ≡ solve_record table.now (length answer.old) (length work.old) }
+    ensures answer { answer.new ≡ answer_after table.now answer.old (length work.old) }
+    ensures work { work.new ≡ work_after table.now (length answer.old) work.old }
+{
+    try_solve::<S>(table, answer, work).unwrap_or_else(Refusal::record)
+}
+
+// Solves a table bit by bit.
 pub fn solve(table: &[u16], answer: &mut [u16], work: &mut [u16]) -> Record
     ensures record { result ≡ solve_record table.now (length answer.old) (length work.old) }
     ensures answer { answer.new ≡ answer_after table.now answer.old (length work.old) }
     ensures work { work.new ≡ work_after table.now (length answer.old) work.old }
 {
-    if answer.len() < ANSWER {
-        return records::refuse(10, 0);
-    }
-    if work.len() < MEMORY {
-        return records::refuse(10, 0);
-    }
-    let mut widths = [0u16; 512];
-    let mut places = [0u16; 578];
-    let fault = checker::check_and_place(table, &mut widths[..], &mut places[..]);
-    if !records::accepted(fault) {
-        return records::fault_record(fault);
-    }
-    let bits = numbers::wide(places[checker::BITS]);
-    let found = solve_placed(table, &widths[..], &places[..], bits, work, answer);
-    numbers::clear(work);
-    found
+    solve_by::<BitByBit>(table, answer, work)
 }

@@ -24,33 +24,23 @@ const STRIDE: usize = 8;
 fn alike(links: &[u16], a: Reader, b: Reader) -> bool
     ensures { TellsAlike links.now a b result }
 {
-    if a.left < sides::STRIDE {
+    if a.left < sides::STRIDE || b.left < sides::STRIDE {
         return false;
     }
-    if b.left < sides::STRIDE {
+    let s = usize::from(a.source);
+    let t = usize::from(b.source);
+    if links.len() < s + STRIDE || links.len() < t + STRIDE {
         return false;
     }
-    let s = numbers::wide(a.source);
-    let t = numbers::wide(b.source);
-    if links.len() < s + STRIDE {
-        return false;
-    }
-    if links.len() < t + STRIDE {
-        return false;
-    }
-    if a.step != 1 {
-        return false;
-    }
-    if b.step != 1 {
+    if a.step != 1 || b.step != 1 {
         return false;
     }
     let x = &links[s..s + STRIDE];
     let y = &links[t..t + STRIDE];
     let mut same: usize = 0;
-    let mut i: usize = 0;
-    while i < STRIDE {
-        same += numbers::one_if(x[i], y[i]);
-        i += 1;
+    // Kept: the new form is no plainer: all() would leave at the first pair that differs, and this count of eight has no branch.
+    for i in 0..STRIDE {
+        same += usize::from(x[i] == y[i]);
     }
     same == STRIDE
 }
@@ -72,12 +62,13 @@ pub fn take_equations(
     ensures classes { TakesEquations table.now widths.now variables.now lows.now from to (length left.old) (length right.old) links.old links.new result.row result.ties }
     ensures forms { LeavesForms table.now widths.now variables.now from to left.old left.new right.old right.new result.row }
 {
-    let rows = numbers::lesser(to, terms::MAX_ROWS);
+    let rows = to.min(terms::MAX_ROWS);
     let mut ties: usize = 0;
     let mut r = sides::next_equation(table, from, rows);
+    // Kept: the new form is no plainer: the loop steps by a found length, to the next equation and, within it, by one pair or by eight.
     'solve: while r < rows {
         let pairs = sides::put_sides(table, widths, variables, r, left, right);
-        let width = numbers::lesser(pairs, terms::MAX_WIDTH);
+        let width = pairs.min(terms::MAX_WIDTH);
         let mut a = sides::first(lows, left);
         let mut b = sides::first(lows, right);
         let mut found: usize = 0;
@@ -86,7 +77,7 @@ pub fn take_equations(
             if alike(links, a, b) {
                 a = sides::skip(a);
                 b = sides::skip(b);
-                k = numbers::lesser(k + STRIDE, width);
+                k = (k + STRIDE).min(width);
             } else {
                 match classes::take_pair(links, a.source, b.source) {
                     classes::Pairing::Nothing => {}

@@ -1,6 +1,7 @@
 -- Fixed bits as a mask and a value: one bit more behind those that are there. Assumes nothing.
 use mathlib.Core.Path.{◌≡◌, refl, sym, ◌∙◌, ap, ap₂, subst}
-use mathlib.Core.Bool.{Bool, true, not, ◌&&◌, cond, and_assoc}
+use mir.Val.{bool_byte}
+use mathlib.Core.Bool.{Bool, true, false, not, ◌&&◌, cond, and_assoc}
 use mathlib.Core.List.{List}
 use mathlib.Core.Logic.{◌⊎◌, inl, inr, ◌≢◌}
 use Prim.Native.Nat.{ℕ, zero, suc, ◌+◌, ◌-◌, ◌*◌, ◌/◌, ◌%◌, ◌^◌, ◌≤◌, ◌<◌, min}
@@ -22,6 +23,11 @@ use Rattle.groups.specs.inner.Counts.{linked}
 use Rattle.groups.proofs.Rows.{four_other, four_first, four_second, four_third, below_same, place_bit}
 use Rattle.words.specs.inner.Sizes.{has_fixed, fixed_rows}
 use Rattle.words.specs.inner.Plan.{fixed_test, fixed_bit, FixedBits, FixedRowPut, FixedPut}
+
+-- a test as a number
+pub byte_is : (b : Bool) → bool_byte b ≡ cond b 1 0
+byte_is true = refl
+byte_is false = refl
 
 -- two numbers by their halves and their last bits
 digits_same : (x y a b : ℕ) → a ≤ 1 → b ≤ 1 → eqb (x * 2 + a) (2 * y + b) ≡ eqb a b && eqb x y

@@ -1,8 +1,8 @@
 -- A window's words counted row by row: what is counted and what the rest of the rows will give is what all give. And what rule 41 says of
 -- them. Assumes nothing.
-use mathlib.Core.Path.{◌≡◌, refl}
+use mathlib.Core.Path.{◌≡◌, refl, sym, ◌∙◌}
 use mathlib.Core.Bool.{Bool, true, false, not, ◌||◌, cond, or-true, or-false}
-use mathlib.Core.Logic.{◌≢◌}
+use mathlib.Core.Logic.{◌≢◌, ◌⊎◌, inl, inr}
 use mathlib.Core.List.{List, ◌∷◌}
 use Prim.Native.Nat.{ℕ, suc, ◌+◌, ◌≤◌, ◌<◌}
 use native.Mathlib.Omega.{arith}
@@ -11,13 +11,15 @@ use lib.ListN.{length, drop, drop_of_length-le}
 use lib.Seq.{drop-cons}
 use lib.Dec.{eqb}
 use borrow.Author.Tests.{eq-eqb, ne_eqb}
+use Rattle.laws.proofs.Numbers.{dec_eq}
+use Rattle.std.specs.Prelude.{Some, None}
 use Rattle.terms.specs.declared.Row.{Row}
 use Rattle.terms.specs.Table.{no_row, row_at, count_kind}
 use Rattle.terms.proofs.RowKinds.{of_variable, of_other}
 use Rattle.answers.specs.Answer.{variable_widths}
 use Rattle.windows.specs.Words.{sixteens}
 use Rattle.windows.specs.Call.{breaks41}
-use Rattle.words.specs.inner.Windows.{window_of}
+use Rattle.words.specs.inner.Windows.{window_of, some_window}
 
 -- What all give, where n words are counted before these rows.
 unfoldable pub window_from : ℕ → List Row → ℕ
@@ -70,3 +72,30 @@ window_there t k e n = go (sixteens (variable_widths t)) refl e
     go : (b : Bool) → sixteens (variable_widths t) ≡ b → k ≡ cond b (count_kind 0 t) 0 → (b ≡ true) × (k ≡ count_kind 0 t)
     go true h q = (refl, q)
     go false h q = absurd (n q)
+
+-- ---- the same as an option
+pub some_here : (t : List Row) (k : ℕ) → k ≢ 0 → k ≡ window_of t → Some k ≡ some_window t
+unfolding some_window
+some_here t k n e = rw (← e, ne_eqb k 0 n)
+
+pub none_here : (t : List Row) → window_of t ≡ 0 → None ≡ some_window t
+unfolding some_window
+none_here t e = rw (eq-eqb (window_of t) 0 e)
+
+pub some_words : (t : List Row) (k : ℕ) → Some k ≡ some_window t → (k ≡ window_of t) × (k ≢ 0)
+unfolding some_window
+some_words t k e = go (dec_eq (window_of t) 0)
+  where
+    go : (window_of t ≡ 0) ⊎ (window_of t ≡ 0 → ⊥) → (k ≡ window_of t) × (k ≢ 0)
+    go (inl z) = cc (e, eq-eqb (window_of t) 0 z)
+    go (inr z) =
+        let same : k ≡ window_of t = cc (e, ne_eqb (window_of t) 0 z) in
+        (same, λ n. z (sym same ∙ n))
+
+pub no_words : (t : List Row) → None ≡ some_window t → window_of t ≡ 0
+unfolding some_window
+no_words t e = go (dec_eq (window_of t) 0)
+  where
+    go : (window_of t ≡ 0) ⊎ (window_of t ≡ 0 → ⊥) → window_of t ≡ 0
+    go (inl z) = z
+    go (inr z) = cc (e, ne_eqb (window_of t) 0 z)

@@ -7,11 +7,12 @@ ghost use Rattle.laws.specs.Lists.{below};
 ghost use Rattle.groups.specs.inner.Places.{equal_test};
 ghost use Rattle.groups.specs.inner.Counts.{linked};
 ghost use Rattle.terms.specs.Table.{rows_of};
-ghost use Rattle.words.specs.inner.Windows.{window_of};
+ghost use Rattle.words.specs.inner.Windows.{some_window};
 ghost use Rattle.words.specs.inner.Sizes.{has_fixed};
 ghost use Rattle.words.specs.inner.Plan.{fixed_test, meets_plan, FixedBits, FixedRowPut, PutsFixed, PutsRows, PutsNever, Plans, Prepares};
 
 // How many numbers a plan has: row 0, and room for 64 fixed rows and 1,023 equal rows.
+// Kept: numbers of a lent buffer (no heap), of which meets_plan, Sized and Tells (specs/inner) speak by their place.
 pub const PLAN: usize = 4352;
 
 const FIXED: usize = 64;
@@ -23,14 +24,14 @@ fn number(plan: &[u16], i: usize) -> usize
     requires { i < length plan.now }
     ensures { (result ≡ get_or plan.now i 0) × (result ≤ 65535) }
 {
-    numbers::wide(plan[i])
+    usize::from(plan[i])
 }
 
 // A word of a window, 0 past its end.
 fn word(window: &[u16], x: usize) -> usize
     ensures { (result ≡ get_or window.now x 0) × (result ≤ 65535) }
 {
-    numbers::wide(numbers::load(window, x))
+    usize::from(numbers::load(window, x))
 }
 
 // Whether a window passes the tests of the fixed rows.
@@ -38,15 +39,13 @@ fn fixed_meet(plan: &[u16], window: &[u16]) -> bool
     requires { 4352 ≤ length plan.now }
     ensures { result ≡ below (min (get_or plan.now 0 0) 64) (fixed_test plan.now window.now) }
 {
-    let n = numbers::lesser(number(plan, 0), FIXED);
-    let mut j = 0;
-    while j < n {
+    let n = number(plan, 0).min(FIXED);
+    for j in 0..n {
         let at = 4 * j + 4;
         let x = word(window, number(plan, at));
         if (x & number(plan, at + 1)) != number(plan, at + 2) {
             return false;
         }
-        j += 1;
     }
     true
 }
@@ -56,9 +55,8 @@ fn equal_meet(plan: &[u16], window: &[u16]) -> bool
     requires { 4352 ≤ length plan.now }
     ensures { result ≡ below (min (get_or plan.now 1 0) 1023) (equal_test plan.now window.now) }
 {
-    let n = numbers::lesser(number(plan, 1), EQUAL);
-    let mut g = 0;
-    while g < n {
+    let n = number(plan, 1).min(EQUAL);
+    for g in 0..n {
         let at = 4 * g + 260;
         let x = word(window, number(plan, at));
         let y = word(window, number(plan, at + 1));
@@ -66,7 +64,6 @@ fn equal_meet(plan: &[u16], window: &[u16]) -> bool
         if ((x ^ (y << shift)) & number(plan, at + 3)) != 0 {
             return false;
         }
-        g += 1;
     }
     true
 }
@@ -75,13 +72,7 @@ fn equal_meet(plan: &[u16], window: &[u16]) -> bool
 pub fn meets(plan: &[u16], window: &[u16]) -> bool
     ensures { result ≡ meets_plan plan.now window.now }
 {
-    if plan.len() < PLAN {
-        return false;
-    }
-    if !fixed_meet(plan, window) {
-        return false;
-    }
-    equal_meet(plan, window)
+    PLAN <= plan.len() && fixed_meet(plan, window) && equal_meet(plan, window)
 }
 
 // The bits of a word that are fixed, and what they are.
@@ -98,14 +89,12 @@ fn fixed_bits(links: &[u16], v: usize) -> Fixed
 {
     let mut mask = 0;
     let mut value = 0;
-    let mut q = 0;
-    while q < 16 {
+    for q in 0..16 {
         let link = numbers::load(links, 16 * v + q + 2);
-        let zero = numbers::one_if(link, 0);
-        let one = numbers::one_if(link, 1);
+        let zero = usize::from(link == 0);
+        let one = usize::from(link == 1);
         mask = 2 * mask + (zero + one);
         value = 2 * value + one;
-        q += 1;
     }
     Fixed {
         mask: numbers::narrow(mask),
@@ -121,11 +110,10 @@ fn put_fixed_row(links: &[u16], v: usize, n: usize, plan: &mut [u16]) -> usize
     ensures counted { result ≡ n + cond (has_fixed (linked links.now) v) 1 0 }
 {
     let row = fixed_bits(links, v);
-    let mask = row.mask;
-    if mask == 0 {
+    if row.mask == 0 {
         return n;
     }
-    numbers::store_four(plan, 4 * n + 4, numbers::narrow(v), mask, row.value, 0);
+    numbers::store_four(plan, 4 * n + 4, numbers::narrow(v), row.mask, row.value, 0);
     n + 1
 }
 
@@ -135,10 +123,8 @@ fn put_fixed(links: &[u16], k: usize, plan: &mut [u16]) -> usize
     ensures { PutsFixed links.now k plan.old plan.new result }
 {
     let mut n = 0;
-    let mut v = 0;
-    while v < k {
+    for v in 0..k {
         n = put_fixed_row(links, v, n, plan);
-        v += 1;
     }
     n
 }
@@ -176,33 +162,29 @@ fn plan_table(
 {
     let mut form = [0u16; 4096];
     let taken = linking::table_classes(table, widths, places, &mut form[..], links);
-    let row = taken.row;
-    if row < table.len() / 4 {
+    if taken.row < table.len() / 4 {
         put_never(plan);
         return;
     }
     put_rows(links, k, plan);
 }
 
-// How many words a window has: one for each variable, if each has 16 bits; else 0.
-pub fn window_of(table: &[u16]) -> usize
-    ensures { result ≡ window_of (rows_of table.now) }
+// How many words a window has: one for each variable, if there is one and each has 16 bits.
+pub fn window_of(table: &[u16]) -> Option<usize>
+    ensures { result ≡ some_window (rows_of table.now) }
 {
     let mut k = 0;
-    let mut r = 0;
-    while r < table.len() / 4 {
+    for r in 0..table.len() / 4 {
         let row = rows::row_at(table, r);
-        let kind = row.kind;
         let width = row.a;
-        if kind == terms::VARIABLE {
+        if row.kind == terms::VARIABLE {
             if width != 16 {
-                return 0;
+                return None;
             }
             k += 1;
         }
-        r += 1;
     }
-    k
+    if k == 0 { None } else { Some(k) }
 }
 
 // The plan of a table that was checked and placed and whose variables have 16 bits each, in room for PLAN numbers: `meets` tells of a window
@@ -211,12 +193,12 @@ pub fn prepare(table: &[u16], widths: &[u16], places: &[u16], bits: usize, plan:
     ensures { Prepares table.now widths.now places.now bits plan.old plan.new }
 {
     let mut links = [0u16; 1026];
-    let sources = numbers::lesser(bits, 1024) + 2;
+    let sources = bits.min(1024) + 2;
     plan_table(
         table,
         widths,
         places,
-        numbers::lesser(bits / 16, 64),
+        (bits / 16).min(64),
         &mut links[..sources],
         plan,
     );

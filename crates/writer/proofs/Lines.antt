@@ -1,10 +1,14 @@
 -- Lines of text put behind one another. Assumes nothing.
 use mathlib.Core.Path.{◌≡◌, refl, sym, ◌∙◌, ap, ap₂, subst}
-use mathlib.Core.List.{List, [], ◌++◌}
-use Prim.Native.Nat.{ℕ, ◌+◌, ◌*◌, ◌-◌, ◌/◌, ◌<◌, ◌≤◌}
+use mathlib.Core.List.{List, [], ◌++◌, append_assoc}
+use borrow.Rule.Slice.PartMut.{put_mid}
+use Rattle.laws.proofs.Buffers.{overwrite-fits}
+use Prim.Native.Nat.{ℕ, ◌+◌, ◌*◌, ◌-◌, ◌/◌, min, ◌<◌, ◌≤◌}
 use native.Mathlib.Omega.{arith}
 use native.Mathlib.Numerals.{add-one}
-use lib.ListN.{length, get_or, drop, length-append}
+use lib.ListN.{length, get_or, take, drop, length-append}
+use lib.Seq.{length-take-le}
+use Rattle.std.proofs.lemmas.List.{drop-drop, take_min}
 use Rattle.terms.specs.declared.Record.{Record}
 use Rattle.sheets.specs.declared.Text.{Text}
 use Rattle.sheets.specs.Print.{line_of, shown, record_names, record_values, record_text}
@@ -13,6 +17,24 @@ use Rattle.sheets.proofs.PrintedText.{line-shown, line_at, lines_next, lines_end
 use Rattle.sheets.proofs.Lengths.{record_values_few, answer_values_few}
 use Rattle.sheets.specs.inner.Printed.{written}
 use Rattle.sheets.proofs.Printed.{written_none, written_more, Put, PutIn, put_kept, put_in, put_there, both_put}
+
+-- bytes copied to a part of a buffer
+pub copied : (out bytes : List ℕ) (at k : ℕ) → k ≡ length bytes → at + length bytes ≤ length out → put_mid at k out bytes ≡ written out at bytes
+unfolding written
+copied out bytes at k e room =
+    let n : length (take at out ++ bytes) ≡ at + k = omega (arith, length-append (take at out) bytes, length-take-le at out (omega arith), e) in
+    let d : drop k (drop at out) ≡ drop (length (take at out ++ bytes)) out = drop-drop k at out ∙ ap (λ (x : ℕ). drop x out) (sym n) in
+    sym
+    (overwrite-fits (take at out ++ bytes) out (omega (arith, n, e))
+    ∙ append_assoc (take at out) bytes (drop (length (take at out ++ bytes)) out)
+    ∙ ap (λ (l : List ℕ). take at out ++ (bytes ++ l)) (sym d))
+
+-- the bytes of a line, as far as its array reaches
+pub taken : (t : Text) (n : ℕ) → length t.bytes ≡ 80 → n ≡ min t.len 80 → take n t.bytes ≡ shown t
+unfolding shown
+taken t n l e =
+    let m : n ≡ min t.len (length t.bytes) = omega (arith, e, ap (λ (x : ℕ). min t.len x) l) in
+    ap (λ (x : ℕ). take x t.bytes) m ∙ take_min t.len t.bytes
 
 -- a line that was put, where it fits
 pub line_put : (t : Text) (l out out' : List ℕ) (at b : ℕ) → t ≡ line_of l → length l ≤ 80 → at + length l ≤ length out

@@ -13,10 +13,7 @@ use terms::Record;
 fn lines_fit(n: usize, room: usize, at: usize) -> bool
     ensures { result ≡ fits (n * 80) room at }
 {
-    if room < at {
-        return false;
-    }
-    n <= (room - at) / 80
+    at <= room && n <= (room - at) / 80
 }
 
 // Writes bytes, if they fit.
@@ -24,18 +21,12 @@ pub fn put_bytes(bytes: &[u8], out: &mut [u8], at: usize) -> usize
     ensures place { result ≡ behind (length out.old) at bytes.now }
     ensures bytes { out.new ≡ printed out.old at bytes.now }
 {
-    if out.len() < at {
+    if out.len() < at || out.len() - at < bytes.len() {
         return at;
     }
-    if out.len() - at < bytes.len() {
-        return at;
-    }
-    let mut i = 0;
-    while i < bytes.len() {
-        out[at + i] = bytes[i];
-        i += 1;
-    }
-    at + i
+    let end = at + bytes.len();
+    out[at..end].copy_from_slice(bytes);
+    end
 }
 
 // Writes a line, if it fits. A length past the line's array counts as the array's.
@@ -43,13 +34,8 @@ pub fn put_line(line: Text, out: &mut [u8], at: usize) -> usize
     ensures place { result ≡ behind (length out.old) at (shown line) }
     ensures bytes { out.new ≡ printed out.old at (shown line) }
 {
-    let bytes = line.bytes;
-    let all = &bytes[..];
-    let len = line.len;
-    if all.len() < len {
-        return put_bytes(all, out, at);
-    }
-    put_bytes(&all[..len], out, at)
+    let len = line.len.min(line.bytes.len());
+    put_bytes(&line.bytes[..len], out, at)
 }
 
 // Writes the two lines of a record, if two lines of 80 bytes fit.
@@ -73,8 +59,7 @@ pub fn put_rows(answer: &[u16], out: &mut [u8], at: usize) -> usize
         return at;
     }
     let mut behind = at;
-    let mut i = 0;
-    while i < answer.len() / answers::ROW {
+    for i in 0..answer.len() / answers::ROW {
         let row = i * answers::ROW;
         let line = lines::answer_values(
             numbers::load(answer, row),
@@ -85,7 +70,6 @@ pub fn put_rows(answer: &[u16], out: &mut [u8], at: usize) -> usize
             numbers::load(answer, row + 5),
         );
         behind = put_line(line, out, behind);
-        i += 1;
     }
     behind
 }

@@ -1,14 +1,10 @@
 -- `first_row` meets its contract: the rows passed, with what the rest gives, are what the whole gives. Assumes nothing.
-use Prim.Native.Nat.{◌+◌, ◌-◌, ◌/◌, ◌≤◌}
+use Prim.Native.Nat.{◌+◌}
 use mathlib.Core.Path.{◌≡◌}
-use native.Mathlib.Omega.{arith}
-use lib.ListN.{length, drop}
+use lib.ListN.{drop}
 use Rattle.answers.specs.RightSide.{row_variables, rows_before}
 use Rattle.answer_table.proofs.first_row.Given as goal
 
 abbrev pub invariant-loop-i : goal.invariant-loop-i
 invariant-loop-i l =
-    (l.i ≤ length l.used / 6) × (l.i + rows_before l.variable (drop l.i (row_variables l.used)) ≡ rows_before l.variable (row_variables l.used))
-
-abbrev pub decreases-loop-i : goal.decreases-loop-i
-decreases-loop-i l = length l.used / 6 - l.i
+    l.i + rows_before l.variable (drop l.i (row_variables l.used)) ≡ rows_before l.variable (row_variables l.used)

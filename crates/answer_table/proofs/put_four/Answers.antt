@@ -1,8 +1,7 @@
 -- `put_four` meets its contract: the columns stand side by side. Assumes nothing.
 use Rattle.answer_table.specs.inner.Rows.{four_put}
-use borrow.Author.Rules.{rules}
 use Rattle.answer_table.proofs.put_four.Goals as goal
 
 pub returns : goal.returns
 unfolding four_put
-returns c = rw (← c.wide-at.ensures.0) c.store_four.ensures
+returns c = rw (← c.from-at.ensures) c.store_four.ensures

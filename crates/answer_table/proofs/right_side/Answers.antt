@@ -5,16 +5,15 @@ use native.Mathlib.Omega.{arith}
 use lib.ListN.{take, drop}
 use Rattle.answers.specs.RightSide.{right_side, right_side_length}
 use Rattle.answers.proofs.RightSide.{part_lent}
-use borrow.Author.Rules.{rules}
 use Rattle.answer_table.proofs.right_side.Goals as goal
 
-pub overflow_add-end : goal.overflow_add-end
-overflow_add-end c =
+pub overflow_add-result : goal.overflow_add-result
+overflow_add-result c =
     let s = c.args in
     omega (arith, c.right_part-part.ensures.start, c.right_part-part.ensures.len, part_lent s.answer.now s.rows s.variable)
 
-pub offset_bounds-answer-start : goal.offset_bounds-answer-start
-offset_bounds-answer-start c =
+pub offset_bounds-answer-part : goal.offset_bounds-answer-part
+offset_bounds-answer-part c =
     let s = c.args in
     omega (arith, c.right_part-part.ensures.start, c.right_part-part.ensures.len, part_lent s.answer.now s.rows s.variable)
 

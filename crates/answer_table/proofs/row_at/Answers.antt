@@ -1,6 +1,5 @@
 -- `row_at` meets its contract: a row's four columns stand side by side. Assumes nothing.
 use Rattle.answers.proofs.AnswerNumbers.{answer-columns, answer_past}
-use borrow.Author.Rules.{rules}
 use Rattle.answer_table.proofs.row_at.Goals as goal
 
 pub returns-then-answer-i : goal.returns-then-answer-i

@@ -1,14 +1,10 @@
 -- `rows_on` meets its contract: the rows counted, with what the rest gives, are what goes on from the first. Assumes nothing.
-use Prim.Native.Nat.{◌+◌, ◌-◌, ◌/◌, ◌≤◌}
+use Prim.Native.Nat.{◌+◌}
 use mathlib.Core.Path.{◌≡◌}
-use native.Mathlib.Omega.{arith}
-use lib.ListN.{length, drop}
+use lib.ListN.{drop}
 use Rattle.answers.specs.RightSide.{row_variables, rows_on}
 use Rattle.answer_table.proofs.rows_on.Given as goal
 
 abbrev pub invariant-loop-i : goal.invariant-loop-i
 invariant-loop-i l =
-    (l.first ≤ l.i) × (l.i + rows_on l.variable (drop l.i (row_variables l.used)) ≡ l.first + rows_on l.variable (drop l.first (row_variables l.used)))
-
-abbrev pub decreases-loop-i : goal.decreases-loop-i
-decreases-loop-i l = length l.used / 6 - l.i
+    (l.i ≡ l.first + l.count) × (l.i + rows_on l.variable (drop l.i (row_variables l.used)) ≡ l.first + rows_on l.variable (drop l.first (row_variables l.used)))

@@ -1,6 +1,5 @@
 -- `mark_uneven` meets its contract: with k places passed the marks are those of the first k. Assumes nothing.
 use native.Mathlib.Omega.{arith}
-use Prim.Native.Nat.{◌-◌, ◌≤◌}
 use Rattle.borders.proofs.Sweeping.{swept_first, swept_more}
 use Rattle.borders.proofs.mark_uneven.Goals as goal
 

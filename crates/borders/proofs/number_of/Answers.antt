@@ -4,13 +4,12 @@ use mathlib.Core.Path.{◌∙◌, ap}
 use lib.ListN.{get_or}
 use borrow.Author.Tests.{lt-ltb, le-ltb}
 use Rattle.borders.specs.inner.Borders.{number_in}
-use borrow.Author.Rules.{rules}
 use Rattle.borders.proofs.number_of.Goals as goal
 
 pub returns-then-r-lt2 : goal.returns-then-r-lt2
 unfolding number_in
 returns-then-r-lt2 c = rw (lt-ltb _ _ c.if-r-lt2.true)
 
-pub returns : goal.returns
+pub returns-else-r-lt2 : goal.returns-else-r-lt2
 unfolding number_in
-returns c = rw (le-ltb _ _ c.if-r-lt2.false) (c.load.ensures ∙ ap (λ (x : ℕ). get_or c.args.numbers.now x 0) (c.wide.ensures.0 ∙ c.difference.ensures))
+returns-else-r-lt2 c = rw (le-ltb _ _ c.if-r-lt2.false) (c.load.ensures ∙ ap (λ (x : ℕ). get_or c.args.numbers.now x 0) c.from.ensures)

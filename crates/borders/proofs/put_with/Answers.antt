@@ -1,6 +1,5 @@
 -- `put_with` meets its contract: its parts together, by proofs/Answering.antt. Assumes nothing.
 use Rattle.borders.proofs.Answering.{rows_put}
-use borrow.Author.Rules.{rules}
 use Rattle.borders.proofs.put_with.Goals as goal
 
 pub returns : goal.returns

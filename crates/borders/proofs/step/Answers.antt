@@ -1,10 +1,10 @@
 -- `step` meets its contract. Assumes nothing.
+use mathlib.Core.Path.{refl}
 use Rattle.borders.proofs.Steps.{step_on, step_new}
-use borrow.Author.Rules.{rules}
 use Rattle.borders.proofs.step.Goals as goal
 
 pub returns-then-on : goal.returns-then-on
-returns-then-on c = step_on _ _ _ _ _ _ _ _ _ c.wide-at.ensures.0 c.load.ensures c.plus-begun.ensures c.if-on.true _ c.plus.ensures
+returns-then-on c = step_on _ _ _ _ _ _ _ _ _ c.from-at.ensures c.load.ensures refl c.if-on.true _ refl
 
 pub returns : goal.returns
-returns c = step_new _ _ _ _ _ _ _ _ _ c.wide-at.ensures.0 c.load.ensures c.plus-begun.ensures c.if-on.false _ _ _ _ _ _ _ c.load-r.ensures c.plus-2.ensures c.own.ensures c.plus-3.ensures c.difference.ensures c.kind_of.ensures c.number_of.ensures
+returns c = step_new _ _ _ _ _ _ _ _ _ c.from-at.ensures c.load.ensures refl c.if-on.false _ _ _ _ _ _ _ c.load-r.ensures refl c.own.ensures refl c.saturating_sub.ensures c.min.ensures c.number_of.ensures

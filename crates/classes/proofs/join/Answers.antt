@@ -21,7 +21,7 @@ returns-then-top-eq1 c =
     λ low hs ht.
     let f = a.ensures low hs in
     let g = b.ensures f.low (omega (arith, ht, a.auto.links)) in
-    taken_is _ _ _ _ _ low g.low (link_conflict _ a.new.links b.new.links _ _ a.result b.result (found_rel _ _ _ _ f) (found_rel _ _ _ _ g) c.if-a-b.false (sym c.higher-top.ensures ∙ c.if-top-eq1.true))
+    taken_is _ _ _ _ _ low g.low (link_conflict _ a.new.links b.new.links _ _ a.result b.result (found_rel _ _ _ _ f) (found_rel _ _ _ _ g) c.if-a-b.false (sym c.max-top.ensures ∙ c.if-top-eq1.true))
 
 pub returns : goal.returns
 returns c =
@@ -30,5 +30,5 @@ returns c =
     λ low hs ht.
     let f = a.ensures low hs in
     let g = b.ensures f.low (omega (arith, ht, a.auto.links)) in
-    rw (c.store.ensures, c.wide.ensures.0, c.lower.ensures, c.higher-top.ensures)
-    (taken_tie _ a.new.links b.new.links _ _ a.result b.result low (found_rel _ _ _ _ f) (found_rel _ _ _ _ g) a.auto.links b.auto.links c.if-a-b.false (λ e. c.if-top-eq1.false (c.higher-top.ensures ∙ e)))
+    rw (c.store.ensures, c.from.ensures, c.min.ensures, c.max-top.ensures)
+    (taken_tie _ a.new.links b.new.links _ _ a.result b.result low (found_rel _ _ _ _ f) (found_rel _ _ _ _ g) a.auto.links b.auto.links c.if-a-b.false (λ e. c.if-top-eq1.false (c.max-top.ensures ∙ e)))

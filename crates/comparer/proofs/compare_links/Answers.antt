@@ -1,6 +1,5 @@
 -- `compare_links` meets its contract: both directions, and the outcome. Assumes nothing.
 use Rattle.comparer.proofs.Comparing.{outcome_found}
-use borrow.Author.Rules.{rules}
 use Rattle.comparer.proofs.compare_links.Goals as goal
 
 pub returns : goal.returns

@@ -1,6 +1,5 @@
 -- `link` meets its contract: a conflict was met, or the links are settled. Assumes nothing.
 use Rattle.comparer.proofs.Comparing.{linked}
-use borrow.Author.Rules.{rules}
 use Rattle.comparer.proofs.link.Goals as goal
 
 pub returns : goal.returns

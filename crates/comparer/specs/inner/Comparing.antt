@@ -1,6 +1,7 @@
 -- What the inner functions promise of two tables compared by the classes of their bits, h those of the first and g those of the second.
-use Rattle.std.specs.Prelude.{◌≡◌, Bool, false, not, ◌&&◌, ◌||◌, ◌≢◌, List, ℕ, suc, ◌+◌, ◌≤◌, eqb, length, get_or}
-use Rattle.terms.specs.declared.Record.{Record}
+use Rattle.std.specs.Prelude.{◌≡◌, Bool, false, not, ◌&&◌, ◌||◌, List, ℕ, suc, ◌+◌, ◌≤◌, eqb, length, get_or, Result, Ok, Err, ⊤}
+use Rattle.records.specs.declared.Refusal.{Refusal}
+use Rattle.records.specs.Refusals.{refusal_record}
 use Rattle.terms.specs.declared.Row.{Row}
 use Rattle.terms.specs.Faults.{Accepted, first_fault}
 use Rattle.terms.specs.Table.{rows_of, bits_of}
@@ -42,9 +43,8 @@ Compares first second widths places bits found =
     Placed first widths places → 512 ≤ length widths → first_fault second ≡ Accepted → bits ≡ bits_of (rows_of first) → bits ≡ bits_of (rows_of second)
     → found ≡ comparison (rows_of first) (rows_of second)
 
--- Where a comparison with a first table that is accepted stops, with room for the work: at the second's fault or at other variables, with this
--- record, if its outcome is not 0. Else the second is accepted and has the same variables.
-pub record SecondStop (first second : List ℕ) (r : Record) : Type 0 where
-  pub stopped : r.outcome ≢ 0 → first_fault first ≡ Accepted → (work : List ℕ) → 16384 ≤ length work → StoppedWith first second work r
-  pub accepted : r.outcome ≡ 0 → first_fault second ≡ Accepted
-  pub same-variables : r.outcome ≡ 0 → variable_widths (rows_of first) ≡ variable_widths (rows_of second)
+-- Whether a comparison with a first table that is accepted goes on: then the second is accepted and has the same variables. Or where it stops,
+-- with room for the work: at the second's fault or at other variables, with its record.
+abbrev pub SecondStop : List ℕ → List ℕ → Result ⊤ Refusal → Type 0
+SecondStop first second (Err r) = first_fault first ≡ Accepted → (work : List ℕ) → 16384 ≤ length work → StoppedWith first second work (refusal_record r)
+SecondStop first second (Ok _) = (first_fault second ≡ Accepted) × (variable_widths (rows_of first) ≡ variable_widths (rows_of second))

@@ -1,7 +1,5 @@
 -- `has_line` meets its contract: what is left to search says what the whole search says. Assumes nothing.
-use mathlib.Core.Path.{◌≡◌, sym, ◌∙◌, ap}
-use Prim.Native.Nat.{◌-◌}
-use native.Mathlib.Omega.{arith}
+use mathlib.Core.Path.{sym, ◌∙◌, ap}
 use Rattle.terms.specs.Table.{of_line}
 use Rattle.copies.proofs.Revised.{some_here, some_passed, some_end}
 use Rattle.copies.proofs.has_line.Goals as goal

@@ -1,7 +1,6 @@
 -- `leave_off` meets its contract. Assumes nothing.
 use mathlib.Core.Path.{sym, ◌∙◌}
 use Rattle.copies.proofs.Revised.{off_stored, off_not}
-use borrow.Author.Rules.{rules}
 use Rattle.copies.proofs.leave_off.Goals as goal
 
 pub returns-then-is_revised : goal.returns-then-is_revised

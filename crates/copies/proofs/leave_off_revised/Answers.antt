@@ -1,6 +1,4 @@
 -- `leave_off_revised` meets its contract: the invariant is `Counted`, of proofs/Revised.antt. Assumes nothing.
-use Prim.Native.Nat.{◌-◌}
-use native.Mathlib.Omega.{arith}
 use Rattle.copies.proofs.Revised.{counted_first, counted_more, counted_done}
 use Rattle.copies.proofs.leave_off_revised.Goals as goal
 
@@ -9,9 +7,9 @@ loop-r-init c = counted_first _
 
 pub loop-r-preserved : goal.loop-r-preserved
 loop-r-preserved c =
-    counted_more _ _ _ c.loop-r.invariant _ c.lesser-rows.ensures.0 c.loop-r-test.true _
+    counted_more _ _ _ c.loop-r.invariant _ c.min-rows.ensures c.loop-r-test.true _
     c.leave_off.auto.table
     c.leave_off.ensures
 
 pub returns : goal.returns
-returns c = λ few. counted_done _ _ _ c.loop-r.invariant _ c.lesser-rows.ensures.0 few c.loop-r-test.false
+returns c = λ few. counted_done _ _ _ c.loop-r.invariant _ c.min-rows.ensures few c.loop-r-test.false

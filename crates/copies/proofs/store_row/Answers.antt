@@ -1,8 +1,7 @@
 -- `store_row` meets its contract. Assumes nothing.
 use Rattle.copies.specs.inner.Shortened.{stored_row}
-use borrow.Author.Rules.{rules}
 use Rattle.copies.proofs.store_row.Goals as goal
 
 pub returns : goal.returns
 unfolding stored_row
-returns c = rw (← c.lesser-at.ensures.0) c.store_four.ensures
+returns c = rw (← c.min-at.ensures) c.store_four.ensures

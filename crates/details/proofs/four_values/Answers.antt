@@ -1,11 +1,13 @@
 -- `four_values` meets its contract: its numbers one behind the other. Assumes nothing.
 use mathlib.Core.List.{◌++◌}
+use mathlib.Core.Path.{refl}
 use Prim.Native.Nat.{ℕ, ◌≤◌}
 use native.Mathlib.Omega.{arith}
 use lib.ListN.{length}
 use Rattle.sheets.specs.Print.{field}
 use Rattle.sheets.proofs.Lengths.{field_few, field_more}
-use Rattle.lines.proofs.Pushing.{whole_line, push_both}
+use Rattle.lines.specs.inner.Push.{fields}
+use Rattle.lines.proofs.Pushing.{whole_line}
 use Rattle.details.specs.inner.Printing.{four_line}
 use Rattle.details.proofs.four_values.Goals as goal
 
@@ -16,11 +18,6 @@ four-few a b c d =
     omega (arith, l)
 
 pub returns : goal.returns
-unfolding four_line
+unfolding four_line fields
 returns c =
-    whole_line _ _ _
-    (four-few _ _ _ _)
-    c.empty.ensures
-    (push_both _ _ _ _ _ c.put_number-t1.ensures
-    (push_both _ _ _ _ _ c.put_number-t2.ensures
-    (push_both _ _ _ _ _ c.put_number-t3.ensures c.put_number.ensures)))
+    whole_line _ _ _ (four-few _ _ _ _) refl (rw (← c.from.ensures, ← c.from-2.ensures, ← c.from-3.ensures, ← c.from-4.ensures) c.values.ensures)

@@ -1,13 +1,9 @@
 -- `put_pieces` meets its contract: the lines of the first i pieces are put. Assumes nothing.
 use mathlib.Core.Path.{◌≡◌}
-use Prim.Native.Nat.{◌-◌, ◌≤◌}
 use lib.ListN.{length}
 use Rattle.details.specs.inner.Printing.{pieces_behind, pieces_put}
 use Rattle.details.proofs.put_pieces.Given as goal
 
 abbrev pub invariant-loop-i : goal.invariant-loop-i
 invariant-loop-i l =
-    (l.i ≤ l.n) × (length l.out ≡ length l.initial.out) × (l.behind ≡ pieces_behind (length l.initial.out) l.at l.form l.i) × (l.out ≡ pieces_put l.initial.out l.at l.form l.i)
-
-abbrev pub decreases-loop-i : goal.decreases-loop-i
-decreases-loop-i l = l.n - l.i
+    (length l.out ≡ length l.initial.out) × (l.behind ≡ pieces_behind (length l.initial.out) l.at l.form l.i) × (l.out ≡ pieces_put l.initial.out l.at l.form l.i)

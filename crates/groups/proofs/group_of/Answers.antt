@@ -1,6 +1,5 @@
 -- `group_of` meets its contract, for each way that the words are turned. Assumes nothing.
 use native.Mathlib.Omega.{arith}
-use borrow.Author.Rules.{rules}
 use Rattle.groups.proofs.Groups.{group_up, group_down}
 use Rattle.groups.proofs.group_of.Goals as goal
 

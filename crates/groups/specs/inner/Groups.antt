@@ -1,5 +1,5 @@
 -- How the equal rows of a plan are made: place by place, each to the row of its two words and their shift.
-use Rattle.std.specs.Prelude.{◌≡◌, Bool, not, ◌&&◌, cond, List, ℕ, zero, suc, ◌+◌, ◌-◌, ◌*◌, ◌/◌, ◌%◌, ◌^◌, ◌≤◌, ◌<◌, eqb, leb, get_or}
+use Rattle.std.specs.Prelude.{◌≡◌, Bool, not, ◌&&◌, cond, List, Option, Some, None, ℕ, zero, suc, ◌+◌, ◌-◌, ◌*◌, ◌/◌, ◌%◌, ◌^◌, ◌≤◌, ◌<◌, eqb, leb, get_or}
 use Rattle.std.specs.Int.Bits.{bit_and, bit_xor}
 use Rattle.laws.specs.Lists.{below, tally}
 use Rattle.laws.specs.Bools.{implies}
@@ -40,10 +40,10 @@ same_key a b c x y shift = eqb a x && (eqb b y && eqb c shift)
 unfoldable pub is_row_of : List ℕ → ℕ → ℕ → ℕ → ℕ → Bool
 is_row_of plan x y shift g = same_key (get_or plan (4 * g + 260) 0) (get_or plan (4 * g + 261) 0) (get_or plan (4 * g + 262) 0) x y shift
 
--- The last of the rows from .. n that is one; `none` if there is none.
-unfoldable pub last_row : List ℕ → ℕ → ℕ → ℕ → ℕ → ℕ → ℕ → ℕ
-last_row plan x y shift from none zero = none
-last_row plan x y shift from none (suc g) = cond (leb from g && is_row_of plan x y shift g) g (last_row plan x y shift from none g)
+-- The last of the rows from .. n that is one.
+unfoldable pub last_row : List ℕ → ℕ → ℕ → ℕ → ℕ → ℕ → Option ℕ
+last_row plan x y shift from zero = None
+last_row plan x y shift from (suc g) = cond (leb from g && is_row_of plan x y shift g) (Some g) (last_row plan x y shift from g)
 
 -- Whether there is none of the rows from .. count.
 unfoldable pub no_row : List ℕ → ℕ → ℕ → ℕ → ℕ → ℕ → Bool

@@ -1,8 +1,7 @@
 -- `copy_home` meets its contract: two numbers read and stored. Assumes nothing.
-use native.Mathlib.Omega.{arith}
-use Rattle.homes.proofs.Stores.{home_stored}
-use borrow.Author.Rules.{rules}
+use Rattle.homes.specs.inner.Homes.{home_copied}
 use Rattle.homes.proofs.copy_home.Goals as goal
 
 pub returns : goal.returns
-returns c = λ h k. home_stored c.args.answer.now _ _ _ _ c.wide-source.ensures.0 c.wide-target.ensures.0
+unfolding home_copied
+returns c = rw (c.store-2.ensures, c.store.ensures, c.load-home.ensures, c.load-high.ensures, c.from-source.ensures, c.from-target.ensures)

@@ -1,6 +1,5 @@
 -- `homes_fine` meets its contract. Assumes nothing.
 use Rattle.homes.proofs.Testing.{tests_homes}
-use borrow.Author.Rules.{rules}
 use Rattle.homes.proofs.homes_fine.Goals as goal
 
 pub returns : goal.returns

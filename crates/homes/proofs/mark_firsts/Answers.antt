@@ -1,6 +1,4 @@
 -- `mark_firsts` meets its contract: the invariant is `Marking`, of proofs/Testing.antt. Assumes nothing.
-use Prim.Native.Nat.{◌-◌}
-use native.Mathlib.Omega.{arith}
 use Rattle.homes.proofs.Testing.{marking_done}
 use Rattle.homes.proofs.mark_firsts.Goals as goal
 

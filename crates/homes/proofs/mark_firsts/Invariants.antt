@@ -1,11 +1,6 @@
 -- `mark_firsts` meets its contract: the invariant is `Marking`, of proofs/Testing.antt. Assumes nothing.
-use Prim.Native.Nat.{◌-◌}
-use native.Mathlib.Omega.{arith}
 use Rattle.homes.proofs.Testing.{Marking}
 use Rattle.homes.proofs.mark_firsts.Given as goal
 
 abbrev pub invariant-loop-i : goal.invariant-loop-i
 invariant-loop-i l = Marking l.rows l.answer l.initial.firsts l.firsts l.seen l.i
-
-abbrev pub decreases-loop-i : goal.decreases-loop-i
-decreases-loop-i l = l.rows - l.i

@@ -1,6 +1,5 @@
 -- `put_homes` meets its contract. Assumes nothing.
 use Rattle.homes.proofs.Tables.{puts_homes}
-use borrow.Author.Rules.{rules}
 use Rattle.homes.proofs.put_homes.Goals as goal
 
 pub returns : goal.returns

@@ -1,8 +1,7 @@
 -- `put_row` meets its contract: six stores side by side. Assumes nothing.
-use native.Mathlib.Omega.{arith}
-use Rattle.homes.proofs.Stores.{row_stored}
-use borrow.Author.Rules.{rules}
+use Rattle.homes.specs.inner.Homes.{row_put}
 use Rattle.homes.proofs.put_row.Goals as goal
 
 pub returns : goal.returns
-returns c = λ h. row_stored c.args.answer.now _ _ _ _ c.wide-at.ensures.0
+unfolding row_put
+returns c = rw (c.store-2.ensures, c.store.ensures, c.store_four.ensures, c.from-at.ensures)

@@ -8,10 +8,10 @@ pub loop-i-init : goal.loop-i-init
 loop-i-init c = testing_first _ _ _
 
 pub returns-then-not-home_fine : goal.returns-then-not-home_fine
-returns-then-not-home_fine c = testing_bad _ _ _ _ _ _ c.loop-i.invariant c.loop-i-test.true _ c.wide.ensures.0 _ c.row_at-row.ensures _ c.width_on-passed.ensures _ c.home_row-from.ensures _ c.difference.ensures (sym c.home_fine.ensures ∙ c.if-not-home_fine.true)
+returns-then-not-home_fine c = testing_bad _ _ _ _ _ _ c.loop-i.invariant c.loop-i-test.true _ c.from.ensures _ c.row_at-row.ensures _ c.width_on-passed.ensures _ c.home_row-from.ensures _ c.saturating_sub.ensures (sym c.home_fine.ensures ∙ c.if-not-home_fine.true)
 
 pub loop-i-preserved : goal.loop-i-preserved
-loop-i-preserved c = testing_more _ _ _ _ _ _ c.loop-i.invariant c.loop-i-test.true _ c.wide.ensures.0 _ c.row_at-row.ensures _ c.width_on-passed.ensures _ c.home_row-from.ensures _ c.difference.ensures (sym c.home_fine.ensures ∙ c.if-not-home_fine.false)
+loop-i-preserved c = testing_more _ _ _ _ _ _ c.loop-i.invariant c.loop-i-test.true _ c.from.ensures _ c.row_at-row.ensures _ c.width_on-passed.ensures _ c.home_row-from.ensures _ c.saturating_sub.ensures (sym c.home_fine.ensures ∙ c.if-not-home_fine.false)
 
 pub returns : goal.returns
 returns c = testing_done _ _ _ _ _ _ c.loop-i.invariant (omega (arith, c.loop-i-test.false))

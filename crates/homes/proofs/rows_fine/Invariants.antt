@@ -1,11 +1,6 @@
 -- `rows_fine` meets its contract: the invariant is `Testing`, of proofs/Testing.antt. Assumes nothing.
-use mathlib.Core.Path.{◌∙◌}
-use native.Mathlib.Omega.{arith}
 use Rattle.homes.proofs.Testing.{Testing}
 use Rattle.homes.proofs.rows_fine.Given as goal
 
 abbrev pub invariant-loop-i : goal.invariant-loop-i
 invariant-loop-i l = Testing l.rows l.answer l.firsts l.passed l.variable l.i
-
-abbrev pub decreases-loop-i : goal.decreases-loop-i
-decreases-loop-i l = l.i

@@ -1,11 +1,6 @@
 -- `set_homes` meets its contract: the invariant is `Setting`, of proofs/Setting.antt. Assumes nothing.
-use Prim.Native.Nat.{◌-◌}
-use native.Mathlib.Omega.{arith}
 use Rattle.homes.proofs.Setting.{Setting}
 use Rattle.homes.proofs.set_homes.Given as goal
 
 abbrev pub invariant-loop-i : goal.invariant-loop-i
 invariant-loop-i l = Setting l.rows l.initial.answer l.answer l.initial.firsts l.firsts l.seen l.i
-
-abbrev pub decreases-loop-i : goal.decreases-loop-i
-decreases-loop-i l = l.rows - l.i

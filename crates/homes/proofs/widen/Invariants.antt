@@ -1,10 +1,6 @@
 -- `widen` meets its contract: the invariant is `Widening`, of proofs/Widening.antt. Assumes nothing.
-use native.Mathlib.Omega.{arith}
 use Rattle.homes.proofs.Widening.{Widening}
 use Rattle.homes.proofs.widen.Given as goal
 
 abbrev pub invariant-loop-i : goal.invariant-loop-i
 invariant-loop-i l = Widening l.rows l.initial.answer l.answer l.passed l.variable l.i
-
-abbrev pub decreases-loop-i : goal.decreases-loop-i
-decreases-loop-i l = l.i

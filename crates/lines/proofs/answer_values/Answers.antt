@@ -1,18 +1,13 @@
 -- `answer_values` meets its contract: its numbers one behind the other. Assumes nothing.
+use Rattle.lines.specs.inner.Push.{fields}
+use Rattle.lines.proofs.Pushing.{whole_line}
 use Rattle.sheets.specs.Print.{answer_values}
-use Rattle.lines.proofs.Pushing.{whole_line, push_both}
 use Rattle.sheets.proofs.Lengths.{answer_values_few}
-use borrow.Author.Rules.{rules}
+use mathlib.Core.Path.{refl}
 use Rattle.lines.proofs.answer_values.Goals as goal
 
 pub returns : goal.returns
-unfolding answer_values
+unfolding answer_values fields
 returns c =
-    whole_line _ _ _
-    (answer_values_few _ _ _ _ _ _)
-    c.empty.ensures
-    (push_both _ _ _ _ _ c.put_number-t1.ensures
-    (push_both _ _ _ _ _ c.put_number-t2.ensures
-    (push_both _ _ _ _ _ c.put_number-t3.ensures
-    (push_both _ _ _ _ _ c.put_number-t4.ensures
-    (push_both _ _ _ _ _ c.put_number-t5.ensures c.put_number.ensures)))))
+    whole_line _ _ _ (answer_values_few _ _ _ _ _ _) refl
+    (rw (← c.from.ensures, ← c.from-2.ensures, ← c.from-3.ensures, ← c.from-4.ensures, ← c.from-5.ensures, ← c.from-6.ensures) c.values.ensures)

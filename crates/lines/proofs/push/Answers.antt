@@ -3,13 +3,12 @@ use mathlib.Core.Path.{refl}
 use native.Mathlib.Omega.{arith}
 use borrow.Author.Tests.{lt-ltb, le-ltb}
 use Rattle.lines.specs.inner.Push.{pushed}
-use borrow.Author.Rules.{rules}
 use Rattle.lines.proofs.push.Goals as goal
 
-pub returns-then-at-ge80 : goal.returns-then-at-ge80
+pub returns-else-t-lt80 : goal.returns-else-t-lt80
 unfolding pushed
-returns-then-at-ge80 c = rw (le-ltb c.args.t.len 80 (omega (arith, c.if-at-ge80.true))) refl
+returns-else-t-lt80 c = rw (le-ltb c.args.t.len 80 (omega (arith, c.if-t-lt80.false))) refl
 
-pub returns : goal.returns
+pub returns-then-t-lt80 : goal.returns-then-t-lt80
 unfolding pushed
-returns c = rw (lt-ltb c.args.t.len 80 (omega (arith, c.if-at-ge80.false))) refl
+returns-then-t-lt80 c = rw (lt-ltb c.args.t.len 80 (omega (arith, c.if-t-lt80.true))) refl

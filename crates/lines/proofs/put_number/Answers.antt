@@ -1,6 +1,5 @@
 -- `put_number` meets its contract. Assumes nothing.
 use Rattle.lines.proofs.Pushing.{push_field}
-use borrow.Author.Rules.{rules}
 use Rattle.lines.proofs.put_number.Goals as goal
 
 pub returns : goal.returns

@@ -1,7 +1,6 @@
 -- `record_names` meets its contract. Assumes nothing.
 use native.Mathlib.Omega.{arith}
 use Rattle.lines.proofs.Pushing.{whole_line}
-use borrow.Author.Rules.{rules}
 use Rattle.lines.proofs.record_names.Goals as goal
 
 pub returns : goal.returns

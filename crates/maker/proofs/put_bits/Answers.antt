@@ -1,6 +1,5 @@
 -- `put_bits` meets its contract: the invariant is `Putting`, of proofs/Filling.antt. Assumes nothing.
 use native.Mathlib.Omega.{arith}
-use Prim.Native.Nat.{◌-◌}
 use Rattle.maker.proofs.Filling.{putting_first, putting_more, putting_full}
 use Rattle.maker.proofs.put_bits.Goals as goal
 
@@ -11,4 +10,4 @@ pub returns-then-out-at : goal.returns-then-out-at
 returns-then-out-at c = putting_full _ _ _ _ _ _ _ _ _ c.loop-j.invariant c.loop-j-test.true c.if-out-at.true
 
 pub loop-j-preserved : goal.loop-j-preserved
-loop-j-preserved c = putting_more _ _ _ _ _ _ _ _ _ c.loop-j.invariant c.loop-j-test.true _ _ (omega (arith, c.wide.ensures.0, c.wide-in-loop-j.ensures.0)) c.byte_of.ensures
+loop-j-preserved c = putting_more _ _ _ _ _ _ _ _ _ c.loop-j.invariant c.loop-j-test.true _ _ (omega (arith, c.from.ensures, c.from-in-loop-j.ensures)) c.byte_of.ensures

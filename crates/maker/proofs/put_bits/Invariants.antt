@@ -1,11 +1,6 @@
 -- `put_bits` meets its contract: the invariant is `Putting`, of proofs/Filling.antt. Assumes nothing.
-use native.Mathlib.Omega.{arith}
-use Prim.Native.Nat.{◌-◌}
 use Rattle.maker.proofs.Filling.{Putting}
 use Rattle.maker.proofs.put_bits.Given as goal
 
 abbrev pub invariant-loop-j : goal.invariant-loop-j
 invariant-loop-j l = Putting l.fresh l.start l.kind l.width l.initial.out l.from l.out l.at l.j
-
-abbrev pub decreases-loop-j : goal.decreases-loop-j
-decreases-loop-j l = l.width - l.j

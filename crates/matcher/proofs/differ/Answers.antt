@@ -1,7 +1,6 @@
 -- `differ` meets its contract: the bits so far are none exactly if the numbers so far are equal. Assumes nothing.
-use borrow.Author.Rules.{rules}
 use mathlib.Core.Path.{◌≡◌, refl, ◌∙◌, ap}
-use Prim.Native.Nat.{ℕ, ◌-◌, ◌≤◌, min}
+use Prim.Native.Nat.{ℕ, min}
 use native.Mathlib.Omega.{arith}
 use lib.Dec.{eqb}
 use lib.ListN.{length, get_or}
@@ -12,19 +11,15 @@ use Rattle.matcher.proofs.Comparing.{differ_more}
 use Rattle.matcher.proofs.differ.Goals as goal
 
 pub loop-i-init : goal.loop-i-init
-loop-i-init c = (omega arith, none_first _)
+loop-i-init c = none_first _
 
 pub loop-i-preserved : goal.loop-i-preserved
-loop-i-preserved c =
-    let l = c.loop-i in
-    let a = c.args.a.now in
-    let b = c.args.b.now in
-    (omega (arith, c.loop-i-test.true), differ_more a b l.i l.bits _ _ refl refl l.invariant.1)
+loop-i-preserved c = differ_more c.args.a.now c.args.b.now c.loop-i.i c.loop-i.bits _ _ refl refl c.loop-i.invariant
 
 pub returns : goal.returns
 unfolding agree
 returns c =
     let a = c.args.a.now in
     let b = c.args.b.now in
-    let whole : c.loop-i.i ≡ min (length a) (length b) = omega (arith, c.loop-i.invariant.0, c.loop-i-test.false, c.lesser-n.ensures.0) in
-    c.loop-i.invariant.1 ∙ ap (λ (k : ℕ). below k (λ j. eqb (get_or a j 0) (get_or b j 0))) whole
+    let whole : c.loop-i.i ≡ min (length a) (length b) = omega (arith, c.loop-i-test.false, c.loop-i.auto.i-end, c.min-i-end.ensures) in
+    c.loop-i.invariant ∙ ap (λ (k : ℕ). below k (λ j. eqb (get_or a j 0) (get_or b j 0))) whole

@@ -4,7 +4,6 @@ use mathlib.Core.Bool.{true}
 use Prim.Native.Nat.{ℕ, ◌≤◌}
 use native.Mathlib.Omega.{arith}
 use lib.ListN.{length, replicate}
-use borrow.Author.Rules.{rules}
 use Rattle.terms.specs.Faults.{Accepted, is_accepted, first_fault}
 use Rattle.terms.specs.Calls.{fault_record}
 use Rattle.terms.specs.inner.Placed.{Placed}
@@ -61,14 +60,14 @@ pub returns-then-other : goal.returns-then-other
 returns-then-other c =
     let placed = is-placed c.before.before.before.before.before.before.before.before.before.before.before.before.before.before.before in
     let room = memory c.before.before.before.before.before.before.before.before.before.before.before.before.before.before.before.before.before.before.before.before.before.before.before.before.before in
-    let other = c.is_other-other.ensures placed (c.wide-bits.ensures.0 ∙ placed.bits_are) (omega (arith, room)) in
+    let other = c.is_other-other.ensures placed (c.from-bits.ensures ∙ placed.bits_are) (omega (arith, room)) in
     record {
       «record» = (stop_46 _ _ _ c.args.pattern.now _ room placed.numbered.accepted (is-formed c.before.before.before.before.before.before.before.before.before.before.before.before.before.before) (sym other ∙ c.if-other.true) _ _ c.refuse-then-other.ensures
-          (c.clear.ensures ∙ ap (λ (n : ℕ). replicate n 0) c.is_other-other.auto.work)).0;
+          (c.fill.ensures.after (λ y e. e) ∙ ap (λ (n : ℕ). replicate n 0) c.is_other-other.auto.work)).0;
       pattern = (stop_46 _ _ _ c.args.pattern.now _ room placed.numbered.accepted (is-formed c.before.before.before.before.before.before.before.before.before.before.before.before.before.before) (sym other ∙ c.if-other.true) _ _ c.refuse-then-other.ensures
-          (c.clear.ensures ∙ ap (λ (n : ℕ). replicate n 0) c.is_other-other.auto.work)).1.0;
+          (c.fill.ensures.after (λ y e. e) ∙ ap (λ (n : ℕ). replicate n 0) c.is_other-other.auto.work)).1.0;
       work = (stop_46 _ _ _ c.args.pattern.now _ room placed.numbered.accepted (is-formed c.before.before.before.before.before.before.before.before.before.before.before.before.before.before) (sym other ∙ c.if-other.true) _ _ c.refuse-then-other.ensures
-          (c.clear.ensures ∙ ap (λ (n : ℕ). replicate n 0) c.is_other-other.auto.work)).1.1;
+          (c.fill.ensures.after (λ y e. e) ∙ ap (λ (n : ℕ). replicate n 0) c.is_other-other.auto.work)).1.1;
     }
 
 pub returns : goal.returns
@@ -77,12 +76,12 @@ returns c =
     let room = memory c.before.before.before.before.before.before.before.before.before.before.before.before.before.before.before.before.before.before.before.before.before.before.before.before.before.before.before.before.before in
     let formed = is-formed c.before.before.before.before.before.before.before.before.before.before.before.before.before.before.before.before.before.before in
     let F = c.form_of-found.ensures (omega arith) in
-    let other = c.is_other-other.ensures placed (c.wide-bits.ensures.0 ∙ placed.bits_are) (omega (arith, room)) in
+    let other = c.is_other-other.ensures placed (c.from-bits.ensures ∙ placed.bits_are) (omega (arith, room)) in
     record {
       «record» = (fill_right _ _ _ _ _ room placed.numbered.accepted formed (sym other ∙ c.if-other.false) _ _ _
-          (form_filled _ _ _ formed _ _ (c.fill.ensures (F.shaped formed))) (c.clear.ensures ∙ ap (λ (n : ℕ). replicate n 0) c.is_other-other.auto.work)).0;
+          (form_filled _ _ _ formed _ _ (c.fill-2.ensures (F.shaped formed))) (c.fill.ensures.after (λ y e. e) ∙ ap (λ (n : ℕ). replicate n 0) c.is_other-other.auto.work)).0;
       pattern = (fill_right _ _ _ _ _ room placed.numbered.accepted formed (sym other ∙ c.if-other.false) _ _ _
-          (form_filled _ _ _ formed _ _ (c.fill.ensures (F.shaped formed))) (c.clear.ensures ∙ ap (λ (n : ℕ). replicate n 0) c.is_other-other.auto.work)).1.0;
+          (form_filled _ _ _ formed _ _ (c.fill-2.ensures (F.shaped formed))) (c.fill.ensures.after (λ y e. e) ∙ ap (λ (n : ℕ). replicate n 0) c.is_other-other.auto.work)).1.0;
       work = (fill_right _ _ _ _ _ room placed.numbered.accepted formed (sym other ∙ c.if-other.false) _ _ _
-          (form_filled _ _ _ formed _ _ (c.fill.ensures (F.shaped formed))) (c.clear.ensures ∙ ap (λ (n : ℕ). replicate n 0) c.is_other-other.auto.work)).1.1;
+          (form_filled _ _ _ formed _ _ (c.fill-2.ensures (F.shaped formed))) (c.fill.ensures.after (λ y e. e) ∙ ap (λ (n : ℕ). replicate n 0) c.is_other-other.auto.work)).1.1;
     }

@@ -1,7 +1,6 @@
 -- `conclude` meets its contract. Assumes nothing.
 use mathlib.Core.Path.{refl}
 use Rattle.merger.specs.inner.Passing.{concluded}
-use borrow.Author.Rules.{rules}
 use Rattle.merger.proofs.conclude.Goals as goal
 
 pub returns : goal.returns

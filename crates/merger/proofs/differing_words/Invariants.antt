@@ -1,15 +1,10 @@
 -- `differing_words` meets its contract: the bits of the words before place i, and those of the rest, are those of all. Assumes nothing.
-use mathlib.Core.Path.{◌≡◌, ◌∙◌}
-use Prim.Native.Nat.{◌+◌, ◌-◌, ◌*◌, ◌≤◌}
-use native.Mathlib.Omega.{arith}
-use lib.ListN.{length, drop}
-use borrow.Author.Rules.{rules}
+use mathlib.Core.Path.{◌≡◌}
+use Prim.Native.Nat.{◌+◌, ◌*◌, ◌≤◌}
+use lib.ListN.{drop}
 use Rattle.recordings.specs.Recordings.{differing_words}
 use Rattle.merger.proofs.differing_words.Given as goal
 
 abbrev pub invariant-loop-i : goal.invariant-loop-i
 invariant-loop-i l =
-    (l.i ≤ length l.sent) × (l.bits ≤ 16 * l.i) × (l.bits + differing_words (drop l.i l.sent) (drop l.i l.received) ≡ differing_words l.sent l.received)
-
-abbrev pub decreases-loop-i : goal.decreases-loop-i
-decreases-loop-i l = length l.sent - l.i
+    (l.bits ≤ 16 * l.i) × (l.bits + differing_words (drop l.i l.sent) (drop l.i l.received) ≡ differing_words l.sent l.received)

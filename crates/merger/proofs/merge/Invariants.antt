@@ -1,5 +1,5 @@
 -- `merge` meets its contract: what was found and what the rests will give is what all give. Assumes nothing.
-use mathlib.Core.Path.{◌≡◌, ◌∙◌}
+use mathlib.Core.Path.{◌≡◌}
 use Prim.Native.Nat.{◌+◌, ◌-◌}
 use lib.ListN.{length}
 use Rattle.merger.proofs.Passing.{Reached}

@@ -1,6 +1,5 @@
 -- `rises` meets its contract: from the record at i on the counters rise exactly if all do. Assumes nothing.
 use mathlib.Core.Path.{sym, ◌∙◌}
-use Prim.Native.Nat.{◌-◌, ◌≤◌}
 use native.Mathlib.Omega.{arith}
 use Rattle.merger.proofs.Rests.{rise_falls, rise_last}
 use Rattle.merger.proofs.Passing.{tested_next}

@@ -1,7 +1,5 @@
 -- `rises` meets its contract: from the record at i on the counters rise exactly if all do. Assumes nothing.
-use mathlib.Core.Path.{◌∙◌}
 use Prim.Native.Nat.{◌-◌, ◌≤◌}
-use native.Mathlib.Omega.{arith}
 use lib.ListN.{length}
 use Rattle.merger.specs.inner.Passing.{Tested}
 use Rattle.merger.proofs.rises.Given as goal

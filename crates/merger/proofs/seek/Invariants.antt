@@ -1,6 +1,5 @@
 -- `seek` meets its contract: what was passed is in no pair. Assumes nothing.
 use Prim.Native.Nat.{◌+◌, ◌-◌}
-use native.Mathlib.Omega.{arith}
 use lib.ListN.{length}
 use Rattle.merger.proofs.Passing.{Seeking}
 use Rattle.merger.proofs.seek.Given as goal

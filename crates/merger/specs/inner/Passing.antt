@@ -1,5 +1,5 @@
 -- What the inner functions of the call promise: a pass over two recordings, from offset to offset.
-use Rattle.std.specs.Prelude.{◌≡◌, Bool, true, false, cond, List, [], ◌∷◌, ◌++◌, ◌⊎◌, ℕ, suc, ◌+◌, ◌-◌, ◌*◌, ◌/◌, ◌%◌, ◌≤◌, ◌<◌, eqb, ltb, length, get_or, take, drop}
+use Rattle.std.specs.Prelude.{◌≡◌, Bool, true, false, ◌||◌, cond, List, [], ◌∷◌, ◌++◌, ◌⊎◌, Option, MatchOption, ℕ, suc, ◌+◌, ◌-◌, ◌*◌, ◌/◌, ◌%◌, ◌≤◌, ◌<◌, eqb, ltb, length, get_or, take, drop}
 use Rattle.terms.specs.declared.Record.{Record}
 use Rattle.words.specs.inner.Plan.{meets_plan}
 use Rattle.recordings.specs.Recordings.{Match, frames_of, matched, rising, differing_words, differences, first_counter}
@@ -24,7 +24,6 @@ pair_taken plan a b counter s =
       broken = s.broken + cond (meets_plan plan (a ++ b)) 0 1;
       first = cond (meets_plan plan (a ++ b)) s.first (cond (eqb s.broken 0) counter s.first);
       ties = s.ties + differing_words a b;
-      fell = s.fell;
     }
 
 -- The words of the record at an offset; a state after the pair at its offsets.
@@ -36,7 +35,7 @@ pair_at plan k sent received s = pair_taken plan (words_at k sent s.i) (words_at
 
 -- A state with other offsets.
 abbrev pub moved_to : Pass → ℕ → ℕ → Pass
-moved_to s i j = record { i = i; j = j; pairs = s.pairs; broken = s.broken; first = s.first; ties = s.ties; fell = s.fell }
+moved_to s i j = record { i = i; j = j; pairs = s.pairs; broken = s.broken; first = s.first; ties = s.ties }
 
 -- Whether the counter at an offset is above c, where there is one.
 unfoldable pub climbs_at : List ℕ → ℕ → ℕ → Bool
@@ -70,18 +69,19 @@ pub record Passed (k : ℕ) (sent received : List ℕ) (s r : Pass) : Type 0 whe
 abbrev pub Stands : List ℕ → List ℕ → Pass → Type 0
 Stands sent received s = (length sent ≤ s.i) ⊎ ((length received ≤ s.j) ⊎ (get_or received s.j 0 ≡ get_or sent s.i 0))
 
--- A state r to which a search from s has come: it stands at a pair or at an end, or a counter fell.
+-- A state r to which a search from s has come: it stands at a pair or at an end. A search that has come to none: a counter fell.
 pub record Sought (k : ℕ) (sent received : List ℕ) (s r : Pass) : Type 0 where
   pub on : s.i ≤ r.i
   pub received_on : s.j ≤ r.j
-  pub fell : r.fell ≡ true → Falls k sent received
-  pub passed : r.fell ≡ false → Passed k sent received s r
-  pub stands : r.fell ≡ false → Stands sent received r
+  pub passed : Passed k sent received s r
+  pub stands : Stands sent received r
+
+abbrev pub Seeks : ℕ → List ℕ → List ℕ → Pass → Option Pass → Type 0
+Seeks k sent received s r = MatchOption r (Falls k sent received) (λ r. Sought k sent received s r)
 
 -- A state at which a pair can be taken.
 pub record Stepping (k : ℕ) (sent received : List ℕ) (s : Pass) : Type 0 where
   pub countable : Countable s
-  pub rose : s.fell ≡ false
   pub few_words : k ≤ 32
   pub sent_short : length sent ≤ 65535
   pub received_short : length received ≤ 65535
@@ -108,17 +108,19 @@ pub record Merges (plan : List ℕ) (ms : List Match) (s : Pass) : Type 0 where
   pub first_is : s.first ≡ first_counter (failing plan ms)
   pub ties_are : s.ties ≡ differences ms
 
--- A pass that has ended: a counter fell; or one recording has ended, the counters rise so far, and where both rise all was found.
+-- A pass that has ended: one recording has ended, the counters rise so far, and where both rise all was found. A pass that has not: a counter
+-- fell.
 pub record Merged (plan : List ℕ) (k : ℕ) (sent received : List ℕ) (s : Pass) : Type 0 where
-  pub fell : s.fell ≡ true → Falls k sent received
-  pub sent_tested : s.fell ≡ false → Tested k sent s.i
-  pub received_tested : s.fell ≡ false → Tested k received s.j
-  pub found : s.fell ≡ false → Rise k sent received → Merges plan (matched (frames_of k sent) (frames_of k received)) s
+  pub sent_tested : Tested k sent s.i
+  pub received_tested : Tested k received s.j
+  pub found : Rise k sent received → Merges plan (matched (frames_of k sent) (frames_of k received)) s
 
--- The number at which a call with n variables of 16 bits stops before its pass, 0 where it does not.
-unfoldable pub stop_number : ℕ → List ℕ → List ℕ → ℕ
-stop_number n sent received =
-    cond (eqb n 0) 47 (cond (eqb (n % 2) 1) 47 (cond (wrong_recording (n / 2) sent) 47 (cond (wrong_recording (n / 2) received) 47 0)))
+abbrev pub MergesAll : List ℕ → ℕ → List ℕ → List ℕ → Option Pass → Type 0
+MergesAll plan k sent received r = MatchOption r (Falls k sent received) (λ s. Merged plan k sent received s)
+
+-- Whether a call with n variables of 16 bits stops before its pass.
+unfoldable pub stops : ℕ → List ℕ → List ℕ → Bool
+stops n sent received = eqb n 0 || (eqb (n % 2) 1 || (wrong_recording (n / 2) sent || wrong_recording (n / 2) received))
 
 -- The record of a pass over two recordings of so many records.
 unfoldable pub concluded : ℕ → ℕ → Pass → Record

@@ -27,13 +27,13 @@ returns-then-listed-i c =
     c.blank_line-then-listed-i.ensures
     ∙ at_blank _ _ _ _ _ _ c.requires c.listed_count-listed.ensures c.page_count.ensures (omega (arith, c.if-page_count-number.false)) c.if-line-eq0.false (omega (arith, c.if-listed-i.true))
 
-pub returns-then-outcome-ne-SOLVED : goal.returns-then-outcome-ne-SOLVED
-returns-then-outcome-ne-SOLVED c =
+pub returns-then-found-ne-SOLVED : goal.returns-then-found-ne-SOLVED
+returns-then-found-ne-SOLVED c =
     c.outcome_line.ensures
-    ∙ at_outcome _ _ _ _ _ _ c.requires c.listed_count-listed.ensures c.page_count.ensures (omega (arith, c.if-page_count-number.false)) c.if-line-eq0.false c.if-listed-i.false c.if-outcome-ne-SOLVED.true
+    ∙ at_outcome _ _ _ _ _ _ c.requires c.listed_count-listed.ensures c.page_count.ensures (omega (arith, c.if-page_count-number.false)) c.if-line-eq0.false c.if-listed-i.false c.if-found-ne-SOLVED.true
 
 pub returns : goal.returns
 returns c =
     c.piece_line.ensures
     ∙ ap piece_line c.row_at.ensures
-    ∙ at_piece _ _ _ _ _ _ c.requires c.listed_count-listed.ensures c.page_count.ensures (omega (arith, c.if-page_count-number.false)) c.if-line-eq0.false c.if-listed-i.false c.if-outcome-ne-SOLVED.false
+    ∙ at_piece _ _ _ _ _ _ c.requires c.listed_count-listed.ensures c.page_count.ensures (omega (arith, c.if-page_count-number.false)) c.if-line-eq0.false c.if-listed-i.false c.if-found-ne-SOLVED.false

@@ -1,13 +1,12 @@
 -- `put_piece` meets its contract. Assumes nothing.
 use borrow.Author.Tests.{lt-ltb, le-ltb}
 use Rattle.pieces.specs.inner.Pieces.{put_piece}
-use borrow.Author.Rules.{rules}
 use Rattle.pieces.proofs.put_piece.Goals as goal
 
-pub returns-then-out-i : goal.returns-then-out-i
+pub returns-then-i-out : goal.returns-then-i-out
 unfolding put_piece
-returns-then-out-i c = rw (le-ltb _ _ c.if-out-i.true)
+returns-then-i-out c = rw (lt-ltb _ _ c.if-i-out.true) c.store_four.ensures
 
-pub returns : goal.returns
+pub returns-else-i-out : goal.returns-else-i-out
 unfolding put_piece
-returns c = rw (lt-ltb _ _ c.if-out-i.false) c.store_four.ensures
+returns-else-i-out c = rw (le-ltb _ _ c.if-i-out.false)

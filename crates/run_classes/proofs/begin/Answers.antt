@@ -6,5 +6,5 @@ pub returns : goal.returns
 returns c =
     λ table widths placed len r₁ r₂.
     let s = c.args in
-    runs_begun table widths s.places.now s.links.now s.last.now s.first.now _ _ _ c.lesser-from.result c.narrow-sources.result placed len r₁ r₂
-    c.lesser-from.ensures.0 c.unlink.ensures c.unlink.auto.links c.narrow-sources.ensures c.start.ensures c.start.auto.last c.start.auto.first
+    runs_begun table widths s.places.now s.links.now s.last.now s.first.now _ _ _ c.min-from.result c.narrow-sources.result placed len r₁ r₂
+    c.min-from.ensures c.unlink.ensures c.unlink.auto.links c.narrow-sources.ensures c.start.ensures c.start.auto.last c.start.auto.first

@@ -22,19 +22,19 @@ loop-r-init c = (
   refl,
   λ l. next_is _ 0 _ _ c.next_equation-r.ensures l,
   λ shut g.
-      (between_next _ _ _ g.within _ _ _ _ _ (between_first _ _ _ g.within _ _ g.held refl) (next_passed _ _ _ _ _ (omega arith) (all-rows _ _ _ g.prepared g.within c.lesser-rows.ensures.0) c.next_equation-r.ensures), g.state),
+      (between_next _ _ _ g.within _ _ _ _ _ (between_first _ _ _ g.within _ _ g.held refl) (next_passed _ _ _ _ _ (omega arith) (all-rows _ _ _ g.prepared g.within c.min-rows.ensures) c.next_equation-r.ensures), g.state),
 )
 
-pub returns-then-e : goal.returns-then-e
-returns-then-e c =
+pub returns-in_default : goal.returns-in_default
+returns-in_default c =
     let o = c.loop-r in
     record {
-      equations = λ w room shut S p l r f within e.
+      equations = λ room shut S p l r f within e.
           let g : Given shut c.args.table.now c.args.widths.now c.args.variables.now c.args.lows.now c.args.to c.args.left.now c.args.right.now c.args.cuts.now c.args.links.now c.args.last.now c.args.first.now = record { cut-room = room; state = S; prepared = p; left_room = l; right_room = r; within = within; held = e } in
           let B = o.invariant.11 shut g in
-          let P = c.take_equation-e.ensures.taken p (omega (arith, c.loop-r-test.true, c.lesser-rows.ensures.0, within)) (o.invariant.10 c.loop-r-test.true) (omega (arith, l, o.invariant.4)) (omega (arith, r, o.invariant.5)) (omega (arith, room, o.invariant.6)) shut B.1 B.0.held.sources in
-          between_conflict _ _ _ within _ _ _ _ B.0 (omega (arith, c.loop-r-test.true, c.lesser-rows.ensures.0)) (P.clash c.if-e.true) _ o.invariant.3;
-      runs = λ w room shut S p l r within e same. absurd (omega (arith, same, c.loop-r-test.true, c.lesser-rows.ensures.0));
+          let P = c.in_default.ensures.conflict p (omega (arith, c.loop-r-test.true, c.min-rows.ensures, within)) (o.invariant.10 c.loop-r-test.true) (omega (arith, l, o.invariant.4)) (omega (arith, r, o.invariant.5)) (omega (arith, room, o.invariant.6)) shut B.1 B.0.held.sources in
+          between_conflict _ _ _ within _ _ _ _ B.0 (omega (arith, c.loop-r-test.true, c.min-rows.ensures)) (P.clash refl) _ o.invariant.3;
+      runs = λ room shut S p l r within e same. absurd (omega (arith, same, c.loop-r-test.true, c.min-rows.ensures));
     }
 
 pub loop-r-smaller : goal.loop-r-smaller
@@ -43,13 +43,14 @@ loop-r-smaller c = omega (arith, c.loop-r-test.true, next_forth _ _ _ _ c.next_e
 pub loop-r-preserved : goal.loop-r-preserved
 loop-r-preserved c =
     let o = c.loop-r in
-    let t = c.take_equation-e in
+    let t = c.take_equation in
+    let few = c.in-Ok.ensures.few in
     let n = c.next_equation-r-in-loop-r in
     let on = next_forth _ _ _ _ n.ensures in (
-      omega (arith, o.invariant.0, t.ensures.few.0, on),
-      omega (arith, o.invariant.1, t.ensures.few.1, on),
-      omega (arith, o.invariant.2, t.ensures.few.2, on),
-      omega (arith, o.invariant.0, t.ensures.few.0, c.loop-r-test.true, c.lesser-rows.ensures.1),
+      omega (arith, o.invariant.0, few.0, on),
+      omega (arith, o.invariant.1, few.1, on),
+      omega (arith, o.invariant.2, few.2, on),
+      omega (arith, o.invariant.0, few.0, c.loop-r-test.true, c.min-rows.ensures),
       t.auto.left ∙ o.invariant.4,
       t.auto.right ∙ o.invariant.5,
       t.auto.cuts ∙ o.invariant.6,
@@ -59,12 +60,12 @@ loop-r-preserved c =
       λ l. next_is _ (o.r + 1) _ _ n.ensures l,
       λ shut g.
           let B = o.invariant.11 shut g in
-          let low : o.r < c.args.to = omega (arith, c.loop-r-test.true, c.lesser-rows.ensures.0) in
-          let P = t.ensures.taken g.prepared (omega (arith, low, g.within)) (o.invariant.10 c.loop-r-test.true) (omega (arith, g.left_room, o.invariant.4)) (omega (arith, g.right_room, o.invariant.5)) (omega (arith, g.cut-room, o.invariant.6)) shut B.1 B.0.held.sources in (
+          let low : o.r < c.args.to = omega (arith, c.loop-r-test.true, c.min-rows.ensures) in
+          let P = c.in-Ok.ensures.taken g.prepared (omega (arith, low, g.within)) (o.invariant.10 c.loop-r-test.true) (omega (arith, g.left_room, o.invariant.4)) (omega (arith, g.right_room, o.invariant.5)) (omega (arith, g.cut-room, o.invariant.6)) shut B.1 B.0.held.sources in (
             between_next _ _ _ g.within _ _ _ (o.r + 1) _
-                (between_more _ _ _ g.within _ _ _ _ B.0 low _ _ _ _ _ (runs_taking _ shut _ _ _ _ _ _ _ B.0.held t.auto.links P c.if-e.false) (pairs_again _))
-                (next_passed _ (o.r + 1) _ _ _ (omega (arith, low)) (all-rows _ _ _ g.prepared g.within c.lesser-rows.ensures.0) n.ensures),
-            P.state c.if-e.false,
+                (between_more _ _ _ g.within _ _ _ _ B.0 low _ _ _ _ _ (runs_taking _ shut _ _ _ _ _ _ _ B.0.held t.auto.links P refl) (pairs_again _))
+                (next_passed _ (o.r + 1) _ _ _ (omega (arith, low)) (all-rows _ _ _ g.prepared g.within c.min-rows.ensures) n.ensures),
+            P.state refl,
           ),
     )
 
@@ -72,10 +73,10 @@ pub returns : goal.returns
 returns c =
     let o = c.loop-r in
     record {
-      equations = λ w room shut S p l r f within e.
+      equations = λ room shut S p l r f within e.
           let g : Given shut c.args.table.now c.args.widths.now c.args.variables.now c.args.lows.now c.args.to c.args.left.now c.args.right.now c.args.cuts.now c.args.links.now c.args.last.now c.args.first.now = record { cut-room = room; state = S; prepared = p; left_room = l; right_room = r; within = within; held = e } in
-          between_done _ _ _ within _ _ _ _ (o.invariant.11 shut g).0 (omega (arith, c.loop-r-test.false, all-rows _ _ _ p within c.lesser-rows.ensures.0)) o.invariant.3;
-      runs = λ w room shut S p l r within e same.
+          between_done _ _ _ within _ _ _ _ (o.invariant.11 shut g).0 (omega (arith, c.loop-r-test.false, all-rows _ _ _ p within c.min-rows.ensures)) o.invariant.3;
+      runs = λ room shut S p l r within e same.
           let g : Given shut c.args.table.now c.args.widths.now c.args.variables.now c.args.lows.now c.args.to c.args.left.now c.args.right.now c.args.cuts.now c.args.links.now c.args.last.now c.args.first.now = record { cut-room = room; state = S; prepared = p; left_room = l; right_room = r; within = within; held = e } in
           (o.invariant.11 shut g).1;
     }

@@ -1,5 +1,5 @@
 -- What the functions that take equations in whole pieces promise.
-use Rattle.std.specs.Prelude.{◌≡◌, Bool, true, false, List, ℕ, suc, ◌+◌, ◌≤◌, ◌<◌, length}
+use Rattle.std.specs.Prelude.{◌≡◌, Bool, true, false, List, ℕ, suc, ◌≤◌, ◌<◌, length}
 use Rattle.terms.specs.Table.{rows_of, row_at, bits_of}
 use Rattle.answers.specs.Pairs.{Pair, pairs_of}
 use Rattle.answers.specs.inner.Classes.{rep, run, links}

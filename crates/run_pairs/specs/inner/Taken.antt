@@ -1,5 +1,5 @@
 -- What the functions that take pairs in whole runs promise.
-use Rattle.std.specs.Prelude.{◌≡◌, ◌⊎◌, ◌≢◌, Bool, true, false, cond, List, ℕ, suc, ◌+◌, ◌≤◌, ◌<◌, min, max, eqb, length, get_or}
+use Rattle.std.specs.Prelude.{◌≡◌, ◌⊎◌, ◌≢◌, Bool, cond, List, ℕ, suc, ◌+◌, ◌≤◌, ◌<◌, min, max, eqb, length, get_or}
 use Rattle.answers.specs.inner.Classes.{rep, run, links}
 use Rattle.classes.specs.inner.Links.{Low, roots_of, linked}
 use Rattle.slices.specs.Along.{along, run_pairs}

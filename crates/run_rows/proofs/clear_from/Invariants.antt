@@ -1,7 +1,5 @@
 -- `clear_from` meets its contract: those passed are clear. Assumes nothing.
-use native.Mathlib.Omega.{arith}
 use Prim.Native.Nat.{◌-◌, ◌≤◌}
-use borrow.Author.Rules.{rules}
 use Rattle.run_rows.specs.inner.Lined.{AllClear}
 use Rattle.run_rows.proofs.clear_from.Given as goal
 

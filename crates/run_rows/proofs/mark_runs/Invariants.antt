@@ -1,7 +1,5 @@
 -- `mark_runs` meets its contract: run by run, the marks are those of the places passed. Assumes nothing.
-use native.Mathlib.Omega.{arith}
 use Prim.Native.Nat.{◌-◌}
-use borrow.Author.Rules.{rules}
 use Rattle.run_rows.proofs.Lining.{RunsMarked}
 use Rattle.run_rows.proofs.mark_runs.Given as goal
 

@@ -1,8 +1,5 @@
 -- `put_places` meets its contract: a place, and the stretch behind it. Assumes nothing.
-use native.Mathlib.Omega.{arith}
 use Prim.Native.Nat.{◌-◌}
-use mathlib.Core.Path.{◌∙◌}
-use borrow.Author.Rules.{rules}
 use Rattle.run_rows.proofs.Lining.{RowsGoing}
 use Rattle.run_rows.proofs.put_places.Given as goal
 

@@ -1,6 +1,5 @@
 -- `put_rows` meets its contract. Assumes nothing.
 use Rattle.run_rows.proofs.Lining.{put_all}
-use borrow.Author.Rules.{rules}
 use Rattle.run_rows.proofs.put_rows.Goals as goal
 
 pub returns : goal.returns

@@ -1,6 +1,5 @@
 -- `put_with` meets its contract: its parts together. Assumes nothing.
 use Rattle.run_rows.proofs.Lining.{rows_in_runs}
-use borrow.Author.Rules.{rules}
 use Rattle.run_rows.proofs.put_with.Goals as goal
 
 pub returns : goal.returns

@@ -14,7 +14,7 @@ loop-i-preserved c =
       r.auto.links ∙ l.invariant.0,
       r.auto.last ∙ l.invariant.1,
       r.auto.first ∙ l.invariant.2,
-      λ shut S. sweeping_more shut _ _ _ _ _ _ _ S (l.invariant.3 shut S).0 (l.invariant.3 shut S).1 l.invariant.0 l.invariant.1 l.invariant.2 c.loop-i-test.true _ c.narrow.ensures _ _ _ _ r.ensures _ _ c.higher.ensures c.wide-i.ensures.0,
+      λ shut S. sweeping_more shut _ _ _ _ _ _ _ S (l.invariant.3 shut S).0 (l.invariant.3 shut S).1 l.invariant.0 l.invariant.1 l.invariant.2 c.loop-i-test.true _ c.narrow.ensures _ _ _ _ r.ensures _ _ c.max.ensures c.from-i.ensures,
     )
 
 pub returns : goal.returns

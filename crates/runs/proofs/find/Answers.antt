@@ -1,6 +1,4 @@
 -- `find` meets its contract: the invariant is `Searching`, of proofs/Finding.antt. Assumes nothing.
-use mathlib.Core.Path.{◌≡◌}
-use Prim.Native.Nat.{◌≤◌, ◌<◌}
 use native.Mathlib.Omega.{arith}
 use Rattle.runs.proofs.Finding.{search_more, search_root, search_fixed}
 use Rattle.runs.proofs.find.Goals as goal
@@ -10,7 +8,7 @@ loop-x-preserved c =
     let l = c.loop-x in
     λ shut first R low few small some.
     search_more shut _ _ first R low few _ _ l.x l.len small (l.invariant shut first R low few small some) c.loop-x-test.true _ _ c.rest.ensures
-    c.lower-len.ensures _ _ c.wide.ensures.0 c.load-g.ensures (omega (arith, c.if-x-g.false))
+    c.min-len.ensures _ _ c.from.ensures c.load-g.ensures (omega (arith, c.if-x-g.false))
 
 pub returns-after-loop-x : goal.returns-after-loop-x
 returns-after-loop-x c =
@@ -23,4 +21,4 @@ returns-then-x-g c =
     let l = c.loop-x in
     λ shut first R low few one small some.
     search_root shut _ _ first R low few _ _ l.x l.len small (l.invariant shut first R low few small some) c.loop-x-test.true _ _ c.rest.ensures
-    c.lower-len.ensures _ _ c.wide.ensures.0 c.load-g.ensures c.if-x-g.true
+    c.min-len.ensures _ _ c.from.ensures c.load-g.ensures c.if-x-g.true

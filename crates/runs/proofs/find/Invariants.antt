@@ -1,9 +1,7 @@
 -- `find` meets its contract: the invariant is `Searching`, of proofs/Finding.antt. Assumes nothing.
-use mathlib.Core.Path.{◌≡◌}
 use mathlib.Core.Bool.{Bool}
 use mathlib.Core.List.{List}
 use Prim.Native.Nat.{ℕ, ◌≤◌, ◌<◌}
-use native.Mathlib.Omega.{arith}
 use lib.ListN.{length}
 use Rattle.classes.specs.inner.Links.{Low}
 use Rattle.runs.specs.inner.Runs.{Runs}

@@ -1,10 +1,8 @@
 -- `start` meets its contract: the invariant is `Starting`, of proofs/Starting.antt. Assumes nothing.
-use mathlib.Core.Path.{◌≡◌, ◌∙◌}
+use mathlib.Core.Path.{◌≡◌}
 use mathlib.Core.List.{List}
 use Prim.Native.Nat.{ℕ, ◌+◌, ◌-◌, ◌≤◌, max}
-use native.Mathlib.Omega.{arith}
 use lib.ListN.{length, get_or, take}
-use borrow.Author.Rules.{rules}
 use Rattle.slices.specs.Borders.{total, Some}
 use Rattle.runs.proofs.Starting.{Starting}
 use Rattle.runs.proofs.start.Given as goal

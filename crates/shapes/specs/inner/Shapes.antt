@@ -1,5 +1,5 @@
 -- What the functions that read the form of an answer table compute and promise.
-use Rattle.std.specs.Prelude.{◌≡◌, Bool, true, not, ◌&&◌, ◌||◌, cond, List, [], ℕ, ◌+◌, ◌%◌, ◌≤◌, ◌<◌, eqb, ltb, length, get_or}
+use Rattle.std.specs.Prelude.{◌≡◌, Bool, true, not, Option, is_some, unwrap_or, ◌&&◌, ◌||◌, cond, List, [], ℕ, ◌+◌, ◌%◌, ◌≤◌, ◌<◌, eqb, ltb, length, get_or}
 use Rattle.answers.specs.declared.AnswerRow.{AnswerRow}
 use Rattle.answers.specs.Answer.{is_fresh, fresh_start, free_bits, answer_row_at, answer_row_length, answer_rows_of}
 use Rattle.assignments.specs.Form.{pattern_bits, rows_fine, has_form}
@@ -60,20 +60,24 @@ pub record Shaped (rows : List AnswerRow) (starts : List ℕ) (bits free : ℕ) 
 unfoldable pub rows_form : List ℕ → Bool
 rows_form answer = eqb (length answer % answer_row_length) 0 && rows_fine [] (answer_rows_of answer)
 
+-- What was found, and nothing at all for no form.
+abbrev pub found_in : Option Found → Found
+found_in found = unwrap_or found (record { bits = 0; free = 0 })
+
 -- It was found whether a table's rows have the form, and for one whose rows have it, the counts and the starts.
-pub record FormRead (answer starts : List ℕ) (found : Found) : Type 0 where
-  pub fine_is : found.fine ≡ rows_form answer
-  pub shaped : rows_form answer ≡ true → Shaped (answer_rows_of answer) starts found.bits found.free
+pub record FormRead (answer starts : List ℕ) (found : Option Found) : Type 0 where
+  pub fine_is : is_some found ≡ rows_form answer
+  pub shaped : rows_form answer ≡ true → Shaped (answer_rows_of answer) starts (found_in found).bits (found_in found).free
 
 -- What the test of the form promises, with room for as many fresh pieces as a pattern has bits.
-abbrev pub ReadsForm : List ℕ → List ℕ → List ℕ → List ℕ → Found → Type 0
+abbrev pub ReadsForm : List ℕ → List ℕ → List ℕ → List ℕ → Option Found → Type 0
 ReadsForm answer widths starts starts' found = 4096 ≤ length widths → 4096 ≤ length starts → FormRead answer starts' found
 
 -- It was found whether a table has the form, and for one that has it, the counts and the starts.
-pub record FormFound (answer starts : List ℕ) (found : Found) : Type 0 where
-  pub fine_is : found.fine ≡ has_form answer
-  pub shaped : has_form answer ≡ true → Shaped (answer_rows_of answer) starts found.bits found.free
+pub record FormFound (answer starts : List ℕ) (found : Option Found) : Type 0 where
+  pub fine_is : is_some found ≡ has_form answer
+  pub shaped : has_form answer ≡ true → Shaped (answer_rows_of answer) starts (found_in found).bits (found_in found).free
 
 -- What the reading of the form promises, with room for as many fresh pieces as a pattern has bits.
-abbrev pub FindsForm : List ℕ → ℕ → List ℕ → Found → Type 0
+abbrev pub FindsForm : List ℕ → ℕ → List ℕ → Option Found → Type 0
 FindsForm answer room starts' found = 4096 ≤ room → FormFound answer starts' found

@@ -2,7 +2,6 @@
 use mathlib.Core.Path.{sym, subst}
 use Rattle.sides.specs.inner.Reading.{Stands}
 use Rattle.sides.proofs.Reading.{first_stands}
-use borrow.Author.Rules.{rules}
 use Rattle.sides.proofs.first.Goals as goal
 
 pub returns : goal.returns

@@ -1,8 +1,7 @@
 -- `cut_sides` meets its contract: the invariant is `Cutting`, of proofs/Cutting.antt. Assumes nothing.
-use mathlib.Core.Path.{◌≡◌, ◌∙◌}
+use mathlib.Core.Path.{◌≡◌}
 use mathlib.Core.List.{List}
 use Prim.Native.Nat.{ℕ, ◌-◌, ◌≤◌}
-use native.Mathlib.Omega.{arith}
 use lib.ListN.{length}
 use Rattle.terms.specs.Table.{rows_of, row_at}
 use Rattle.sides.specs.inner.Sides.{left_side, right_side}

@@ -1,5 +1,5 @@
 -- `answer` hands the print of what was read to `write_print`, and nothing else. Assumes nothing.
-use mathlib.Core.Path.{◌≡◌, sym, ◌∙◌, ap₂}
+use mathlib.Core.Path.{◌≡◌, sym, ◌∙◌, ap}
 use mathlib.Core.List.{List}
 use Prim.Native.Nat.{ℕ, ◌≤◌}
 use native.Mathlib.Omega.{arith}
@@ -15,9 +15,9 @@ print_put : (c : goal.After-print-2-1)
     → (c.put_print-end.result ≤ length c.put_print-end.new.out)
     × (take c.put_print-end.result c.put_print-end.new.out ≡ program_text (text_of c.args.input))
 print_put c =
-    let p = print_taken (take c.len-len.result c.bytes-bytes.result) _ c.put_print-end.new.out c.put_print-end.result
-    (c.put_print-end.ensures.length, c.put_print-end.ensures.bytes) (omega (arith, length-replicate {A = ℕ} 327920 0)) in
-    (omega (arith, p.0, c.put_print-end.auto.out), p.1 ∙ ap₂ (λ (n : ℕ) (l : List ℕ). program_text (take n l)) c.len-len.ensures c.bytes-bytes.ensures)
+    let p = print_taken _ _ c.put_print-end.new.out c.put_print-end.result (c.put_print-end.ensures.length, c.put_print-end.ensures.bytes)
+    (omega (arith, length-replicate {A = ℕ} 327920 0)) in
+    (omega (arith, p.0, c.put_print-end.auto.out), p.1 ∙ ap program_text c.text.ensures)
 
 pub slice_bounds-print-end : goal.slice_bounds-print-end
 slice_bounds-print-end c = (print_put c).0

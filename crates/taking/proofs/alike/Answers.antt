@@ -1,7 +1,4 @@
 -- `alike` meets its contract: as long as every pair so far links alike, so many do. Assumes nothing.
-use borrow.Author.Rules.{rules}
-use mathlib.Core.Path.{◌≡◌}
-use Prim.Native.Nat.{◌<◌, ◌≤◌, ◌+◌, ◌-◌}
 use native.Mathlib.Omega.{arith}
 use Rattle.taking.proofs.Passing.{alike_told}
 use Rattle.taking.proofs.alike.Goals as goal
@@ -10,8 +7,8 @@ pub returns : goal.returns
 returns c =
     let l = c.loop-i in
     alike_told _ _ _ _ _ _ _
-    c.wide-s.ensures.0
-    c.wide-t.ensures.0
+    c.from-s.ensures
+    c.from-t.ensures
     (omega (arith, c.if-a-lt-STRIDE.false))
     (omega (arith, c.if-b-lt-STRIDE.false))
     (omega (arith, c.if-links-s.false))

@@ -1,10 +1,7 @@
 -- `take_equations` meets its contract: the equations outside, their bit pairs inside, and a label that leaves both. Within an equation the
 -- readers stand at bit k of the two forms, and nothing is written to these. Assumes nothing.
-use borrow.Author.Rules.{rules}
-use mathlib.Core.Logic.{◌≢◌}
-use mathlib.Core.Path.{◌≡◌, ◌∙◌}
-use Prim.Native.Nat.{◌<◌, ◌≤◌, ◌-◌, ◌+◌, ◌*◌, ◌/◌}
-use native.Mathlib.Omega.{arith}
+use mathlib.Core.Path.{◌≡◌}
+use Prim.Native.Nat.{◌≤◌, ◌-◌, ◌+◌, ◌*◌}
 use lib.ListN.{length}
 use Rattle.terms.specs.Table.{rows_of, row_at}
 use Rattle.classes.specs.inner.Links.{roots_of}

@@ -3,20 +3,14 @@ use Prim.Native.Nat.{ℕ}
 use native.Mathlib.Omega.{arith}
 use lib.ListN.{length-replicate}
 use Rattle.words.proofs.Satisfying.{planned_never, planned_rows}
-use borrow.Author.Rules.{rules}
-use Rattle.words.proofs.plan_table.Reads as reads
-use Rattle.words.proofs.plan_table.Lts as lts
-use Rattle.linking.proofs.table_classes.Reads as table-classes-reads
-use Rattle.words.proofs.put_never.Reads as put-never-reads
-use Rattle.words.proofs.put_rows.Reads as put-rows-reads
 use Rattle.words.proofs.plan_table.Goals as goal
 
-pub returns-then-row-table : goal.returns-then-row-table
-returns-then-row-table c =
+pub returns-then-taken-table : goal.returns-then-taken-table
+returns-then-taken-table c =
     λ placed linked k sixteen room.
-    planned_never _ _ _ _ 0 c.args.plan.now _ placed.numbered.accepted (c.table_classes-taken.ensures placed (omega (arith, length-replicate {A = ℕ} 4096 0)) linked) sixteen room c.if-row-table.true c.put_never.ensures
+    planned_never _ _ _ _ 0 c.args.plan.now _ placed.numbered.accepted (c.table_classes-taken.ensures placed (omega (arith, length-replicate {A = ℕ} 4096 0)) linked) sixteen room c.if-taken-table.true c.put_never.ensures
 
 pub returns : goal.returns
 returns c =
     λ placed linked k sixteen room.
-    planned_rows _ _ _ _ _ c.args.plan.now _ placed.numbered.accepted (c.table_classes-taken.ensures placed (omega (arith, length-replicate {A = ℕ} 4096 0)) linked) sixteen room c.if-row-table.false k c.put_rows.ensures
+    planned_rows _ _ _ _ _ c.args.plan.now _ placed.numbered.accepted (c.table_classes-taken.ensures placed (omega (arith, length-replicate {A = ℕ} 4096 0)) linked) sixteen room c.if-taken-table.false k c.put_rows.ensures

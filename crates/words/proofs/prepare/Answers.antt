@@ -7,7 +7,6 @@ use lib.Seq.{length-take-le}
 use Rattle.terms.specs.Table.{rows_of, bits_of, count_kind}
 use Rattle.terms.proofs.AcceptedTable.{table_totals}
 use Rattle.windows.proofs.Sixteens.{sixteen_bits}
-use borrow.Author.Rules.{rules}
 use Rattle.words.proofs.prepare.Goals as goal
 
 pub returns : goal.returns
@@ -17,5 +16,5 @@ returns c =
     let sixteen-each : bits_of (rows_of t) ≡ 16 * count_kind 0 (rows_of t) = sixteen_bits (rows_of t) sixteen in
     let few : count_kind 0 (rows_of t) ≤ 64 = (table_totals t placed.numbered.accepted).0 in
     c.plan_table.ensures placed
-    (length-take-le (c.lesser-sources.result + 2) (replicate 1026 0) (omega (arith, c.lesser-sources.ensures.1, length-replicate {A = ℕ} 1026 0)) ∙ omega (arith, c.lesser-sources.ensures.0))
-    (omega (arith, c.lesser.ensures.0)) sixteen room
+    (length-take-le (c.min-sources.result + 2) (replicate 1026 0) (omega (arith, c.min-sources.ensures, length-replicate {A = ℕ} 1026 0)) ∙ omega (arith, c.min-sources.ensures))
+    (omega (arith, c.min.ensures)) sixteen room

@@ -1,13 +1,6 @@
 -- `put_fixed_row` meets its contract: a row behind those that are there, or none. Assumes nothing.
-use mathlib.Core.Path.{◌≡◌}
 use native.Mathlib.Omega.{arith}
 use Rattle.words.proofs.FixedRows.{row_stored, counted_one}
-use borrow.Author.Rules.{rules}
-use Rattle.words.proofs.put_fixed_row.Reads as reads
-use Rattle.words.proofs.put_fixed_row.Lts as lts
-use Rattle.numbers.proofs.narrow.Reads as narrow-reads
-use Rattle.numbers.proofs.store_four.Reads as store-four-reads
-use Rattle.words.proofs.fixed_bits.Reads as fixed-bits-reads
 use Rattle.words.proofs.put_fixed_row.Goals as goal
 
 pub returns : goal.returns

@@ -1,28 +1,19 @@
 -- `put_rows` meets its contract: the lines of the first i rows are written (`RowsPut`). Assumes nothing.
 use mathlib.Core.Path.{sym, ◌∙◌}
-use Prim.Native.Nat.{◌+◌, ◌*◌, ◌/◌, ◌≤◌, ◌<◌}
+use Prim.Native.Nat.{◌*◌, ◌/◌, ◌≤◌, ◌<◌}
 use native.Mathlib.Omega.{arith}
 use lib.ListN.{length}
 use Rattle.sheets.proofs.PrintedText.{line_at}
 use Rattle.sheets.proofs.Printed.{room_there, room_not_there, put_none, put_in}
 use Rattle.writer.proofs.Lines.{line_put, line_few, line_loaded, rows_first, rows_more, rows_done}
 use Rattle.writer.proofs.put_rows.Goals as goal
-use Rattle.writer.proofs.put_rows.Lts as lts
-use Rattle.writer.proofs.put_rows.Tie as tie
-use Rattle.writer.proofs.put_rows.Reads as reads
-
--- room for every row
-room : (d : lts.Else1 tie.the-claims reads.Pre reads.Post goal.the-invariant-loop-i goal.the-decreases-loop-i tie.handed_clauses)
-    → d.args.at + length d.args.answer.now / 6 * 80
-    ≤ length d.args.out.now
-room d = room_there _ _ _ (sym d.lines_fit.ensures ∙ d.if-not-lines_fit.false)
 
 pub returns-then-not-lines_fit : goal.returns-then-not-lines_fit
 returns-then-not-lines_fit c =
     record { place = (put_none _ _ _ _ (room_not_there _ _ _ (sym c.lines_fit.ensures ∙ c.if-not-lines_fit.true))).0; bytes = (put_none _ _ _ _ (room_not_there _ _ _ (sym c.lines_fit.ensures ∙ c.if-not-lines_fit.true))).1 }
 
 pub loop-i-init : goal.loop-i-init
-loop-i-init c = rows_first _ _ _ (room c.before)
+loop-i-init c = rows_first _ _ _ (room_there _ _ _ (sym c.lines_fit.ensures ∙ c.if-not-lines_fit.false))
 
 pub loop-i-preserved : goal.loop-i-preserved
 loop-i-preserved c =
@@ -40,9 +31,10 @@ pub returns : goal.returns
 returns c =
     let a = c.args in
     let l = c.loop-i in
+    let room = room_there _ _ _ (sym c.lines_fit.ensures ∙ c.if-not-lines_fit.false) in
     record {
-      place = (put_in _ a.out.now a.at _ _ _ (room c.before.before.before)
+      place = (put_in _ a.out.now a.at _ _ _ room
           (rows_done a.answer.now a.out.now _ _ _ l.i l.invariant (omega arith))).0;
-      bytes = (put_in _ a.out.now a.at _ _ _ (room c.before.before.before)
+      bytes = (put_in _ a.out.now a.at _ _ _ room
           (rows_done a.answer.now a.out.now _ _ _ l.i l.invariant (omega arith))).1;
     }
