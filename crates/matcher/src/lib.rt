@@ -4,9 +4,11 @@
 
 ghost use Rattle.std.specs.Prelude.{◌≡◌, ◌*◌, ◌≤◌, eqb, length};
 ghost use Rattle.areas.specs.inner.Areas.{agree};
+ghost use Rattle.records.specs.Refusals.{record_of};
 ghost use Rattle.assignments.specs.Matching.{make_record, make_after, make_work};
 ghost use Rattle.matcher.specs.inner.Matching.{ComparesPlaced};
 
+use records::Refusal;
 use terms::Record;
 
 // The bits in which two runs of numbers differ as far as both go, taken together: 0 if they agree. There is no way out of the loop: it is faster so.
@@ -73,7 +75,38 @@ fn is_other(
     }
 }
 
-// The pattern that the answer solved from a table gives at fresh bits, as bytes 0 and 1, high bit first.
+// The pattern that the answer solved from a table gives at fresh bits, as bytes 0 and 1, high bit first: its record, or why the call stops.
+fn try_pattern(
+    table: &[u16],
+    answer: &[u16],
+    fresh: &[u8],
+    pattern: &mut [u8],
+    work: &mut [u16],
+) -> Result<Record, Refusal>
+    ensures record { record_of result ≡ make_record table.now answer.now fresh.now (length pattern.old) (length work.old) }
+    ensures pattern { pattern.new ≡ make_after table.now answer.now fresh.now pattern.old (length work.old) }
+    ensures work { work.new ≡ make_work table.now answer.now fresh.now (length pattern.old) work.old }
+{
+    if work.len() < solver::MEMORY {
+        return Err(Refusal::Room);
+    }
+    let mut widths = [0u16; 512];
+    let mut places = [0u16; 578];
+    checker::check_and_place(table, &mut widths, &mut places)?;
+    let mut starts = [0u16; 4096];
+    let Some(found) = shapes::form_of(answer, &mut starts) else {
+        return Err(Refusal::Form);
+    };
+    let bits = usize::from(places[checker::BITS]);
+    let other = is_other(table, &widths, &places, bits, answer, work);
+    work.fill(0);
+    if other {
+        return Err(Refusal::OtherAnswer);
+    }
+    Ok(maker::fill(answer, found, fresh, &starts, pattern))
+}
+
+// The same, with the record of where it stops.
 pub fn make_pattern(
     table: &[u16],
     answer: &[u16],
@@ -85,25 +118,5 @@ pub fn make_pattern(
     ensures pattern { pattern.new ≡ make_after table.now answer.now fresh.now pattern.old (length work.old) }
     ensures work { work.new ≡ make_work table.now answer.now fresh.now (length pattern.old) work.old }
 {
-    if work.len() < solver::MEMORY {
-        return records::refuse(10, 0);
-    }
-    let mut widths = [0u16; 512];
-    let mut places = [0u16; 578];
-    let fault = checker::check_and_place(table, &mut widths[..], &mut places[..]);
-    let mut starts = [0u16; 4096];
-    let found = shapes::form_of(answer, &mut starts[..]);
-    if !records::accepted(fault) {
-        return records::fault_record(fault);
-    }
-    let Some(found) = found else {
-        return records::refuse(33, 0);
-    };
-    let bits = usize::from(places[checker::BITS]);
-    let other = is_other(table, &widths[..], &places[..], bits, answer, work);
-    work.fill(0);
-    if other {
-        return records::refuse(46, 0);
-    }
-    maker::fill(answer, found, fresh, &starts[..], pattern)
+    try_pattern(table, answer, fresh, pattern, work).unwrap_or_else(Refusal::record)
 }
