@@ -6,6 +6,7 @@ ghost use Rattle.std.specs.Prelude.{◌≡◌};
 ghost use Rattle.laws.specs.Buffers.{Behind};
 ghost use Rattle.maker.specs.inner.Filling.{byte_in, bytes_in, WritesRows, Fills};
 
+use records::Refusal;
 use shapes::Found;
 use terms::Record;
 
@@ -58,10 +59,10 @@ pub fn fill(
     ensures { Fills answer.now found fresh.now starts.now pattern.old pattern.new result }
 {
     if fresh.len() != usize::from(found.free) || !numbers::all_bits(fresh) {
-        return records::refuse(34, 0);
+        return Refusal::FreshBits.record();
     }
     if pattern.len() < usize::from(found.bits) {
-        return records::refuse(32, 0);
+        return Refusal::Output.record();
     }
     put_rows(answer, fresh, starts, pattern);
     records::complete(0, u32::from(found.bits))

@@ -26,7 +26,7 @@ pub enum Refusal {
     Form,
     // 34: not the answer's fresh bits
     FreshBits,
-    // 41: no words of the table's variable
+    // 41: a variable of the table has not 16 bits, or there is none
     NotWords,
     // 42: the run of words is too long
     LongRun,
@@ -38,11 +38,11 @@ pub enum Refusal {
     Ended,
     // 46: the answer of another table
     OtherAnswer,
-    // 47: no recordings of the same frames
+    // 47: no two recordings of the table's words
     Recordings,
-    // 48: not the counters' room
+    // 48: the counters of a recording do not rise
     Counters,
-    // 49: other variables
+    // 49: the second table has other variables
     Variables,
 }
 
@@ -55,6 +55,7 @@ impl From<Fault> for Refusal {
 }
 
 impl Refusal {
+    // The refusal's number in the documents.
     fn number(self) -> u32
         ensures { result ≡ refusal_number self }
     {
@@ -88,6 +89,7 @@ impl Refusal {
         }
     }
 
+    // The record of a call that stops so.
     pub fn record(self) -> Record
         ensures { result ≡ refusal_record self }
     {
@@ -105,7 +107,7 @@ pub fn refuse(number: u32, row: u32) -> Record
         fresh: 0,
         free: 0,
         ties: 0,
-        row: row,
+        row,
     }
 }
 
@@ -115,7 +117,7 @@ pub fn complete(pieces: u32, width: u32) -> Record
 {
     Record {
         outcome: 0,
-        pieces: pieces,
+        pieces,
         fresh: 0,
         free: width,
         ties: 0,

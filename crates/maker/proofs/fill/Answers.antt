@@ -8,14 +8,14 @@ use Rattle.maker.proofs.fill.Goals as goal
 pub returns-then-fresh-from : goal.returns-then-fresh-from
 returns-then-fresh-from c s =
     elim c.then-fresh-from.branch [
-      | then-fresh-from-via-then-fresh-from w ↦ stop_count _ _ _ _ (c.from.ensures ∙ s.free_are) w.if-fresh-from.true _ c.refuse.ensures
-      | then-fresh-from-via-else-fresh-from+then-not-all_bits w ↦ stop_byte _ _ _ (sym w.all_bits.ensures ∙ w.if-not-all_bits.true) _ c.refuse.ensures
+      | then-fresh-from-via-then-fresh-from w ↦ stop_count _ _ _ _ (c.from.ensures ∙ s.free_are) w.if-fresh-from.true _ c.record.ensures
+      | then-fresh-from-via-else-fresh-from+then-not-all_bits w ↦ stop_byte _ _ _ (sym w.all_bits.ensures ∙ w.if-not-all_bits.true) _ c.record.ensures
     ]
 
 pub returns-then-pattern-from : goal.returns-then-pattern-from
 returns-then-pattern-from c s =
     stop_room _ _ _ _ (c.from.ensures ∙ s.free_are) c.if-fresh-from.false (sym c.all_bits.ensures ∙ c.if-not-all_bits.false) _
-    (c.from-2.ensures ∙ s.bits_are) c.if-pattern-from.true _ c.refuse-then-pattern-from.ensures
+    (c.from-2.ensures ∙ s.bits_are) c.if-pattern-from.true _ c.record-then-pattern-from.ensures
 
 pub returns : goal.returns
 returns c s =
