@@ -69,15 +69,15 @@ fn bit(table: &[u16], widths: &[u16], places: &[u16], pattern: &[u8], row: usize
 {
     let r = row_of(table, row);
     let kind = r.kind;
-    let a = numbers::wide(r.a);
-    let b = numbers::wide(r.b);
+    let a = usize::from(r.a);
+    let b = usize::from(r.b);
     if kind == terms::VARIABLE {
         return pattern[source_before(places, row) + i - 1];
     }
     if fixed(kind) {
         return fixed_bit(r, i);
     }
-    let width = numbers::wide(widths[a]);
+    let width = usize::from(widths[a]);
     if kind == terms::CONCAT {
         if i < width {
             return bit(table, widths, places, pattern, a, i);

@@ -1,6 +1,5 @@
 // A run of row records as the numbers of a table (document 01: the table is lent as a run of row records of four
 // 16-bit numbers). The records are copied into a buffer of numbers, four for each, and the calls work on those.
-// `flatten` takes a slice of structs and is proved by a walk of its code, by hand; what it calls is on numbers.
 #![tactic(auto)]
 
 ghost use Rattle.std.specs.Prelude.{◌≡◌, length, ◌+◌, ◌-◌};
@@ -56,10 +55,8 @@ pub fn flatten(rows: &[Row], flat: &mut [u16]) -> usize
     ensures numbers { flat.new ≡ overwrite (held rows.now (length flat.old)) flat.old }
 {
     let n = fit(rows.len(), flat.len());
-    let mut i = 0;
-    while i < n {
-        put_row(&mut *flat, i, rows[i]);
-        i += 1;
+    for i in 0..n {
+        put_row(flat, i, rows[i]);
     }
     n * 4
 }

@@ -4,8 +4,7 @@ use Prim.Native.Nat.{ℕ, ◌%◌}
 use native.Mathlib.Omega.{arith}
 use native.Mathlib.Nat.{div-eq_of_lt, lt_of_lt_of_le}
 use lib.Pow.{pow_mono}
-use borrow.Author.Rules.{rules}
 use Rattle.numbers.proofs.bit_of.Goals as goal
 
-pub returns-then-i-gt15 : goal.returns-then-i-gt15
-returns-then-i-gt15 c = (sym (ap (λ (n : ℕ). n % 2) (div-eq_of_lt (lt_of_lt_of_le c.ranges.x.fits (pow_mono {i = 16} (omega (arith, c.if-i-gt15.true)))))), omega arith)
+pub returns-else-i-le15 : goal.returns-else-i-le15
+returns-else-i-le15 c = (sym (ap (λ (n : ℕ). n % 2) (div-eq_of_lt (lt_of_lt_of_le c.ranges.x.fits (pow_mono {i = 16} (omega (arith, c.if-i-le15.false)))))), omega arith)

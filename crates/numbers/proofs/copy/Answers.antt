@@ -2,19 +2,17 @@
 use Rattle.laws.proofs.Buffers.{write_more}
 use Rattle.laws.specs.Buffers.{overwrite}
 use native.Mathlib.Omega.{arith}
-use Prim.Native.Nat.{◌-◌, ◌≤◌}
-use mathlib.Core.Path.{◌≡◌, refl, ◌∙◌}
+use mathlib.Core.Path.{refl, ◌∙◌}
 use Rattle.numbers.proofs.copy.Goals as goal
 
 pub loop-i-init : goal.loop-i-init
 unfolding overwrite
-loop-i-init c = (omega arith, omega arith, refl, refl)
+loop-i-init c = (omega arith, refl, refl)
 
 pub loop-i-preserved : goal.loop-i-preserved
 loop-i-preserved c =
     let k = c.loop-i.invariant in (
-      omega (arith, c.loop-i-test.true),
       omega (arith, c.if-from-i.false),
-      c.store.auto.buffer ∙ k.2,
-      c.store.ensures ∙ write_more _ _ c.loop-i.i _ _ c.if-from-i.false refl k.3,
+      c.store.auto.buffer ∙ k.1,
+      c.store.ensures ∙ write_more _ _ c.loop-i.i _ _ c.if-from-i.false refl k.2,
     )

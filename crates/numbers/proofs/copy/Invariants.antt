@@ -1,13 +1,9 @@
 -- `copy` meets its contract: i numbers are copied. Assumes nothing.
 use Rattle.laws.specs.Buffers.{overwrite}
 use lib.ListN.{length, take}
-use native.Mathlib.Omega.{arith}
-use Prim.Native.Nat.{◌-◌, ◌≤◌}
-use mathlib.Core.Path.{◌≡◌, ◌∙◌}
+use Prim.Native.Nat.{◌≤◌}
+use mathlib.Core.Path.{◌≡◌}
 use Rattle.numbers.proofs.copy.Given as goal
 
 abbrev pub invariant-loop-i : goal.invariant-loop-i
-invariant-loop-i l = (l.i ≤ l.n) × (l.i ≤ length l.from) × (length l.table ≡ length l.initial.table) × (l.table ≡ overwrite (take l.i l.from) l.initial.table)
-
-abbrev pub decreases-loop-i : goal.decreases-loop-i
-decreases-loop-i l = l.n - l.i
+invariant-loop-i l = (l.i ≤ length l.from) × (length l.table ≡ length l.initial.table) × (l.table ≡ overwrite (take l.i l.from) l.initial.table)

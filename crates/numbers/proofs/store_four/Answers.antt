@@ -1,6 +1,5 @@
 -- `store_four` meets its contract. Assumes nothing.
 use Rattle.laws.proofs.Buffers.{four_stored, four_out}
-use borrow.Author.Rules.{rules}
 use Rattle.numbers.proofs.store_four.Goals as goal
 
 pub returns-then-buffer-at : goal.returns-then-buffer-at

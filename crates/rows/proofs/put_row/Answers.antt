@@ -1,8 +1,6 @@
 -- `put_row` meets its contract: four stores where there is room, and none elsewhere. Assumes nothing.
-use mathlib.Core.Path.{◌∙◌}
 use borrow.Author.Tests.{lt-ltb, le-ltb}
 use Rattle.rows.specs.inner.Held.{put_row, put_whole}
-use borrow.Author.Rules.{rules}
 use Rattle.rows.proofs.put_row.Goals as goal
 
 pub returns-then-k-table : goal.returns-then-k-table

@@ -1,6 +1,5 @@
 -- `row_at` meets its contract: a row's four columns stand side by side. Assumes nothing.
 use Rattle.terms.proofs.Rows.{row_columns, row_past}
-use borrow.Author.Rules.{rules}
 use Rattle.rows.proofs.row_at.Goals as goal
 
 pub returns-then-table-r : goal.returns-then-table-r
