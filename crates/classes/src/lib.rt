@@ -14,7 +14,7 @@ pub fn find(links: &mut [u16], s: u16) -> u16
     }
     let mut x = s;
     let mut p = links[usize::from(x)];
-    // Kept: the loop steps by links that it reads on its way.
+    // Kept: a for is no plainer, since the loop steps by links that it reads on its way.
     while p < x {
         let g = links[usize::from(p)];
         if p <= g {
