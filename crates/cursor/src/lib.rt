@@ -52,6 +52,7 @@ impl Cursor {
         let mut v = scanner::hex_digit_at(text, from)?;
         let mut i = from + 1;
         let mut more = 3u32;
+        // Kept: the new form is no plainer: what is handed on is the place behind the digits, which the loop finds.
         while let Some(d) = scanner::hex_digit_at(text, i) {
             if more == 0 {
                 return None;
@@ -77,6 +78,7 @@ impl Cursor {
                 None => Some((0, Cursor { at: i })),
             };
         }
+        // Kept: the new form is no plainer: what is handed on is the place behind the digits, which the loop finds.
         while let Some(d) = scanner::digit_at(text, i) {
             v = v * 10 + d;
             if 65535 < v {

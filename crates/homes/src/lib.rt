@@ -10,6 +10,7 @@ ghost use Rattle.homes.specs.inner.Homes.{width_on, row_put, Widens, home_in, ho
 use answers::AnswerRow;
 
 // The kind of a row with a fresh piece; a lower kind is a fill of that bit.
+// Kept: the C interface: a row of the answer table is numbers, its kind among them.
 const FRESH: u16 = 2;
 
 // Row i of a table whose rows have four numbers.

@@ -209,6 +209,7 @@ fn merge(plan: &[u16], sent: &[u16], received: &[u16], k: usize, window: &mut [u
         ties: 0,
     };
     let mut s = seek(sent, received, k, start)?;
+    // Kept: the new form is no plainer: each step says where the next one begins, in both recordings.
     while s.i < sent.len() && s.j < received.len() {
         s = step(plan, sent, received, k, window, s)?;
     }

@@ -5,13 +5,6 @@ ghost use Rattle.std.specs.Prelude.{◌≡◌, cond, ◌+◌, ◌-◌, ◌/◌, 
 ghost use Rattle.laws.specs.Lists.{all_bits};
 ghost use Rattle.laws.specs.Buffers.{overwrite, set_four};
 
-// x as an index.
-pub fn wide(x: u16) -> usize
-    ensures { (result ≡ x) × (result ≤ 65535) }
-{
-    x as usize
-}
-
 // x in 16 bits.
 pub fn narrow(x: usize) -> u16
     ensures { result ≡ x % 65536 }

@@ -8,6 +8,7 @@ ghost use Rattle.pieces.specs.inner.Pieces.{piece_at, put_piece, merged_in, push
 use forms::Piece;
 
 // The numbers that a piece takes.
+// Kept: the C interface: the kind of a piece, 0, 1 or 2, is one of the numbers of a form that a host reads.
 pub const LENGTH: usize = 4;
 
 // Whether two neighbours are one piece.

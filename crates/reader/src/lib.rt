@@ -10,6 +10,7 @@ ghost use Rattle.sheets.specs.Sheet.{found_from, rows_from, sheet_found, sheet_r
 ghost use Rattle.sheets.specs.Call.{sheet_number, sheet_row, sheet_record, table_after};
 
 use cursor::Cursor;
+use records::Refusal;
 use sheets::{Order, SheetError};
 use terms::{Record, Row};
 
@@ -86,7 +87,7 @@ pub fn read_sheet(text: &[u8], table: &mut [u16]) -> Record
         Err(error) => return refused(error),
     };
     if table.len() < 2048 {
-        return records::refuse(32, 0);
+        return Refusal::Output.record();
     }
     numbers::copy(&rows[..], usize::from(count) * 4, table);
     records::complete(u32::from(count), 0)

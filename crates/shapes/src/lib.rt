@@ -8,6 +8,7 @@ ghost use Rattle.shapes.specs.inner.Shapes.{width_before, is_new, variable_in, w
 use answers::AnswerRow;
 
 // The kind of a row with a fresh piece; a lower kind is a fill of that bit.
+// Kept: the C interface: a row of the answer table is numbers, its kind among them.
 const FRESH: u16 = 2;
 
 // What the rows passed leave for the next one: the last row's variable and the one above it, or 0 at first; the last row's kind; the

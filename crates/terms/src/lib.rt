@@ -3,6 +3,7 @@
 #![tactic(auto)]
 
 // The kinds of a row.
+// Kept: the C interface: Row's kind is a number. Where several kinds are told apart crate rules has the enum Kind; one alone is asked for here.
 pub const VARIABLE: u16 = 0;
 
 pub const CONSTANT: u16 = 1;

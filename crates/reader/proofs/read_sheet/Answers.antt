@@ -16,7 +16,7 @@ returns-in-Err c =
 
 pub returns-then-table-lt2048 : goal.returns-then-table-lt2048
 returns-then-table-lt2048 c =
-    let whole = no_room c.args.text.now c.args.table.now c.in-Ok.count c.in-Ok.ensures.found (omega (arith, c.if-table-lt2048.true)) _ c.refuse.ensures in
+    let whole = no_room c.args.text.now c.args.table.now c.in-Ok.count c.in-Ok.ensures.found (omega (arith, c.if-table-lt2048.true)) _ c.record.ensures in
     record { «record» = whole.0; table = whole.1 }
 
 pub returns : goal.returns
