@@ -14,20 +14,6 @@ ghost use Rattle.evaluator.specs.inner.Ready.{Ready, IsTerm, is_fixed};
 use records::Refusal;
 use terms::{Record, Row};
 
-// A row of the table that is there.
-fn row_of(table: &[u16], row: usize) -> Row
-    requires { row < length table.now / 4 }
-    ensures { result ≡ row_at (rows_of table.now) row }
-{
-    let at = row * 4;
-    Row {
-        kind: table[at],
-        a: table[at + 1],
-        b: table[at + 2],
-        c: table[at + 3],
-    }
-}
-
 // The source before the variable that a row is.
 fn source_before(places: &[u16], row: usize) -> usize
     requires row_bound { row < 512 }
@@ -67,7 +53,7 @@ fn bit(table: &[u16], widths: &[u16], places: &[u16], pattern: &[u8], row: usize
     requires i_bound { i < width_of (rows_of table.now) row }
     ensures { result ≡ get_or (value_of (rows_of table.now) pattern.now row) i 0 }
 {
-    let r = row_of(table, row);
+    let r = rows::row_at(table, row);
     let kind = r.kind;
     let a = usize::from(r.a);
     let b = usize::from(r.b);

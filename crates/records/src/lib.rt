@@ -2,8 +2,7 @@
 #![tactic(auto)]
 
 ghost use Rattle.std.specs.Prelude.{◌≡◌, ◌-◌};
-ghost use Rattle.terms.specs.Faults.{is_accepted};
-ghost use Rattle.terms.specs.Calls.{refusal, completed, rule_number, rule_row, fault_record};
+ghost use Rattle.terms.specs.Calls.{refusal, completed, rule_number, rule_row};
 ghost use Rattle.records.specs.Refusals.{refusal_number, refusal_row, refusal_record};
 ghost use Rattle.records.specs.declared.Refusal.TheVariants.{Table};
 
@@ -154,21 +153,4 @@ fn rule_row(fault: Fault) -> u32
         | Fault::Bounds(r)
         | Fault::Count(r) => r.into(),
     }
-}
-
-// The record of what a check found.
-pub fn fault_record(found: Result<(), Fault>) -> Record
-    ensures { result ≡ fault_record found }
-{
-    match found {
-        Ok(()) => refuse(0, 0),
-        Err(fault) => refuse(rule_number(fault), rule_row(fault)),
-    }
-}
-
-// Whether a check found no fault.
-pub fn accepted(found: Result<(), Fault>) -> bool
-    ensures { result ≡ is_accepted found }
-{
-    found.is_ok()
 }
