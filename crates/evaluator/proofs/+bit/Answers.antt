@@ -141,6 +141,6 @@ returns t c =
     let named = cut_term _ _ _ _ c.requires.ready _ c.requires.term _ c.requires.i_bound k in
     let width = c.from-width.ensures ∙ ap (λ (n : ℕ). get_or c.args.widths.now n 0) a ∙ c.requires.ready.placed.numbered.widths_are _ named.there in
     c.bit-2.ensures
-    ∙ ap (λ (n : ℕ). get_or (value_of (rows_of c.args.table.now) c.args.pattern.now n) (c.wide-width.result - (c.wide-b.result + 1) + c.args.i) 0) a
+    ∙ ap (λ (n : ℕ). get_or (value_of (rows_of c.args.table.now) c.args.pattern.now n) (c.from-width.result - (c.from-b.result + 1) + c.args.i) 0) a
     ∙ ap₂ (λ (m n : ℕ). get_or (value_of (rows_of c.args.table.now) c.args.pattern.now (row_at (rows_of c.args.table.now) c.args.row).a) (m - (n + 1) + c.args.i) 0) width b
     ∙ cut_bit _ _ _ _ c.requires.ready _ c.requires.term _ c.requires.i_bound k
