@@ -49,6 +49,7 @@ fn print_sheet(stdout: Stdout, text: &[u8], out: &mut [u8]) {
     details::write_first(stdout, out, len);
     let mut table = [0u16; TABLE];
     let read = reader::read_sheet(text, &mut table[..]);
+    // Kept: the C interface: a record's outcome is a number, which is printed.
     if read.outcome != 0 {
         return;
     }

@@ -99,6 +99,7 @@ pub fn print_forms(stdout: Stdout, table: &[u16], out: &mut [u8]) {
 fn print_value(stdout: Stdout, table: &[u16], row: usize, pattern: &[u8], out: &mut [u8]) {
     let mut value = [0u8; terms::MAX_WIDTH];
     let found = evaluator::value(table, row, pattern, &mut value[..]);
+    // Kept: the C interface: a record's outcome is a number, which is printed.
     if found.outcome != 0 {
         print_record(stdout, found, out);
         return;

@@ -12,6 +12,7 @@ use records::Refusal;
 use terms::Record;
 
 // The bits in which two runs of numbers differ as far as both go, taken together: 0 if they agree. There is no way out of the loop: it is faster so.
+// Kept: beside crate areas, which compares with the holders of places and not with a second list: one function for both is no plainer.
 fn differ(a: &[u16], b: &[u16]) -> u16
     ensures { eqb result 0 ≡ agree a.now b.now }
 {

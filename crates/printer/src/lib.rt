@@ -16,6 +16,7 @@ fn solve_text(text: &[u8], answer: &mut [u16]) -> Record
 {
     let mut table = [0u16; 2048];
     let read = reader::read_sheet(text, &mut table[..]);
+    // Kept: the C interface: a record's outcome is a number, which is printed.
     if read.outcome != 0 {
         return read;
     }

@@ -13,6 +13,7 @@ use taking::Taken;
 use terms::Row;
 
 // The next row of a job in which no pattern is left.
+// Kept: the C interface: a job's next row is a number that a host reads.
 pub const NEVER: u32 = 1000;
 
 // Whether a row is an equation with a line number.
