@@ -171,13 +171,13 @@ pub fn put_form(
         widths,
         variables,
     };
-    put_row(lists, row, out, n)
+    put_row(&lists, row, out, n)
 }
 
 // The same, from the lists together.
 #[cycle(normalizing)]
-fn put_row(lists: Lists, row: usize, out: &mut [u16], n: usize) -> usize
-    ensures { AppendsForm lists.entry.table.now lists.entry.widths.now lists.entry.variables.now row n out.old result out.new }
+fn put_row(lists: &Lists, row: usize, out: &mut [u16], n: usize) -> usize
+    ensures { AppendsForm lists.now.table.now lists.now.widths.now lists.now.variables.now row n out.old result out.new }
 {
     let r = rows::row_at(lists.table, row);
     if leaf(r.kind) {
@@ -207,8 +207,8 @@ fn put_row(lists: Lists, row: usize, out: &mut [u16], n: usize) -> usize
 
 // Appends the normal form of a cut: a cut of a cut is one cut of the row that is named there.
 #[cycle(normalizing)]
-fn put_cut(lists: Lists, cut: Cut, out: &mut [u16], n: usize) -> usize
-    ensures { AppendsCut lists.entry.table.now lists.entry.widths.now lists.entry.variables.now cut n out.old result out.new }
+fn put_cut(lists: &Lists, cut: Cut, out: &mut [u16], n: usize) -> usize
+    ensures { AppendsCut lists.now.table.now lists.now.widths.now lists.now.variables.now cut n out.old result out.new }
 {
     let row = usize::from(cut.row);
     let r = rows::row_at(lists.table, row);
@@ -240,8 +240,8 @@ fn put_cut(lists: Lists, cut: Cut, out: &mut [u16], n: usize) -> usize
 
 // Appends the normal form of what a cut of a join has of its parts.
 #[cycle(normalizing)]
-fn put_join(lists: Lists, left: Part, right: Part, out: &mut [u16], n: usize) -> usize
-    ensures { AppendsParts lists.entry.table.now lists.entry.widths.now lists.entry.variables.now left right n out.old result out.new }
+fn put_join(lists: &Lists, left: Part, right: Part, out: &mut [u16], n: usize) -> usize
+    ensures { AppendsParts lists.now.table.now lists.now.widths.now lists.now.variables.now left right n out.old result out.new }
 {
     let m = put_part(lists, left, out, n);
     put_part(lists, right, out, m)
@@ -249,8 +249,8 @@ fn put_join(lists: Lists, left: Part, right: Part, out: &mut [u16], n: usize) ->
 
 // Appends the normal form of what a cut has of one part: of the whole row, if that is all its bits, else of a cut of it.
 #[cycle(normalizing)]
-fn put_part(lists: Lists, part: Part, out: &mut [u16], n: usize) -> usize
-    ensures { AppendsPart lists.entry.table.now lists.entry.widths.now lists.entry.variables.now part n out.old result out.new }
+fn put_part(lists: &Lists, part: Part, out: &mut [u16], n: usize) -> usize
+    ensures { AppendsPart lists.now.table.now lists.now.widths.now lists.now.variables.now part n out.old result out.new }
 {
     let width = part.width;
     if width == 0 {
