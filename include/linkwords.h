@@ -507,23 +507,23 @@ extern "C" {
   that binds memcpy or memset only at its first use does not.
 */
 #define LW_STACK_VALUE              2496
-#define LW_STACK_NORMAL_FORM       75904
-#define LW_STACK_READ_SHEET         4352
-#define LW_STACK_SOLVE            104960
+#define LW_STACK_NORMAL_FORM       51392
+#define LW_STACK_READ_SHEET         4416
+#define LW_STACK_SOLVE             72448
 #define LW_STACK_RIGHT_SIDE           64
-#define LW_STACK_MAKE_PATTERN     162304
-#define LW_STACK_MARKER_POSITIONS 115712
-#define LW_STACK_PAGE               5120
+#define LW_STACK_MAKE_PATTERN     129792
+#define LW_STACK_MARKER_POSITIONS  83200
+#define LW_STACK_PAGE               5248
 #define LW_STACK_JOB_OPEN           2496
-#define LW_STACK_JOB_STEP         145792
-#define LW_STACK_JOB_PREVIEW      145792
-#define LW_STACK_JOB_ANSWER       112960
+#define LW_STACK_JOB_STEP         113344
+#define LW_STACK_JOB_PREVIEW      113344
+#define LW_STACK_JOB_ANSWER        80448
 #define LW_STACK_VALUE_ROWS         6656
-#define LW_STACK_NORMAL_FORM_ROWS  80000
-#define LW_STACK_SOLVE_ROWS       109056
-#define LW_STACK_COMPARE_RECORDINGS 115904
-#define LW_STACK_COMPARE_TABLES   104832
-#define LW_STACK_SOLVE_PIECES     162112
+#define LW_STACK_NORMAL_FORM_ROWS  55552
+#define LW_STACK_SOLVE_ROWS        76608
+#define LW_STACK_COMPARE_RECORDINGS  83328
+#define LW_STACK_COMPARE_TABLES    72320
+#define LW_STACK_SOLVE_PIECES     129792
 
 /* the record */
 
