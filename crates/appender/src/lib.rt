@@ -190,12 +190,7 @@ fn put_row(lists: &Lists, row: usize, out: &mut [u16], n: usize) -> usize
         return n;
     }
     if r.kind == terms::EXTRACT {
-        let cut = Cut {
-            row: r.a,
-            high: r.b,
-            low: r.c,
-        };
-        return put_cut(lists, cut, out, n);
+        return put_cut(lists, r.a, r.b, r.c, out, n);
     }
     let b = usize::from(r.b);
     if row <= b {
@@ -205,33 +200,32 @@ fn put_row(lists: &Lists, row: usize, out: &mut [u16], n: usize) -> usize
     put_row(lists, b, out, m)
 }
 
-// Appends the normal form of a cut: a cut of a cut is one cut of the row that is named there.
+// Appends the normal form of bits high to low of a row: a cut of a cut is one cut of the row that is named there. They are passed as three
+// numbers and not as a `Cut`, whose address would go along: so the call for a cut of a cut is a loop, and takes no stack.
 #[cycle(normalizing)]
-fn put_cut(lists: &Lists, cut: Cut, out: &mut [u16], n: usize) -> usize
-    ensures { AppendsCut lists.now.table.now lists.now.widths.now lists.now.variables.now cut n out.old result out.new }
+fn put_cut(lists: &Lists, row: u16, high: u16, low: u16, out: &mut [u16], n: usize) -> usize
+    ensures { AppendsCut lists.now.table.now lists.now.widths.now lists.now.variables.now (record { row = row; high = high; low = low }) n out.old result out.new }
 {
-    let row = usize::from(cut.row);
-    let r = rows::row_at(lists.table, row);
+    let place = usize::from(row);
+    let r = rows::row_at(lists.table, place);
     if leaf(r.kind) {
-        let v = numbers::load(lists.variables, row);
-        return put_leaf(r, v, cut.high, cut.low, out, n);
+        let v = numbers::load(lists.variables, place);
+        return put_leaf(r, v, high, low, out, n);
     }
     let a = usize::from(r.a);
-    if row <= a {
+    if place <= a {
         return n;
     }
     if r.kind == terms::EXTRACT {
-        let named = Cut {
-            row: r.a,
-            high: cut.high.wrapping_add(r.c),
-            low: cut.low.wrapping_add(r.c),
-        };
-        return put_cut(lists, named, out, n);
+        let high = high.wrapping_add(r.c);
+        let low = low.wrapping_add(r.c);
+        return put_cut(lists, r.a, high, low, out, n);
     }
     let b = usize::from(r.b);
-    if row <= b {
+    if place <= b {
         return n;
     }
+    let cut = Cut { row, high, low };
     let width = numbers::load(lists.widths, b);
     let left = left_bits(r.a, numbers::load(lists.widths, a), width, cut);
     let right = right_bits(r.b, width, cut);
@@ -259,10 +253,5 @@ fn put_part(lists: &Lists, part: Part, out: &mut [u16], n: usize) -> usize
     if part.high.saturating_sub(part.low) == width - 1 {
         return put_row(lists, usize::from(part.row), out, n);
     }
-    let cut = Cut {
-        row: part.row,
-        high: part.high,
-        low: part.low,
-    };
-    put_cut(lists, cut, out, n)
+    put_cut(lists, part.row, part.high, part.low, out, n)
 }

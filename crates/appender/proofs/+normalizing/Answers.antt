@@ -30,19 +30,19 @@ put_row-returns t c =
 
 pub put_cut-returns-then-leaf : goal.put_cut-returns-then-leaf
 put_cut-returns-then-leaf t c =
-    cut_leaf _ _ _ _ _ c.from-row.ensures _ c.row_at-r.ensures _ _ _ _ (sym c.leaf.ensures ∙ c.if-leaf.true) _ c.load-v.ensures c.put_leaf.ensures
+    cut_leaf _ _ _ _ _ c.from-place.ensures _ c.row_at-r.ensures _ _ _ _ (sym c.leaf.ensures ∙ c.if-leaf.true) _ c.load-v.ensures c.put_leaf.ensures
 
-pub put_cut-returns-then-row-a : goal.put_cut-returns-then-row-a
-put_cut-returns-then-row-a t c =
-    cut_first_later _ _ _ _ _ c.from-row.ensures _ c.row_at-r.ensures _ _ _ _ (sym c.leaf.ensures ∙ c.if-leaf.false) _ c.from-a.ensures c.if-row-a.true
+pub put_cut-returns-then-place-a : goal.put_cut-returns-then-place-a
+put_cut-returns-then-place-a t c =
+    cut_first_later _ _ _ _ _ c.from-place.ensures _ c.row_at-r.ensures _ _ _ _ (sym c.leaf.ensures ∙ c.if-leaf.false) _ c.from-a.ensures c.if-place-a.true
 
 pub put_cut-returns-then-r-eq-EXTRACT : goal.put_cut-returns-then-r-eq-EXTRACT
 put_cut-returns-then-r-eq-EXTRACT t c =
-    cut_of_cut _ _ _ _ _ c.from-row.ensures _ c.row_at-r.ensures _ _ _ _ c.if-r-eq-EXTRACT.true _ _ refl refl _ refl c.put_cut.ensures
+    cut_of_cut _ _ _ _ _ c.from-place.ensures _ c.row_at-r.ensures _ _ _ _ c.if-r-eq-EXTRACT.true _ _ refl refl _ refl c.put_cut.ensures
 
-pub put_cut-returns-then-row-b : goal.put_cut-returns-then-row-b
-put_cut-returns-then-row-b t c =
-    cut_second_later _ _ _ _ _ c.from-row.ensures _ c.row_at-r.ensures _ _ _ _ (sym c.leaf.ensures ∙ c.if-leaf.false) c.if-r-eq-EXTRACT.false _ c.from-b.ensures c.if-row-b.true
+pub put_cut-returns-then-place-b : goal.put_cut-returns-then-place-b
+put_cut-returns-then-place-b t c =
+    cut_second_later _ _ _ _ _ c.from-place.ensures _ c.row_at-r.ensures _ _ _ _ (sym c.leaf.ensures ∙ c.if-leaf.false) c.if-r-eq-EXTRACT.false _ c.from-b.ensures c.if-place-b.true
 
 pub put_cut-put_join-requires : goal.put_cut-put_join-requires
 put_cut-put_join-requires t c = (
@@ -51,10 +51,10 @@ put_cut-put_join-requires t c = (
     ap (λ (p : Part). p.row) c.left_bits-left.ensures ∙ left_row _ _ _ _,
     ap (λ (p : Part). p.row) c.right_bits-right.ensures ∙ right_row _ _ _,
     c.from-a.ensures,
-    c.if-row-a.false,
+    c.if-place-a.false,
     c.from-b.ensures,
-    c.if-row-b.false,
-    c.from-row.ensures,
+    c.if-place-b.false,
+    c.from-place.ensures,
     c.decreases,
   ),
   tt,
@@ -62,7 +62,7 @@ put_cut-put_join-requires t c = (
 
 pub put_cut-returns : goal.put_cut-returns
 put_cut-returns t c =
-    cut_of_join _ _ _ _ _ c.from-row.ensures _ c.row_at-r.ensures _ _ _ _ (sym c.leaf.ensures ∙ c.if-leaf.false) c.if-r-eq-EXTRACT.false
+    cut_of_join _ _ _ _ _ c.from-place.ensures _ c.row_at-r.ensures _ _ _ _ (sym c.leaf.ensures ∙ c.if-leaf.false) c.if-r-eq-EXTRACT.false
     _ _ _ _ c.from-a.ensures c.from-b.ensures c.load.ensures c.load-width.ensures _ _ c.left_bits-left.ensures c.right_bits-right.ensures c.put_join.ensures
 
 pub put_join-returns : goal.put_join-returns

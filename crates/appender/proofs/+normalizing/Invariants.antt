@@ -4,7 +4,7 @@ use Rattle.std.proofs.Common.{◌+◌, ◌*◌, max}
 use Rattle.appender.proofs.+normalizing.Given as goal
 
 abbrev pub decreases-put_cut : goal.decreases-put_cut
-decreases-put_cut l = 3 * l.cut.row + 1
+decreases-put_cut l = 3 * l.row + 1
 
 abbrev pub decreases-put_row : goal.decreases-put_row
 decreases-put_row l = 3 * l.row + 1
