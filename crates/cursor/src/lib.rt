@@ -131,7 +131,8 @@ impl Cursor {
         }
     }
 
-    // The four values of a line in these spellings.
+    // The four values of a line in these spellings. Inlined, each of its two callers asks for its spelling once, and not at every number.
+    #[inline(always)]
     #[tactic(auto, unfolding(crate::specs::inner::Found::line_read))]
     fn four_in(self, text: &[u8], spellings: Spellings) -> Option<(Four, Cursor)>
         ensures { (order : Order) → four_found order result ≡ line_read spellings text.now order self.at }
