@@ -113,7 +113,8 @@ fn page_count(listed: usize) -> usize
     1 + listed.saturating_sub(1) / ON_PAGE
 }
 
-// Line `line` of a page.
+// Line `line` of a page. It is a function of its own when it runs too: inlined, the compiler keeps the bytes of a line one by one, which takes longer.
+#[inline(never)]
 fn line_at(found: Record, answer: &[u16], number: usize, line: usize) -> [u8; LINE]
     requires { line < 60 }
     ensures { result ≡ get_or (page_lines found answer.now number) line [] }
