@@ -13,27 +13,44 @@ use answers::AnswerRow;
 // Kept: the C interface: a row of the answer table is numbers, its kind among them.
 const FRESH: u16 = 2;
 
-// Row i of a table whose rows have four numbers.
+// Row i of a table whose rows have four numbers. One test serves all four where the whole row is there.
 fn four_at(answer: &[u16], i: u16) -> AnswerRow
     ensures { result ≡ answer_columns answer.now (i * 4) }
 {
     let at = usize::from(i) * answers::FOUR;
+    if answer.len() < at + answers::FOUR {
+        return AnswerRow {
+            variable: numbers::load(answer, at),
+            kind: numbers::load(answer, at + 1),
+            width: numbers::load(answer, at + 2),
+            fresh: numbers::load(answer, at + 3),
+        };
+    }
     AnswerRow {
-        variable: numbers::load(answer, at),
-        kind: numbers::load(answer, at + 1),
-        width: numbers::load(answer, at + 2),
-        fresh: numbers::load(answer, at + 3),
+        variable: answer[at],
+        kind: answer[at + 1],
+        width: answer[at + 2],
+        fresh: answer[at + 3],
     }
 }
 
-// Writes row i with its own place, its variable and its highest bit, as far as there is room.
+// Writes row i with its own place, its variable and its highest bit, as far as there is room. One test serves all six where all have room.
 fn put_row(answer: &mut [u16], i: u16, row: AnswerRow, high: u16)
     ensures { answer.new ≡ row_put answer.old i row high }
 {
     let at = usize::from(i) * answers::ROW;
-    numbers::store_four(answer, at, row.variable, row.kind, row.width, row.fresh);
-    numbers::store(answer, at + 4, row.variable);
-    numbers::store(answer, at + 5, high);
+    if answer.len() < at + answers::ROW {
+        numbers::store_four(answer, at, row.variable, row.kind, row.width, row.fresh);
+        numbers::store(answer, at + 4, row.variable);
+        numbers::store(answer, at + 5, high);
+        return;
+    }
+    answer[at] = row.variable;
+    answer[at + 1] = row.kind;
+    answer[at + 2] = row.width;
+    answer[at + 3] = row.fresh;
+    answer[at + 4] = row.variable;
+    answer[at + 5] = high;
 }
 
 // The width of a row's variable from the row on, from that of the last row's variable behind it.
@@ -76,6 +93,9 @@ fn home_row(firsts: &[u16], row: AnswerRow, i: u16) -> u16
 fn copy_home(answer: &mut [u16], from: u16, to: u16)
     ensures { answer.new ≡ home_copied answer.old from to }
 {
+    if from == to {
+        return;
+    }
     let source = usize::from(from) * answers::ROW;
     let target = usize::from(to) * answers::ROW;
     let home = numbers::load(answer, source + 4);
