@@ -507,23 +507,23 @@ extern "C" {
   that binds memcpy or memset only at its first use does not.
 */
 #define LW_STACK_VALUE              2496
-#define LW_STACK_NORMAL_FORM       51392
-#define LW_STACK_READ_SHEET         4416
-#define LW_STACK_SOLVE             72448
+#define LW_STACK_NORMAL_FORM       39104
+#define LW_STACK_READ_SHEET         4352
+#define LW_STACK_SOLVE             64256
 #define LW_STACK_RIGHT_SIDE           64
-#define LW_STACK_MAKE_PATTERN     129792
-#define LW_STACK_MARKER_POSITIONS  83200
-#define LW_STACK_PAGE               5248
+#define LW_STACK_MAKE_PATTERN     121536
+#define LW_STACK_MARKER_POSITIONS  74944
+#define LW_STACK_PAGE               2752
 #define LW_STACK_JOB_OPEN           2496
-#define LW_STACK_JOB_STEP         113344
-#define LW_STACK_JOB_PREVIEW      113344
-#define LW_STACK_JOB_ANSWER        80448
+#define LW_STACK_JOB_STEP         105088
+#define LW_STACK_JOB_PREVIEW      105088
+#define LW_STACK_JOB_ANSWER        72192
 #define LW_STACK_VALUE_ROWS         6656
-#define LW_STACK_NORMAL_FORM_ROWS  55552
-#define LW_STACK_SOLVE_ROWS        76608
-#define LW_STACK_COMPARE_RECORDINGS  83328
-#define LW_STACK_COMPARE_TABLES    72320
-#define LW_STACK_SOLVE_PIECES     129792
+#define LW_STACK_NORMAL_FORM_ROWS  43264
+#define LW_STACK_SOLVE_ROWS        68416
+#define LW_STACK_COMPARE_RECORDINGS  75136
+#define LW_STACK_COMPARE_TABLES    64064
+#define LW_STACK_SOLVE_PIECES     121664
 
 /* the record */
 
