@@ -38,7 +38,8 @@ pub fn put_four(answer: &mut [u16], i: u16, row: AnswerRow)
     numbers::store_four(answer, at, row.variable, row.kind, row.width, row.fresh);
 }
 
-// The first row of a variable, if there is one.
+// The first row of a variable, if there is one. Not inlined, its loop counts the places of rows alone, and not also where they stand.
+#[inline(never)]
 fn first_row(used: &[u16], variable: usize) -> Option<usize>
     ensures { result ≡ first_of variable (row_variables used.now) }
 {
@@ -54,14 +55,13 @@ fn first_row(used: &[u16], variable: usize) -> Option<usize>
 fn rows_on(used: &[u16], variable: usize, first: usize) -> usize
     ensures { result ≡ rows_on variable (drop first (row_variables used.now)) }
 {
-    let mut count = 0;
-    for i in first..used.len() / answers::ROW {
+    let end = used.len() / answers::ROW;
+    for i in first..end {
         if usize::from(row_at(used, i).variable) != variable {
-            break;
+            return i - first;
         }
-        count += 1;
     }
-    count
+    end.saturating_sub(first)
 }
 
 // Where the right side of a variable stands in an answer table of which so many rows are in use.

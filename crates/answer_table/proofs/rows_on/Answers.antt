@@ -1,12 +1,9 @@
--- `rows_on` meets its contract: the rows counted, with what the rest gives, are what goes on from the first. Assumes nothing.
+-- `rows_on` meets its contract: the rows passed, with what the rest gives, are what goes on from the first. Assumes nothing.
 use native.Mathlib.Omega.{arith}
 use Rattle.answers.specs.RightSide.{row_variables}
 use Rattle.answers.proofs.AnswerNumbers.{variables_length}
 use Rattle.answers.proofs.Runs.{on_end, on_goes, on_ends}
 use Rattle.answer_table.proofs.rows_on.Goals as goal
-
-pub overflow_add-count : goal.overflow_add-count
-overflow_add-count c = omega (arith, c.loop-i.invariant.0, c.loop-i-test.true)
 
 pub returns-then-from-variable : goal.returns-then-from-variable
 returns-then-from-variable c =
@@ -14,7 +11,6 @@ returns-then-from-variable c =
     let s = c.args in
     omega (
       arith,
-      w.invariant.0,
       on_ends s.variable s.used.now w.i
           (omega (arith, c.loop-i-test.true))
           c.row_at.result
@@ -28,7 +24,7 @@ pub loop-i-preserved : goal.loop-i-preserved
 loop-i-preserved c =
     let w = c.loop-i in
     let s = c.args in (
-      omega (arith, w.invariant.0),
+      omega (arith, c.loop-i-test.true),
       on_goes s.variable s.used.now w.i
           (omega (arith, c.loop-i-test.true))
           c.row_at.result
@@ -38,8 +34,8 @@ loop-i-preserved c =
           w.invariant.1,
     )
 
-pub returns-after-loop-i : goal.returns-after-loop-i
-returns-after-loop-i c =
+pub returns : goal.returns
+returns c =
     let w = c.loop-i in
     let s = c.args in
     omega (arith, w.invariant.0, w.invariant.1, on_end s.variable (row_variables s.used.now) w.i (omega (arith, variables_length s.used.now, c.loop-i-test.false)))
